@@ -1,0 +1,22 @@
+-- `Interval::count` is document 01's I: its product is at most that of the most steps, so it fits.
+use native.Mathlib.Omega.{arith}
+use Rattle.interval.specs.Limits.{maxSteps}
+use Rattle.interval.proofs.Counts.{twice-count-le}
+use borrow.Author.Needs.{needs}
+use Rattle.interval.proofs.Interval.count.Statement.{statement}
+use Rattle.interval.proofs.Interval.count.Tie as tie
+
+add-result : tie.Need-add-result
+add-result c = search needs
+
+add-result-2 : tie.Need-add-result-2
+add-result-2 c = search needs
+
+mul-result : tie.Need-mul-result
+mul-result c = omega (arith, twice-count-le maxSteps (c .args .k) (search needs))
+
+returns : tie.Need-returns
+returns c = omega (arith, twice-count-le maxSteps (c .args .k) (search needs))
+
+pub count-spec : {M : Type 1} → statement M
+count-spec = tie.close (tie.spec add-result add-result-2 mul-result returns)

@@ -1,0 +1,4 @@
+pub mod Listing
+pub mod Shape
+pub mod Counts
+pub mod Laws

@@ -1,0 +1,73 @@
+-- Laws of shapes: the list of all entries has each entry at its place, and every place is an entry's.
+-- A line is plain; a stack is its rows, by the laws of rows.
+use mathlib.Core.Path.{_≡_, refl, sym, ap, _∙_, subst}
+use mathlib.Core.List.{List, map}
+use Prim.Native.Nat.{ℕ, _+_, _<_}
+use native.Mathlib.Omega.{arith}
+use lib.ListN.{length, getD, length-map, List·getD-map}
+use lib.Seq.{ext-getD}
+use Rattle.interval.specs.Listing.{tab, sum}
+use Rattle.interval.specs.Shape.{Shape, line, stack, Entry, Inside, count, place, per}
+use Rattle.interval.proofs.Listing.{sum-lt, row-of, length-rows, getD-rows, length-tab, getD-tab}
+
+pub place-lt : (s : Shape) (x : Entry s) → Inside s x → place s x < count s
+place-lt (line n) x h = h
+place-lt (stack n f) x h = sum-lt (λ i. count (f i)) n (x .0) (place (f (x .0)) (x .1)) (h .0) (place-lt (f (x .0)) (x .1) (h .1))
+
+-- the entry at a place
+pub entry-at : (s : Shape) (p : ℕ) → p < count s → (x : Entry s) × Inside s x × (place s x ≡ p)
+entry-at (line n) p h = (p, h, refl)
+entry-at (stack n f) p h =
+    let r = row-of (λ i. count (f i)) n p h in
+    let x = entry-at (f (r .0)) (r .1) (r .3) in
+    ((r .0, x .0), (r .2, x .1), ap (λ y. sum (λ i. count (f i)) (r .0) + y) (x .2) ∙ r .4)
+
+module _ {A : Type 0} where
+  length-per : (s : Shape) (g : Entry s → A) → length (per s g) ≡ count s
+  length-per (line n) g = length-tab n g
+  length-per (stack n f) g = length-rows (λ i. per (f i) (λ x. g (i, x))) (λ i. count (f i)) (λ i. length-per (f i) (λ x. g (i, x))) n
+
+  getD-per : (s : Shape) (g : Entry s → A) (x : Entry s) (d : A) → Inside s x → getD (per s g) (place s x) d ≡ g x
+  getD-per (line n) g x d h = getD-tab n g x d h
+  getD-per (stack n f) g x d h =
+      getD-rows (λ i. per (f i) (λ x. g (i, x))) (λ i. count (f i)) (λ i. length-per (f i) (λ x. g (i, x))) n (x .0) (place (f (x .0)) (x .1)) d (h .0)
+      (place-lt (f (x .0)) (x .1) (h .1))
+      ∙ getD-per (f (x .0)) (λ y. g (x .0, y)) (x .1) d (h .1)
+
+-- the things that are In have the places 0 to n − 1, each once, in the order of the list
+pub record Numbered {A : Type 0} (In : A → Type 0) (placed : A → ℕ) (listed : List A) (n : ℕ) : Type 0 where
+  pub in-order : map placed listed ≡ tab n (λ p. p)
+  pub below : (a : A) → In a → placed a < n
+  -- the thing at a place and the place of a thing undo each other
+  pub at-place : (a d : A) → In a → getD listed (placed a) d ≡ a
+  pub place-at : (p : ℕ) (d : A) → p < n → In (getD listed p d) × (placed (getD listed p d) ≡ p)
+
+-- so it is with the things that the entries of a shape name, if the entries' places are theirs
+module _ {A : Type 0} (In : A → Type 0) (placed : A → ℕ) (s : Shape) (name : Entry s → A)
+    (same : (x : Entry s) → Inside s x → In (name x) × (placed (name x) ≡ place s x))
+    (named : (a : A) → In a → (x : Entry s) × Inside s x × (name x ≡ a)) where
+  place-of : (a : A) → In a → (x : Entry s) × Inside s x × (name x ≡ a) × (placed a ≡ place s x)
+  place-of a i = let x = named a i in (x .0, x .1, x .2, ap placed (sym (x .2)) ∙ same (x .0) (x .1) .1)
+
+  at-each-place : (p : ℕ) (d : A) → p < count s → In (getD (per s name) p d) × (placed (getD (per s name) p d) ≡ p)
+  at-each-place p d h =
+      let x = entry-at s p h in
+      let e : getD (per s name) p d ≡ name (x .0) = ap (λ p. getD (per s name) p d) (sym (x .2)) ∙ getD-per s name (x .0) d (x .1) in
+      (subst In (sym e) (same (x .0) (x .1) .0), ap placed e ∙ same (x .0) (x .1) .1 ∙ x .2)
+
+  counted : (d : A) → map placed (per s name) ≡ tab (count s) (λ p. p)
+  counted d =
+      let n : length (map placed (per s name)) ≡ count s = length-map (per s name) placed ∙ length-per s name in
+      ext-getD (placed d) _ _ (n ∙ sym (length-tab (count s) (λ p. p)))
+      (λ p h.
+      let l : p < count s = omega arith in
+      List·getD-map placed (per s name) p d ∙ at-each-place p d l .1 ∙ sym (getD-tab (count s) (λ p. p) p (placed d) l))
+
+  pub entries-numbered : A → Numbered In placed (per s name) (count s)
+  entries-numbered d =
+      record {
+        in-order = counted d;
+        below = λ a i. let x = place-of a i in rw (x .3) (place-lt s (x .0) (x .1));
+        at-place = λ a d i. let x = place-of a i in rw (x .3) (getD-per s name (x .0) d (x .1) ∙ x .2);
+        place-at = at-each-place;
+      }

@@ -1,0 +1,21 @@
+-- Lists made by counting, and the sums that say where a row of such a list starts.
+use mathlib.Core.List.{List, [], _∷_, _++_}
+use Prim.Native.Nat.{ℕ, zero, suc, _+_, _-_}
+
+-- the lists f 0, .., f (n − 1), joined
+unfoldable pub rows : {A : Type 0} → ℕ → (ℕ → List A) → List A
+rows zero f = []
+rows (suc n) f = rows n f ++ f n
+
+-- g 0, .., g (n − 1)
+abbrev pub tab : {A : Type 0} → ℕ → (ℕ → A) → List A
+tab n g = rows n (λ i. g i ∷ [])
+
+-- the lists f a, .., f b, joined: none if b is below a
+abbrev pub each : {A : Type 0} → ℕ → ℕ → (ℕ → List A) → List A
+each a b f = rows (suc b - a) (λ x. f (a + x))
+
+-- w 0 + .. + w (n − 1): where row n starts, if row i has w i entries
+unfoldable pub sum : (ℕ → ℕ) → ℕ → ℕ
+sum w zero = 0
+sum w (suc n) = sum w n + w n

@@ -1,0 +1,109 @@
+// Document 01's intervals of a recording of k steps, and the triples of a chop: the limits, how many there are, their places.
+use refusal::Refusal;
+use refusal::Reply;
+ghost use mathlib.Core.Path.{_≡_};
+ghost use Prim.Native.Nat.{_≤_, _<_};
+ghost use Rattle.interval.specs.Places.{countOf, placeOf, tripleCountOf, triplePlaceOf};
+ghost use Rattle.interval.specs.Limits.{maxSteps, askSteps, madeOf, IntervalOf, TripleOf};
+
+// [i, j]: it holds the instants i to j - 1.
+pub struct Interval {
+    pub i: usize,
+    pub j: usize,
+}
+
+// What the constructor answers.
+pub enum Made {
+    Good(Interval),
+    Refused(Refusal),
+}
+
+impl Interval {
+    // The most steps that a recording has.
+    pub const MAX_STEPS: usize = 32;
+
+    // The intervals of so many steps: 561.
+    pub const MAX_COUNT: usize = (Self::MAX_STEPS + 1) * (Self::MAX_STEPS + 2) / 2;
+
+    // Question 2.
+    pub fn ask_steps(k: usize) -> Reply
+        ensures { λ r. ⌜ r ≡ askSteps k ⌝ }
+    {
+        if k <= Self::MAX_STEPS {
+            Reply::Yes
+        } else {
+            Reply::No(Refusal {
+                number: 2,
+                place: 0,
+            })
+        }
+    }
+
+    // The constructor asks questions 2 and 9.
+    pub fn new(i: usize, j: usize, k: usize) -> Made
+        ensures { λ r. ⌜ r ≡ madeOf i j k ⌝ }
+    {
+        if let Reply::No(r) = Self::ask_steps(k) {
+            return Made::Refused(r);
+        }
+        if i <= j {
+            if j <= k {
+                return Made::Good(Interval { i, j });
+            }
+        }
+        Made::Refused(Refusal {
+            number: 9,
+            place: 0,
+        })
+    }
+
+    // How many intervals k steps have.
+    pub fn count(k: usize) -> usize
+        requires { ⌜ k ≤ maxSteps ⌝ }
+        ensures { λ r. do ⌜ (r ≡ countOf k) × (r ≤ (← ⟦Interval::MAX_COUNT⟧ .entry)) ⌝ }
+    {
+        (k + 1) * (k + 2) / 2
+    }
+
+    // Its place among the intervals of k steps: those that start before i are all but those of k - i steps.
+    pub fn place(self, k: usize) -> usize
+        requires { ⌜ k ≤ maxSteps ⌝ }
+        requires { ⌜ IntervalOf k self ⌝ }
+        ensures { λ r. do ⌜ (r ≡ placeOf k self) × (r < (← ⟦Interval::MAX_COUNT⟧ .entry)) ⌝ }
+    {
+        let i = self.i;
+        Self::count(k) - Self::count(k - i) + (self.j - i)
+    }
+}
+
+// [i, j], chopped at m.
+pub struct Triple {
+    pub i: usize,
+    pub m: usize,
+    pub j: usize,
+}
+
+impl Triple {
+    // The triples of the most steps: 6,545.
+    pub const MAX_COUNT: usize = Interval::MAX_COUNT * (Interval::MAX_STEPS + 3) / 3;
+
+    // How many triples k steps have.
+    pub fn count(k: usize) -> usize
+        requires { ⌜ k ≤ maxSteps ⌝ }
+        ensures { λ r. do ⌜ (r ≡ tripleCountOf k) × (r ≤ (← ⟦Triple::MAX_COUNT⟧ .entry)) ⌝ }
+    {
+        (k + 1) * (k + 2) * (k + 3) / 6
+    }
+
+    // Its place among the triples of k steps: those that start before i are all but those of k - i steps, and the shorter
+    // intervals from i on have 1, 2, .., length triples.
+    pub fn place(self, k: usize) -> usize
+        requires { ⌜ k ≤ maxSteps ⌝ }
+        requires { ⌜ TripleOf k self ⌝ }
+        ensures { λ r. do ⌜ (r ≡ triplePlaceOf k self) × (r < (← ⟦Triple::MAX_COUNT⟧ .entry)) ⌝ }
+    {
+        let i = self.i;
+        let length = self.j - i;
+        Self::count(k) - Self::count(k - i) + length * (length + 1) / 2 + (self.m - i)
+    }
+}

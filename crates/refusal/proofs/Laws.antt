@@ -1,0 +1,40 @@
+-- The first no answers: a list of questions either has no no, and then the call gives its answer, or it is some yeses, a no
+-- and the rest, and then the call is refused by that no, whatever the rest would say. Both by induction on the list.
+use mathlib.Core.Path.{_≡_, refl}
+use mathlib.Core.List.{List, [], _∷_, _++_}
+use mathlib.Core.Logic.{_⊎_, inl, inr, ⊎-elim}
+use Rattle.refusal.specs.Asked.{asked}
+use Rattle.refusal.specs.declared.Refusal.{Refusal}
+use Rattle.refusal.specs.declared.Reply.{Reply}
+use Rattle.refusal.specs.declared.Reply.the-variants.{Yes, No}
+
+-- every question is answered with yes
+pub data AllYes : List Reply → Type 0 where
+  none-left : AllYes []
+  yes-then : {questions : List Reply} → AllYes questions → AllYes (Yes ∷ questions)
+
+-- r is the first no
+pub data FirstNo : List Reply → Refusal → Type 0 where
+  here : {r : Refusal} {questions : List Reply} → FirstNo (No r ∷ questions) r
+  later : {r : Refusal} {questions : List Reply} → FirstNo questions r → FirstNo (Yes ∷ questions) r
+
+-- either all say yes, or there is a first no
+pub all-yes-or-first-no : (questions : List Reply) → AllYes questions ⊎ ((r : Refusal) × FirstNo questions r)
+all-yes-or-first-no [] = inl none-left
+all-yes-or-first-no (Yes ∷ questions) = ⊎-elim (λ h. inl (yes-then h)) (λ f. inr (f .0, later (f .1))) (all-yes-or-first-no questions)
+all-yes-or-first-no (No r ∷ questions) = inr (r, here)
+
+module _ {A : Type 0} (refused : Refusal → A) (answer : A) where
+  pub all-yes-answers : {questions : List Reply} → AllYes questions → asked questions refused answer ≡ answer
+  all-yes-answers none-left = refl
+  all-yes-answers (yes-then h) = all-yes-answers h
+
+  pub first-no-answers : {questions : List Reply} {r : Refusal} → FirstNo questions r → asked questions refused answer ≡ refused r
+  first-no-answers here = refl
+  first-no-answers (later f) = first-no-answers f
+
+  -- a call that begins with another call's questions
+  pub asked-append : (first then : List Reply) → asked (first ++ then) refused answer ≡ asked first refused (asked then refused answer)
+  asked-append [] then = refl
+  asked-append (Yes ∷ first) then = asked-append first then
+  asked-append (No r ∷ first) then = refl
