@@ -42,12 +42,14 @@ pyramid (suc n) =
     omega (arith, pyramid n, triangle (suc n), e, suc-mul (suc (suc n)) b, suc-mul (suc n) b, suc-mul n b)
 
 triangle-count : (k : ℕ) → sum suc (suc k) ≡ countOf k
+unfolding countOf
 triangle-count k = omega (arith, triangle (suc k))
 
 pub intervals-count : (k : ℕ) → count (intervals k) ≡ countOf k
 intervals-count k = all-rows (λ x. x) (suc k) ∙ triangle-count k
 
 pyramid-count : (k : ℕ) → upTo (sum suc) (suc k) ≡ tripleCountOf k
+unfolding tripleCountOf
 pyramid-count k = omega (arith, pyramid (suc k), mul-assoc (suc k) (suc (suc k)) (suc (suc (suc k))))
 
 pub triples-count : (k : ℕ) → count (triples k) ≡ tripleCountOf k
@@ -61,9 +63,11 @@ pub six-count-le : (n k : ℕ) → k ≤ n → (k + 1) * (k + 2) * (k + 3) ≤ (
 six-count-le n k h = mul-le-mul (twice-count-le n k h) (omega arith)
 
 pub count-le : (n k : ℕ) → k ≤ n → countOf k ≤ countOf n
+unfolding countOf
 count-le n k h = omega (arith, twice-count-le n k h)
 
 pub triple-count-le : (n k : ℕ) → k ≤ n → tripleCountOf k ≤ tripleCountOf n
+unfolding tripleCountOf
 triple-count-le n k h = omega (arith, six-count-le n k h)
 
 -- ---- places
@@ -80,6 +84,7 @@ less-one (suc i) = let e : suc i - 1 ≡ i = omega arith in rw e (sym (mul-suc (
 
 -- document 01's place of [i, j] is the shape's, by start and length
 pub interval-place : (k : ℕ) (v : Interval) → IntervalOf k v → placeOf k v ≡ place (intervals k) (v .i, v .j - v .i)
+unfolding placeOf
 interval-place k v o =
     omega (arith, rows-and-lack (suc k) (v .i) (omega arith), triangle (v .i), less-one (v .i), mul-suc (v .i) (suc k), mul-suc (v .i) (v .i))
 
@@ -101,6 +106,7 @@ half d = omega (arith, triangle d)
 
 pub triple-place-code : (k : ℕ) (t : Triple) (a b : ℕ) → TripleOf k t → a ≡ tripleCountOf k → b ≡ tripleCountOf (k - t .i)
     → (b ≤ a) × (a - b + (t .j - t .i) * (t .j - t .i + 1) / 2 + (t .m - t .i) ≡ triplePlaceOf k t)
+unfolding triplePlaceOf
 triple-place-code k t a b o p q = omega (arith, all-but (sum suc) tripleCountOf pyramid-count k (t .i) (omega arith), half (t .j - t .i))
 
 pub half-le : (n d : ℕ) → d ≤ n → d * (d + 1) ≤ n * (n + 1)

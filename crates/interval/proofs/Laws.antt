@@ -9,9 +9,10 @@ use native.Mathlib.Omega.{arith}
 use borrow.Author.Tests.{leb-true, le-leb}
 use lib.Dec.{leb}
 use Rattle.refusal.specs.Asked.{question, asked}
+use Rattle.refusal.specs.declared.Refusal.{Refusal}
 use Rattle.interval.specs.Shape.{Entry, Inside, place, per}
 use Rattle.interval.specs.Places.{countOf, placeOf, intervalsOf, tripleCountOf, triplePlaceOf, triplesOf, intervals, triples}
-use Rattle.interval.specs.Limits.{maxSteps, madeOf, IntervalOf, TripleOf}
+use Rattle.interval.specs.Limits.{maxSteps, askSteps, askInterval, madeOf, IntervalOf, TripleOf}
 use Rattle.interval.specs.declared.Interval.{Interval}
 use Rattle.interval.specs.declared.Triple.{Triple}
 use Rattle.interval.specs.declared.Made.the-variants.{Good, Refused}
@@ -54,6 +55,7 @@ module _ (k : ℕ) where
   triples-listed = simp (zero-add, sub-zero, suc-add-sub)
 
   triple-entry : (x : Entry (triples k)) → Inside (triples k) x → TripleOf k (triple x) × (triplePlaceOf k (triple x) ≡ place (triples k) x)
+  unfolding triplePlaceOf
   triple-entry x h = (omega arith, simp add-sub)
 
   entry-triple : (t : Triple) → TripleOf k t → (x : Entry (triples k)) × Inside (triples k) x × (triple x ≡ t)
@@ -68,17 +70,24 @@ module _ (k : ℕ) where
 
   -- the triples of one interval stand in a row, in order of m
   pub triples-in-a-row : (i m j : ℕ) → triplePlaceOf k (record { i = i; m = m; j = j }) ≡ triplePlaceOf k (record { i = i; m = i; j = j }) + (m - i)
+  unfolding triplePlaceOf
   triples-in-a-row i m j = omega arith
 
 -- I and J at the limit of 32 steps, and at one of 64
 pub counts-at-32 : (k : ℕ) → k ≤ 32 → (countOf k ≤ 561) × (tripleCountOf k ≤ 6545)
+unfolding countOf tripleCountOf
 counts-at-32 k h = (count-le 32 k h, triple-count-le 32 k h)
 
 pub counts-at-64 : (k : ℕ) → k ≤ 64 → (countOf k ≤ 2145) × (tripleCountOf k ≤ 47905)
+unfolding countOf tripleCountOf
 counts-at-64 k h = (count-le 64 k h, triple-count-le 64 k h)
+
+refused-not-good : (r : Refusal) (v : Interval) → Refused r ≡ Good v → ⊥
+refused-not-good r v e = let z : _≡_ {A = ℕ} 0 1 = cc in omega arith
 
 -- the constructor makes the intervals of k steps within the limit, and nothing else
 pub made-good : (i j k : ℕ) (v : Interval) → madeOf i j k ≡ Good v → (k ≤ maxSteps) × IntervalOf k v
+unfolding madeOf askSteps askInterval
 made-good i j k v = go (leb k maxSteps) refl (leb i j) refl (leb j k) refl
   where
     go : (a : Bool) → leb k maxSteps ≡ a → (b : Bool) → leb i j ≡ b → (c : Bool) → leb j k ≡ c
@@ -86,9 +95,10 @@ made-good i j k v = go (leb k maxSteps) refl (leb i j) refl (leb j k) refl
     go true d true e true f m =
         let p : record { i = i; j = j } ≡ v = cc in
         (leb-true k maxSteps d, subst (IntervalOf k) p (record { starts = leb-true i j e; ends = leb-true j k f }))
-    go true d true e false f m = let z : _≡_ {A = ℕ} 0 1 = cc in absurd (omega arith)
-    go true d false e c f m = let z : _≡_ {A = ℕ} 0 1 = cc in absurd (omega arith)
-    go false d b e c f m = let z : _≡_ {A = ℕ} 0 1 = cc in absurd (omega arith)
+    go true d true e false f m = absurd (refused-not-good _ v m)
+    go true d false e c f m = absurd (refused-not-good _ v m)
+    go false d b e c f m = absurd (refused-not-good _ v m)
 
 pub good-made : (k : ℕ) (v : Interval) → k ≤ maxSteps → IntervalOf k v → madeOf (v .i) (v .j) k ≡ Good v
+unfolding madeOf askSteps askInterval
 good-made k v h o = simp (le-leb k maxSteps h, le-leb (v .i) (v .j) (o .starts), le-leb (v .j) k (o .ends))

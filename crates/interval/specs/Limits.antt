@@ -14,15 +14,15 @@ abbrev pub maxSteps : ℕ
 maxSteps = 32
 
 -- question 2: is k at most 32?
-abbrev pub askSteps : ℕ → Reply
+unfoldable pub askSteps : ℕ → Reply
 askSteps k = question 2 0 (leb k maxSteps)
 
 -- question 9: is i ≤ j ≤ k?
-abbrev pub askInterval : ℕ → ℕ → ℕ → Reply
+unfoldable pub askInterval : ℕ → ℕ → ℕ → Reply
 askInterval i j k = question 9 0 (leb i j && leb j k)
 
 -- the constructor asks 2 and 9
-abbrev pub madeOf : ℕ → ℕ → ℕ → Made
+unfoldable pub madeOf : ℕ → ℕ → ℕ → Made
 madeOf i j k = asked (askSteps k ∷ askInterval i j k ∷ []) Refused (Good (record { i = i; j = j }))
 
 -- v is an interval of k steps: "0 ≤ i ≤ j ≤ k"

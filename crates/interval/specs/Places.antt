@@ -7,11 +7,11 @@ use Rattle.interval.specs.declared.Interval.{Interval}
 use Rattle.interval.specs.declared.Triple.{Triple}
 
 -- "I = (k+1)(k+2)/2"
-abbrev pub countOf : ℕ → ℕ
+unfoldable pub countOf : ℕ → ℕ
 countOf k = (k + 1) * (k + 2) / 2
 
 -- "J = (k+1)(k+2)(k+3)/6"
-abbrev pub tripleCountOf : ℕ → ℕ
+unfoldable pub tripleCountOf : ℕ → ℕ
 tripleCountOf k = (k + 1) * (k + 2) * (k + 3) / 6
 
 -- "Intervals stand in order of i, then j"
@@ -19,7 +19,7 @@ unfoldable pub intervalsOf : ℕ → List Interval
 intervalsOf k = each 0 k (λ i. each i k (λ j. record { i = i; j = j } ∷ []))
 
 -- "[i, j] has place i(k+1) − i(i−1)/2 + (j − i)"
-abbrev pub placeOf : ℕ → Interval → ℕ
+unfoldable pub placeOf : ℕ → Interval → ℕ
 placeOf k v = v .i * (k + 1) - v .i * (v .i - 1) / 2 + (v .j - v .i)
 
 -- "Triples i ≤ m ≤ j stand in order of i, then j, then m."
@@ -35,5 +35,5 @@ abbrev pub triples : ℕ → Shape
 triples k = stack (suc k) (λ i. stack (suc k - i) (λ d. line (suc d)))
 
 -- a triple's place: how many stand before it
-abbrev pub triplePlaceOf : ℕ → Triple → ℕ
+unfoldable pub triplePlaceOf : ℕ → Triple → ℕ
 triplePlaceOf k t = place (triples k) (t .i, (t .j - t .i, t .m - t .i))

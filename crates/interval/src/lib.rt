@@ -4,7 +4,7 @@ use refusal::Reply;
 ghost use mathlib.Core.Path.{_≡_};
 ghost use Prim.Native.Nat.{_≤_, _<_};
 ghost use Rattle.interval.specs.Places.{countOf, placeOf, tripleCountOf, triplePlaceOf};
-ghost use Rattle.interval.specs.Limits.{maxSteps, askSteps, madeOf, IntervalOf, TripleOf};
+ghost use Rattle.interval.specs.Limits.{maxSteps, askSteps, askInterval, madeOf, IntervalOf, TripleOf};
 
 // [i, j]: it holds the instants i to j - 1.
 pub struct Interval {
@@ -39,22 +39,32 @@ impl Interval {
         }
     }
 
-    // The constructor asks questions 2 and 9.
+    // Question 9.
+    pub fn ask_interval(i: usize, j: usize, k: usize) -> Reply
+        ensures { λ r. ⌜ r ≡ askInterval i j k ⌝ }
+    {
+        if i <= j {
+            if j <= k {
+                return Reply::Yes;
+            }
+        }
+        Reply::No(Refusal {
+            number: 9,
+            place: 0,
+        })
+    }
+
+    // The constructor asks both.
     pub fn new(i: usize, j: usize, k: usize) -> Made
         ensures { λ r. ⌜ r ≡ madeOf i j k ⌝ }
     {
         if let Reply::No(r) = Self::ask_steps(k) {
             return Made::Refused(r);
         }
-        if i <= j {
-            if j <= k {
-                return Made::Good(Interval { i, j });
-            }
+        if let Reply::No(r) = Self::ask_interval(i, j, k) {
+            return Made::Refused(r);
         }
-        Made::Refused(Refusal {
-            number: 9,
-            place: 0,
-        })
+        Made::Good(Interval { i, j })
     }
 
     // How many intervals k steps have.

@@ -3,6 +3,7 @@ use native.Mathlib.Omega.{arith}
 use Rattle.interval.specs.Limits.{maxSteps}
 use Rattle.interval.proofs.Counts.{twice-count-le}
 use borrow.Author.Needs.{needs}
+use Rattle.interval.specs.Places.{countOf}
 use Rattle.interval.proofs.Interval.count.Statement.{statement}
 use Rattle.interval.proofs.Interval.count.Tie as tie
 
@@ -16,6 +17,7 @@ mul-result : tie.Need-mul-result
 mul-result c = omega (arith, twice-count-le maxSteps (c .args .k) (search needs))
 
 returns : tie.Need-returns
+unfolding countOf
 returns c = omega (arith, twice-count-le maxSteps (c .args .k) (search needs))
 
 pub count-spec : {M : Type 1} → statement M

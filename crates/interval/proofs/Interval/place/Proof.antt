@@ -5,6 +5,7 @@ use Rattle.interval.specs.Limits.{maxSteps, IntervalOf}
 use Rattle.interval.proofs.Counts.{interval-place-code, count-le}
 use Rattle.interval.proofs.Laws.{intervals-numbered}
 use borrow.Author.Needs.{needs}
+use Rattle.interval.specs.Places.{countOf}
 use Rattle.interval.proofs.Interval.place.Statement.{statement}
 use Rattle.interval.proofs.Interval.place.Tie as tie
 
@@ -27,6 +28,7 @@ add-result : tie.Need-add-result
 add-result c = search needs
 
 returns : tie.Need-returns
+unfolding countOf
 returns c =
     let k = c .before .before .before .args .k in
     let v = c .before .before .before .args .self in

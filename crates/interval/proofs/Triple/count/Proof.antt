@@ -3,6 +3,7 @@ use native.Mathlib.Omega.{arith}
 use Rattle.interval.specs.Limits.{maxSteps}
 use Rattle.interval.proofs.Counts.{twice-count-le, six-count-le}
 use borrow.Author.Needs.{needs}
+use Rattle.interval.specs.Places.{tripleCountOf}
 use Rattle.interval.proofs.Triple.count.Statement.{statement}
 use Rattle.interval.proofs.Triple.count.Tie as tie
 
@@ -22,6 +23,7 @@ mul-result-2 : tie.Need-mul-result-2
 mul-result-2 c = omega (arith, six-count-le maxSteps (c .args .k) (search needs))
 
 returns : tie.Need-returns
+unfolding tripleCountOf
 returns c = omega (arith, six-count-le maxSteps (c .args .k) (search needs))
 
 pub count-spec : {M : Type 1} → statement M

@@ -6,6 +6,7 @@ use Rattle.interval.specs.Limits.{maxSteps, TripleOf}
 use Rattle.interval.proofs.Counts.{triple-place-code, half-le, triple-count-le}
 use Rattle.interval.proofs.Laws.{triples-numbered}
 use borrow.Author.Needs.{needs}
+use Rattle.interval.specs.Places.{tripleCountOf}
 use Rattle.interval.proofs.Triple.place.Statement.{statement}
 use Rattle.interval.proofs.Triple.place.Tie as tie
 
@@ -46,6 +47,7 @@ add-result-3 c =
     omega (arith, half-le maxSteps d (search needs))
 
 returns : tie.Need-returns
+unfolding tripleCountOf
 returns c =
     let k = c .before .before .before .before .args .k in
     let t = c .before .before .before .before .args .self in
