@@ -109,5 +109,5 @@ pub triple-place-code : (k : ℕ) (t : Triple) (a b : ℕ) → TripleOf k t → 
 unfolding triplePlaceOf
 triple-place-code k t a b o p q = omega (arith, all-but (sum suc) tripleCountOf pyramid-count k (t .i) (omega arith), half (t .j - t .i))
 
-pub half-le : (n d : ℕ) → d ≤ n → d * (d + 1) ≤ n * (n + 1)
-half-le n d h = mul-le-mul h (omega arith)
+pub half-le : (n k : ℕ) (t : Triple) → k ≤ n → TripleOf k t → (t .j - t .i) * (t .j - t .i + 1) ≤ n * (n + 1)
+half-le n k t h o = mul-le-mul (omega arith) (omega arith)

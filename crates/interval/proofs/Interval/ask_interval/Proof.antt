@@ -1,4 +1,5 @@
--- `Interval::ask_interval` asks question 9: the tests that led to each reply pick its case.
+-- `Interval::ask_interval` asks question 9: its two tests are the definition's,
+-- so each reply is the definition's case.
 use borrow.Author.Needs.{needs}
 use borrow.Author.Tests.{le-leb, lt-leb}
 use Rattle.interval.specs.Limits.{askInterval}

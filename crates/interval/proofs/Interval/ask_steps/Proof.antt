@@ -1,4 +1,5 @@
--- `Interval::ask_steps` asks question 2: the test that led to each reply picks its case.
+-- `Interval::ask_steps` asks question 2: its test is the definition's,
+-- so each reply is the definition's case.
 use borrow.Author.Needs.{needs}
 use borrow.Author.Tests.{le-leb, lt-leb}
 use Rattle.interval.specs.Limits.{maxSteps, askSteps}

@@ -1,9 +1,10 @@
--- `Interval::count` is document 01's I: its product is at most that of the most steps, so it fits.
+-- `Interval::count` is document 01's I as it stands.
+-- Its product is at most that of the most steps, so it fits.
 use native.Mathlib.Omega.{arith}
-use Rattle.interval.specs.Limits.{maxSteps}
-use Rattle.interval.proofs.Counts.{twice-count-le}
 use borrow.Author.Needs.{needs}
+use Rattle.interval.specs.Limits.{maxSteps}
 use Rattle.interval.specs.Places.{countOf}
+use Rattle.interval.proofs.Counts.{twice-count-le}
 use Rattle.interval.proofs.Interval.count.Statement.{statement}
 use Rattle.interval.proofs.Interval.count.Tie as tie
 

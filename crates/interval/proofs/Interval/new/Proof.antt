@@ -1,6 +1,7 @@
--- `Interval::new` asks 2 and 9: the replies that led to each answer pick its case.
-use borrow.Author.Needs.{needs}
+-- `Interval::new` asks 2, then 9, and goes on where the reply is yes: so does the definition,
+-- once each reply is put in.
 use mathlib.Core.Path.{sym, _∙_}
+use borrow.Author.Needs.{needs}
 use Rattle.interval.specs.Limits.{madeOf}
 use Rattle.interval.proofs.Interval.new.Statement.{statement}
 use Rattle.interval.proofs.Interval.new.Tie as tie

@@ -1,11 +1,11 @@
--- `Interval::place` is the number of intervals before this one: those that start before i, by what I counts of k and of k − i steps,
+-- `Interval::place` is the number of intervals before this one: those that start before i, which are I of k less I of k − i steps,
 -- and the shorter ones from i on.
 use native.Mathlib.Omega.{arith}
+use borrow.Author.Needs.{needs}
 use Rattle.interval.specs.Limits.{maxSteps, IntervalOf}
+use Rattle.interval.specs.Places.{countOf}
 use Rattle.interval.proofs.Counts.{interval-place-code, count-le}
 use Rattle.interval.proofs.Laws.{intervals-numbered}
-use borrow.Author.Needs.{needs}
-use Rattle.interval.specs.Places.{countOf}
 use Rattle.interval.proofs.Interval.place.Statement.{statement}
 use Rattle.interval.proofs.Interval.place.Tie as tie
 

@@ -1,9 +1,10 @@
--- `Triple::count` is document 01's J: its products are at most those of the most steps, so they fit.
+-- `Triple::count` is document 01's J as it stands.
+-- Its products are at most those of the most steps, so they fit.
 use native.Mathlib.Omega.{arith}
-use Rattle.interval.specs.Limits.{maxSteps}
-use Rattle.interval.proofs.Counts.{twice-count-le, six-count-le}
 use borrow.Author.Needs.{needs}
+use Rattle.interval.specs.Limits.{maxSteps}
 use Rattle.interval.specs.Places.{tripleCountOf}
+use Rattle.interval.proofs.Counts.{twice-count-le, six-count-le}
 use Rattle.interval.proofs.Triple.count.Statement.{statement}
 use Rattle.interval.proofs.Triple.count.Tie as tie
 

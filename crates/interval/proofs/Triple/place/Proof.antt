@@ -1,12 +1,11 @@
--- `Triple::place` is the number of triples before this one: those that start before i, by what J counts of k and of k − i steps,
+-- `Triple::place` is the number of triples before this one: those that start before i, which are J of k less J of k − i steps,
 -- those of the shorter intervals from i on, and those of this interval that are chopped earlier.
 use native.Mathlib.Omega.{arith}
-use Prim.Native.Nat.{_-_}
+use borrow.Author.Needs.{needs}
 use Rattle.interval.specs.Limits.{maxSteps, TripleOf}
+use Rattle.interval.specs.Places.{tripleCountOf}
 use Rattle.interval.proofs.Counts.{triple-place-code, half-le, triple-count-le}
 use Rattle.interval.proofs.Laws.{triples-numbered}
-use borrow.Author.Needs.{needs}
-use Rattle.interval.specs.Places.{tripleCountOf}
 use Rattle.interval.proofs.Triple.place.Statement.{statement}
 use Rattle.interval.proofs.Triple.place.Tie as tie
 
@@ -29,22 +28,16 @@ add-result : tie.Need-add-result
 add-result c = search needs
 
 mul-result : tie.Need-mul-result
-mul-result c =
-    let d = c .before .before .before .args .self .j - c .before .before .before .args .self .i in
-    omega (arith, half-le maxSteps d (search needs))
+mul-result c = omega (arith, half-le maxSteps _ _ (c .before .before .before .pre .0) (c .before .before .before .pre .1))
 
 add-result-2 : tie.Need-add-result-2
-add-result-2 c =
-    let d = c .before .before .before .args .self .j - c .before .before .before .args .self .i in
-    omega (arith, half-le maxSteps d (search needs))
+add-result-2 c = omega (arith, half-le maxSteps _ _ (c .before .before .before .pre .0) (c .before .before .before .pre .1))
 
 sub-result-2 : tie.Need-sub-result-2
 sub-result-2 c = search needs
 
 add-result-3 : tie.Need-add-result-3
-add-result-3 c =
-    let d = c .before .before .before .before .args .self .j - c .before .before .before .before .args .self .i in
-    omega (arith, half-le maxSteps d (search needs))
+add-result-3 c = omega (arith, half-le maxSteps _ _ (c .before .before .before .before .pre .0) (c .before .before .before .before .pre .1))
 
 returns : tie.Need-returns
 unfolding tripleCountOf
