@@ -95,7 +95,10 @@ pub struct Triple {
 
 impl Triple {
     // The triples of the most steps: 6,545.
-    pub const MAX_COUNT: usize = Interval::MAX_COUNT * (Interval::MAX_STEPS + 3) / 3;
+    pub const MAX_COUNT: usize = (Interval::MAX_STEPS + 1)
+        * (Interval::MAX_STEPS + 2)
+        * (Interval::MAX_STEPS + 3)
+        / 6;
 
     // How many triples k steps have.
     pub fn count(k: usize) -> usize
