@@ -42,6 +42,7 @@ module _ (k : ℕ) where
       let e : v .i + (v .j - v .i) ≡ v .j = omega arith in
       ((v .i, v .j - v .i), (omega arith, omega arith), ap (λ j. record { i = v .i; j = j }) e)
 
+  -- in order, the intervals have the places 0 to I − 1, each once; the interval at a place and the place of an interval undo each other
   pub intervals-numbered : Numbered (IntervalOf k) (placeOf k) (intervalsOf k) (countOf k)
   intervals-numbered =
       rw (intervals-listed, ← intervals-count) (entries-numbered (IntervalOf k) (placeOf k) (intervals k) interval interval-entry entry-interval (record { i = 0; j = 0 }))
@@ -64,6 +65,7 @@ module _ (k : ℕ) where
       let f : t .i + (t .j - t .i) ≡ t .j = omega arith in
       ((t .i, (t .j - t .i, t .m - t .i)), (omega arith, (omega arith, omega arith)), ap₂ (λ m j. record { i = t .i; m = m; j = j }) e f)
 
+  -- and the triples likewise, with J
   pub triples-numbered : Numbered (TripleOf k) (triplePlaceOf k) (triplesOf k) (tripleCountOf k)
   triples-numbered =
       rw (triples-listed, ← triples-count) (entries-numbered (TripleOf k) (triplePlaceOf k) (triples k) triple triple-entry entry-triple (record { i = 0; m = 0; j = 0 }))

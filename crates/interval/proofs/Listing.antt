@@ -20,21 +20,28 @@ unfolding sum
 sum-ones zero = refl
 sum-ones (suc n) = omega (arith, sum-ones n)
 
+-- the row of a place, and where in the row it stands
+pub record RowOf (w : ℕ → ℕ) (n p : ℕ) : Type 0 where
+  pub row : ℕ
+  pub at : ℕ
+  pub row-lt : row < n
+  pub at-lt : at < w row
+  pub sums : sum w row + at ≡ p
+
 module _ (w : ℕ → ℕ) where
   pub sum-lt : (n i y : ℕ) → i < n → y < w i → sum w i + y < sum w n
   unfolding sum
   sum-lt zero i y h l = absurd (not-suc-le-zero h)
   sum-lt (suc n) i y h l = below-suc (λ i. y < w i → sum w i + y < sum w (suc n)) n i h (λ g m. omega (arith, sum-lt n i y g m)) (λ m. omega arith) l
 
-  -- the row of a place, and where in the row it stands
-  pub row-of : (n p : ℕ) → p < sum w n → (i : ℕ) × (y : ℕ) × (i < n) × (y < w i) × (sum w i + y ≡ p)
+  pub row-of : (n p : ℕ) → p < sum w n → RowOf w n p
   unfolding sum
   row-of zero p h = absurd (not-suc-le-zero h)
   row-of (suc n) p h = go (decLt p (sum w n)) (row-of n p)
     where
-      go : Dec (p < sum w n) → (p < sum w n → (i : ℕ) × (y : ℕ) × (i < n) × (y < w i) × (sum w i + y ≡ p)) → (i : ℕ) × (y : ℕ) × (i < suc n) × (y < w i) × (sum w i + y ≡ p)
-      go (yes l) f = let r = f l in (r .0, r .1, omega (arith, r .2), r .3, r .4)
-      go (no l) f = (n, p - sum w n, omega arith, omega arith, omega arith)
+      go : Dec (p < sum w n) → (p < sum w n → RowOf w n p) → RowOf w (suc n) p
+      go (yes l) f = let r = f l in record { row = r .row; at = r .at; row-lt = omega arith; at-lt = r .at-lt; sums = r .sums }
+      go (no l) f = record { row = n; at = p - sum w n; row-lt = omega arith; at-lt = omega arith; sums = omega arith }
 
 module _ {A : Type 0} (f : ℕ → List A) (w : ℕ → ℕ) (e : (i : ℕ) → length (f i) ≡ w i) where
   pub length-rows : (n : ℕ) → length (rows n f) ≡ sum w n

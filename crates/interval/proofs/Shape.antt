@@ -19,15 +19,15 @@ pub entry-at : (s : Shape) (p : ℕ) → p < count s → (x : Entry s) × Inside
 entry-at (line n) p h = (p, h, refl)
 entry-at (stack n f) p h =
     let r = row-of (λ i. count (f i)) n p h in
-    let x = entry-at (f (r .0)) (r .1) (r .3) in
-    ((r .0, x .0), (r .2, x .1), ap (λ y. sum (λ i. count (f i)) (r .0) + y) (x .2) ∙ r .4)
+    let x = entry-at (f (r .row)) (r .at) (r .at-lt) in
+    ((r .row, x .0), (r .row-lt, x .1), ap (λ y. sum (λ i. count (f i)) (r .row) + y) (x .2) ∙ r .sums)
 
 module _ {A : Type 0} where
-  length-per : (s : Shape) (g : Entry s → A) → length (per s g) ≡ count s
+  pub length-per : (s : Shape) (g : Entry s → A) → length (per s g) ≡ count s
   length-per (line n) g = length-tab n g
   length-per (stack n f) g = length-rows (λ i. per (f i) (λ x. g (i, x))) (λ i. count (f i)) (λ i. length-per (f i) (λ x. g (i, x))) n
 
-  getD-per : (s : Shape) (g : Entry s → A) (x : Entry s) (d : A) → Inside s x → getD (per s g) (place s x) d ≡ g x
+  pub getD-per : (s : Shape) (g : Entry s → A) (x : Entry s) (d : A) → Inside s x → getD (per s g) (place s x) d ≡ g x
   getD-per (line n) g x d h = getD-tab n g x d h
   getD-per (stack n f) g x d h =
       getD-rows (λ i. per (f i) (λ x. g (i, x))) (λ i. count (f i)) (λ i. length-per (f i) (λ x. g (i, x))) n (x .0) (place (f (x .0)) (x .1)) d (h .0)
