@@ -10,6 +10,7 @@ use Rattle.interval.specs.declared.Triple.{Triple}
 use Rattle.interval.specs.declared.Made.{Made}
 use Rattle.interval.specs.declared.Made.the-variants.{Good, Refused}
 
+-- "at most 32 steps"
 abbrev pub maxSteps : ℕ
 maxSteps = 32
 

@@ -67,10 +67,10 @@ impl Interval {
         Made::Good(Interval { i, j })
     }
 
-    // How many intervals k steps have.
+    // How many intervals k steps have: I. The constant is I of the most steps, neither less nor more.
     pub fn count(k: usize) -> usize
         requires { ⌜ k ≤ maxSteps ⌝ }
-        ensures { λ r. do ⌜ (r ≡ countOf k) × (r ≤ (← ⟦Interval::MAX_COUNT⟧ .entry)) ⌝ }
+        ensures { λ r. do ⌜ (r ≡ countOf k) × (r ≤ (← ⟦Interval::MAX_COUNT⟧ .entry)) × ((← ⟦Interval::MAX_COUNT⟧ .entry) ≡ countOf maxSteps) ⌝ }
     {
         (k + 1) * (k + 2) / 2
     }
@@ -100,10 +100,10 @@ impl Triple {
         * (Interval::MAX_STEPS + 3)
         / 6;
 
-    // How many triples k steps have.
+    // How many triples k steps have: J, with its constant likewise.
     pub fn count(k: usize) -> usize
         requires { ⌜ k ≤ maxSteps ⌝ }
-        ensures { λ r. do ⌜ (r ≡ tripleCountOf k) × (r ≤ (← ⟦Triple::MAX_COUNT⟧ .entry)) ⌝ }
+        ensures { λ r. do ⌜ (r ≡ tripleCountOf k) × (r ≤ (← ⟦Triple::MAX_COUNT⟧ .entry)) × ((← ⟦Triple::MAX_COUNT⟧ .entry) ≡ tripleCountOf maxSteps) ⌝ }
     {
         (k + 1) * (k + 2) * (k + 3) / 6
     }

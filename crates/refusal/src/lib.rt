@@ -1,4 +1,4 @@
-// A refusal, as document 01 counts it, and the reply to one question.
+// A refusal by document 01's number and place, and the reply to one question.
 
 // The question that was answered with no, by its number in document 01, and the place that the question names
 // (a byte of the text, an instant, a clause): 0 where it names none.
@@ -7,6 +7,7 @@ pub struct Refusal {
     pub place: u32,
 }
 
+// The reply to one question.
 pub enum Reply {
     Yes,
     No(Refusal),
