@@ -1,0 +1,5 @@
+pub mod Decimal
+pub mod Bytes
+pub mod Printed
+pub mod Kept
+pub mod Laws

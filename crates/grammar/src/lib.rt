@@ -1,0 +1,107 @@
+// Document 01's grammar: what each byte of a text can be.
+ghost use mathlib.Core.Path.{_≡_};
+ghost use Rattle.grammar.specs.Reader.{leadOf, ownLead, jointOf, ownJoint, isDigit, isLetter, isJoint};
+
+// A state assertion or a formula.
+pub enum Sort {
+    State,
+    Formula,
+}
+
+// What a part's first byte begins: a part of one byte, `!`, `(`, `#`, `[`, or nothing.
+pub enum Lead {
+    Leaf,
+    Not,
+    Open,
+    Measure,
+    Enter,
+    Other,
+}
+
+// What joins two parts: `&`, `|`, `;`, or nothing.
+pub enum Joint {
+    And,
+    Or,
+    Chop,
+    Nothing,
+}
+
+pub fn is_digit(b: u8) -> bool
+    ensures { λ r. ⌜ r ≡ isDigit b ⌝ }
+{
+    b >= b'0' && b <= b'9'
+}
+
+pub fn is_letter(b: u8) -> bool
+    ensures { λ r. ⌜ r ≡ isLetter b ⌝ }
+{
+    b >= b'a' && b <= b'h'
+}
+
+fn own_lead(s: Sort, b: u8) -> Lead
+    ensures { λ r. ⌜ r ≡ ownLead s b ⌝ }
+{
+    match s {
+        Sort::State => {
+            if is_letter(b) {
+                Lead::Leaf
+            } else {
+                Lead::Other
+            }
+        }
+        Sort::Formula => match b {
+            b'#' => Lead::Measure,
+            b'[' => Lead::Enter,
+            _ => Lead::Other,
+        },
+    }
+}
+
+pub fn lead_of(s: Sort, b: u8) -> Lead
+    ensures { λ r. ⌜ r ≡ leadOf s b ⌝ }
+{
+    match b {
+        b'T' => Lead::Leaf,
+        b'F' => Lead::Leaf,
+        b'!' => Lead::Not,
+        b'(' => Lead::Open,
+        _ => own_lead(s, b),
+    }
+}
+
+fn own_joint(s: Sort, b: u8) -> Joint
+    ensures { λ r. ⌜ r ≡ ownJoint s b ⌝ }
+{
+    match s {
+        Sort::State => Joint::Nothing,
+        Sort::Formula => {
+            if b == b';' {
+                Joint::Chop
+            } else {
+                Joint::Nothing
+            }
+        }
+    }
+}
+
+pub fn joint_of(s: Sort, b: u8) -> Joint
+    ensures { λ r. ⌜ r ≡ jointOf s b ⌝ }
+{
+    match b {
+        b'&' => Joint::And,
+        b'|' => Joint::Or,
+        _ => own_joint(s, b),
+    }
+}
+
+pub fn is_joint(s: Sort, b: u8) -> bool
+    ensures { λ r. ⌜ r ≡ isJoint s b ⌝ }
+{
+    let j = joint_of(s, b);
+    match j {
+        Joint::And => true,
+        Joint::Or => true,
+        Joint::Chop => true,
+        Joint::Nothing => false,
+    }
+}

@@ -1,0 +1,144 @@
+// Reads document 01's grammar: channels a to h; length, n and nodes unbounded.
+use grammar::Lead;
+use grammar::Sort;
+ghost use mathlib.Core.Path.{_≡_};
+ghost use Prim.Native.Nat.{_+_, _≤_};
+ghost use lib.ListN.{length, drop};
+ghost use Rattle.grammar.specs.Reader.{isJoint};
+ghost use Rattle.reader.specs.Parts.{testAt, isSign, numberAt, digitCount, onGood, PartAt, endOf, checkedOf};
+
+// How far a read came: the place after it, or where it stops.
+pub enum Got {
+    Good(usize),
+    Bad(usize),
+}
+
+// Whether a text reads, or where it stops.
+pub enum Checked {
+    Reads,
+    Stops(usize),
+}
+
+// A good read with the byte v after it.
+fn signed_by(text: &[u8], v: u8, g: Got) -> Got
+    ensures { λ r. ⌜ r ≡ onGood (now (text .entry)) (testAt (isSign v)) g ⌝ }
+{
+    let Got::Good(n) = g else {
+        return g;
+    };
+    if n < text.len() {
+        if text[n] == v {
+            return Got::Good(n + 1);
+        }
+    }
+    Got::Bad(n)
+}
+
+// A good read with a joint of the sort after it.
+fn joined_by(text: &[u8], s: Sort, g: Got) -> Got
+    ensures { λ r. ⌜ r ≡ onGood (now (text .entry)) (testAt (isJoint s)) g ⌝ }
+{
+    let Got::Good(n) = g else {
+        return g;
+    };
+    if n < text.len() {
+        if grammar::is_joint(s, text[n]) {
+            return Got::Good(n + 1);
+        }
+    }
+    Got::Bad(n)
+}
+
+// The place after the digits from a place on.
+fn digits_end(text: &[u8], at: usize) -> usize
+    requires { ⌜ at ≤ length (now text) ⌝ }
+    ensures { λ r. ⌜ r ≡ at + digitCount (drop at (now (text .entry))) ⌝ }
+{
+    let mut i = at;
+    while i < text.len() {
+        if !grammar::is_digit(text[i]) {
+            return i;
+        }
+        i += 1;
+    }
+    i
+}
+
+// A good read with a number after it.
+fn numbered_by(text: &[u8], g: Got) -> Got
+    ensures { λ r. ⌜ r ≡ onGood (now (text .entry)) numberAt g ⌝ }
+{
+    let Got::Good(n) = g else {
+        return g;
+    };
+    if n < text.len() {
+        let b = text[n];
+        if b == b'0' {
+            return Got::Good(n + 1);
+        }
+        if grammar::is_digit(b) {
+            return Got::Good(digits_end(text, n + 1));
+        }
+    }
+    Got::Bad(n)
+}
+
+// A part of the sort from a place on. It calls itself on its parts; the bytes that remain fall.
+fn read_part(text: &[u8], s: Sort, at: usize) -> Got
+    requires { ⌜ at ≤ length (now text) ⌝ }
+    ensures { λ r. ⌜ PartAt (now (text .entry)) s at r ⌝ }
+{
+    if at >= text.len() {
+        return Got::Bad(at);
+    }
+    let next = at + 1;
+    let l = grammar::lead_of(s, text[at]);
+    match l {
+        Lead::Leaf => Got::Good(next),
+        Lead::Not => read_part(text, s, next),
+        Lead::Open => {
+            let first = joined_by(text, s, read_part(text, s, next));
+            match first {
+                Got::Good(n) => signed_by(text, b')', read_part(text, s, n)),
+                Got::Bad(p) => Got::Bad(p),
+            }
+        }
+        Lead::Measure => {
+            let above = signed_by(text, b'>', read_part(text, Sort::State, next));
+            numbered_by(text, signed_by(text, b'=', above))
+        }
+        Lead::Enter => signed_by(text, b']', read_part(text, Sort::State, next)),
+        Lead::Other => Got::Bad(at),
+    }
+}
+
+// Where reading a part of the sort from a place on stops.
+pub fn part_end(text: &[u8], s: Sort, at: usize) -> usize
+    ensures { λ r. ⌜ r ≡ endOf (now (text .entry)) s at ⌝ }
+{
+    if at > text.len() {
+        return text.len();
+    }
+    let g = read_part(text, s, at);
+    match g {
+        Got::Good(n) => n,
+        Got::Bad(p) => p,
+    }
+}
+
+// Whether the whole text reads.
+pub fn check_text(text: &[u8]) -> Checked
+    ensures { λ r. ⌜ r ≡ checkedOf (now (text .entry)) ⌝ }
+{
+    let g = read_part(text, Sort::Formula, 0);
+    match g {
+        Got::Good(n) => {
+            if n < text.len() {
+                Checked::Stops(n)
+            } else {
+                Checked::Reads
+            }
+        }
+        Got::Bad(p) => Checked::Stops(p),
+    }
+}
