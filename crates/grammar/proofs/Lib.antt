@@ -3,3 +3,4 @@ pub mod Bytes
 pub mod Printed
 pub mod Kept
 pub mod Laws
+pub mod Written

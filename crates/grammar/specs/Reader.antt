@@ -1,6 +1,6 @@
 -- The reader takes a byte at a time and keeps what stands around the part that it reads. Nothing here need be believed: that it reads
 -- back what is printed, that what it reads prints as the text, and what its stopping place means are theorems (proofs/Laws.antt).
-use mathlib.Core.Bool.{Bool, true, false, cond, _&&_}
+use mathlib.Core.Bool.{Bool, true, false, cond, _&&_, _||_}
 use mathlib.Core.List.{List, [], _∷_}
 use Prim.Native.Nat.{ℕ, _+_, _*_, _-_}
 use lib.Dec.{eqb, leb}
@@ -52,6 +52,18 @@ ownLead Formula b = cond (eqb b 35) Measure (cond (eqb b 91) Enter Other)
 
 abbrev pub leadOf : Sort → ℕ → Lead
 leadOf s b = cond (eqb b 84) Leaf (cond (eqb b 70) Leaf (cond (eqb b 33) Not (cond (eqb b 40) Open (ownLead s b))))
+
+abbrev pub begins : Lead → Bool
+begins Leaf = true
+begins Not = true
+begins Open = true
+begins Measure = true
+begins Enter = true
+begins Other = false
+
+-- the first byte of a part of either sort
+abbrev pub isStart : ℕ → Bool
+isStart b = begins (leadOf State b) || begins (leadOf Formula b)
 
 abbrev pub leafOf : (s : Sort) → ℕ → Tree s
 leafOf State b = cond (isLetter b) (letter (b - 97)) (constant (eqb b 84))

@@ -1,6 +1,15 @@
 // Document 01's grammar: what each byte of a text can be.
 ghost use mathlib.Core.Path.{_≡_};
-ghost use Rattle.grammar.specs.Reader.{leadOf, ownLead, jointOf, ownJoint, isDigit, isLetter, isJoint};
+ghost use Rattle.grammar.specs.Reader.{leadOf, ownLead, jointOf, ownJoint, isDigit, isLetter, isJoint, begins, isStart};
+
+// The text's limits: bytes, nodes, n, channels.
+pub const MAX_LENGTH: usize = 255;
+
+pub const MAX_NODES: usize = 64;
+
+pub const MAX_NUMBER: usize = 32;
+
+pub const MAX_CHANNELS: usize = 8;
 
 // A state assertion or a formula.
 pub enum Sort {
@@ -67,6 +76,26 @@ pub fn lead_of(s: Sort, b: u8) -> Lead
         b'(' => Lead::Open,
         _ => own_lead(s, b),
     }
+}
+
+fn begins(l: Lead) -> bool
+    ensures { λ r. ⌜ r ≡ begins l ⌝ }
+{
+    match l {
+        Lead::Leaf => true,
+        Lead::Not => true,
+        Lead::Open => true,
+        Lead::Measure => true,
+        Lead::Enter => true,
+        Lead::Other => false,
+    }
+}
+
+// Whether a byte is the first of a part of either sort.
+pub fn is_start(b: u8) -> bool
+    ensures { λ r. ⌜ r ≡ isStart b ⌝ }
+{
+    begins(lead_of(Sort::State, b)) || begins(lead_of(Sort::Formula, b))
 }
 
 fn own_joint(s: Sort, b: u8) -> Joint

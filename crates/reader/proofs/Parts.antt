@@ -268,26 +268,26 @@ module _ (t : List ℕ) (at : ℕ) (h : at < length t) (g : Got) (w : PartAt t S
       }
 
 -- a part by itself, and the whole text
-rest-whole : {s : Sort} (x : Tree s) (q : List ℕ) → restOf (run (after x whole) q) ≡ q
+pub rest-whole : {s : Sort} (x : Tree s) (q : List ℕ) → restOf (run (after x whole) q) ≡ q
 unfolding run follow endAfter
 rest-whole x [] = refl
 rest-whole x (b ∷ q) = refl
 
-in-place : (t q : List ℕ) (n : ℕ) → n ≤ length t → q ≡ drop n t → n ≡ length t - length q
+pub in-place : (t q : List ℕ) (n : ℕ) → n ≤ length t → q ≡ drop n t → n ≡ length t - length q
 in-place t q n h e = omega (arith, ap length e, length-drop n t)
 
 module _ (t : List ℕ) (s : Sort) (at : ℕ) where
-  pub end-past : length t < at → length t ≡ endOf t s at
+  pub end-past : length t < at → (length t ≡ endOf t s at) × (length t ≤ length t)
   unfolding endOf run
-  end-past h = rw (drop-of-length-le t (le-of-lt h)) (omega arith)
+  end-past h = (rw (drop-of-length-le t (le-of-lt h)) (omega arith), omega arith)
 
-  pub end-good : (g : Got) (n : ℕ) → PartAt t s at g → g ≡ Good n → n ≡ endOf t s at
+  pub end-good : (g : Got) (n : ℕ) → PartAt t s at g → g ≡ Good n → (n ≡ endOf t s at) × (n ≤ length t)
   unfolding endOf
-  end-good g n w e = let v = subst (PartAt t s at) e w in in-place t _ n (v .within .1) (ap restOf (v .same s whole) ∙ rest-whole (v .tree) (drop n t))
+  end-good g n w e = let v = subst (PartAt t s at) e w in (in-place t _ n (v .within .1) (ap restOf (v .same s whole) ∙ rest-whole (v .tree) (drop n t)), v .within .1)
 
-  pub end-bad : (g : Got) (p : ℕ) → PartAt t s at g → g ≡ Bad p → p ≡ endOf t s at
+  pub end-bad : (g : Got) (p : ℕ) → PartAt t s at g → g ≡ Bad p → (p ≡ endOf t s at) × (p ≤ length t)
   unfolding endOf
-  end-bad g p w e = let v = subst (PartAt t s at) e w in in-place t _ p (v .within) (ap restOf (v .same s whole))
+  end-bad g p w e = let v = subst (PartAt t s at) e w in (in-place t _ p (v .within) (ap restOf (v .same s whole)), v .within)
 
 module _ (t : List ℕ) (g : Got) (w : PartAt t Formula 0 g) where
   pub check-reads : (n : ℕ) → g ≡ Good n → length t ≤ n → Reads ≡ checkedOf t

@@ -114,7 +114,7 @@ fn read_part(text: &[u8], s: Sort, at: usize) -> Got
 
 // Where reading a part of the sort from a place on stops.
 pub fn part_end(text: &[u8], s: Sort, at: usize) -> usize
-    ensures { λ r. ⌜ r ≡ endOf (now (text .entry)) s at ⌝ }
+    ensures { λ r. ⌜ (r ≡ endOf (now (text .entry)) s at) × (r ≤ length (now (text .entry))) ⌝ }
 {
     if at > text.len() {
         return text.len();

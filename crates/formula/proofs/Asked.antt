@@ -1,0 +1,78 @@
+-- What the code asks is what document 01 asks: a check of the grammar tells question 4, and the first find after so many tells 5 to 7.
+-- Each is a case of its question's definition.
+use mathlib.Core.Path.{_≡_, refl, ap}
+use mathlib.Core.Bool.{Bool, true, false, _&&_}
+use mathlib.Core.List.{List, [], _∷_}
+use Prim.Native.Nat.{ℕ, zero, suc, _≤_, _<_}
+use native.Mathlib.Omega.{arith}
+use lib.Dec.{leb}
+use lib.ListN.{length, take, replicate}
+use Rattle.refusal.specs.Asked.{question, asked}
+use Rattle.refusal.specs.declared.Reply.{Reply}
+use Rattle.refusal.specs.declared.Reply.the-variants.{Yes, No}
+use Rattle.grammar.specs.Limits.{maxLength}
+use Rattle.grammar.specs.Reader.{Read, tree, stopped, read}
+use Rattle.grammar.specs.declared.Sort.the-variants.{Formula}
+use Rattle.grammar.proofs.Bytes.{ranged}
+use Rattle.grammar.proofs.Laws.{stops-at-place}
+use Rattle.reader.specs.Parts.{checked, checkedOf}
+use Rattle.reader.specs.declared.Checked.the-variants.{Reads, Stops}
+use Rattle.scan.specs.Scans.{listOf}
+use Rattle.scan.specs.declared.Hit.{Hit}
+use Rattle.formula.specs.Questions.{atFirst, onRead, askLength, askGrammar}
+
+-- what a check of the grammar says
+module _ (t : List ℕ) where
+  pub grammar-reads : checkedOf t ≡ Reads → askGrammar t ≡ Yes
+  unfolding checkedOf askGrammar
+  grammar-reads = go (read t)
+    where
+      go : (o : Read Formula) → checked o ≡ Reads → onRead o ≡ Yes
+      go (tree f) e = refl
+      go (stopped p) e = absurd (let z : _≡_ {A = ℕ} 0 1 = cc in omega arith)
+
+  pub grammar-stops : (p : ℕ) → checkedOf t ≡ Stops p → askGrammar t ≡ No (record { number = 4; place = p })
+  unfolding checkedOf askGrammar
+  grammar-stops p = go (read t)
+    where
+      go : (o : Read Formula) → checked o ≡ Stops p → onRead o ≡ No (record { number = 4; place = p })
+      go (tree f) e = absurd (let z : _≡_ {A = ℕ} 0 1 = cc in omega arith)
+      go (stopped q) e = let h : q ≡ p = cc in ap (λ (q : ℕ). No (record { number = 4; place = q })) h
+
+  pub stop-within : (p : ℕ) → checkedOf t ≡ Stops p → p ≤ length t
+  unfolding checkedOf
+  stop-within p e = stops-at-place t p (go (read t) e) .within
+    where
+      go : (o : Read Formula) → checked o ≡ Stops p → o ≡ stopped p
+      go (tree f) e = absurd (let z : _≡_ {A = ℕ} 0 1 = cc in omega arith)
+      go (stopped q) e = let h : q ≡ p = cc in ap stopped h
+
+-- the first of some places
+module _ (number : ℕ) where
+  pub first-is : (h : Hit) (l : List ℕ) → listOf h ≡ take 1 l → 0 < h .count → No (record { number = number; place = h .place }) ≡ atFirst number l
+  first-is h = go (h .count)
+    where
+      go : (n : ℕ) (l : List ℕ) → replicate n (h .place) ≡ take 1 l → 0 < n → No (record { number = number; place = h .place }) ≡ atFirst number l
+      go zero l e k = absurd (omega arith)
+      go (suc n) [] e k = absurd (let z : _≡_ {A = ℕ} 0 1 = cc in omega arith)
+      go (suc n) (p ∷ l) e k = let f : h .place ≡ p = cc in ap (λ (q : ℕ). No (record { number = number; place = q })) f
+
+  pub none-is : (h : Hit) (l : List ℕ) → listOf h ≡ take 1 l → h .count ≤ 0 → Yes ≡ atFirst number l
+  none-is h = go (h .count)
+    where
+      go : (n : ℕ) (l : List ℕ) → replicate n (h .place) ≡ take 1 l → n ≤ 0 → Yes ≡ atFirst number l
+      go (suc n) l e k = absurd (omega arith)
+      go zero [] e k = refl
+      go zero (p ∷ l) e k = absurd (let z : _≡_ {A = ℕ} 0 1 = cc in omega arith)
+
+pub asked-one : (r : Reply) → asked (r ∷ []) No Yes ≡ r
+asked-one Yes = refl
+asked-one (No r) = refl
+
+pub length-most : (t : List ℕ) → askLength t ≡ Yes → length t ≤ maxLength
+unfolding askLength
+length-most t e = go (leb 1 (length t) && leb (length t) maxLength) refl e
+  where
+    go : (c : Bool) → leb 1 (length t) && leb (length t) maxLength ≡ c → question 3 0 c ≡ Yes → length t ≤ maxLength
+    go true h e = ranged 1 maxLength (length t) h .1
+    go false h e = absurd (let z : _≡_ {A = ℕ} 0 1 = cc in omega arith)

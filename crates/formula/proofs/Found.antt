@@ -1,0 +1,152 @@
+-- What questions 5 to 7 find in the bytes of a text that reads is what its tree has: a scan meets the nodes in their order, and at
+-- each node its first byte, and for a duration the number after it, tell what the tree's question asks.
+use mathlib.Core.Path.{_≡_, refl, sym, ap, _∙_, subst}
+use mathlib.Core.Bool.{Bool, true, false, cond, _&&_}
+use mathlib.Core.List.{List, [], _∷_, _++_, append-nil, map, flatMap}
+use Prim.Native.Nat.{ℕ, zero, suc, _+_, _-_, _≤_, _<_}
+use native.Mathlib.Decide.{decLt}
+use native.Mathlib.Omega.{arith}
+use lib.Dec.{eqb, leb, ltb}
+use lib.ListN.{length, getD, take, drop, replicate}
+use borrow.Author.Tests.{ne-eqb, lt-leb, le-leb, lt-ltb, le-ltb}
+use Rattle.refusal.specs.Asked.{question, asked}
+use Rattle.refusal.specs.declared.Reply.{Reply}
+use Rattle.refusal.specs.declared.Reply.the-variants.{Yes, No}
+use Rattle.grammar.specs.Limits.{maxNumber, maxNodes}
+use Rattle.grammar.specs.Trees.{Link, and, or, chop, Tree, constant, letter, negation, pair, duration, throughout, Letters, write, textOf, linkByte}
+use Rattle.grammar.specs.Reader.{isLetter, isStart, Read, tree, stopped, read}
+use Rattle.grammar.specs.declared.Sort.{Sort}
+use Rattle.grammar.specs.declared.Sort.the-variants.{State, Formula}
+use Rattle.grammar.proofs.Bytes.{at-each, ranged}
+use Rattle.grammar.proofs.Laws.{prints-as-text}
+use Rattle.formula.specs.Nodes.{Node, nodesOf, nodesRead, nodesIn}
+use Rattle.formula.specs.Questions.{atFirst, onRead, askGrammar, outside, above, askLetters, askNumbers, askNodes}
+use Rattle.scan.specs.Scans.{scan, startAt, isOutside, outsideAt, limited, digitOf, numberOf, aboveAt, answersAt, foundIn, listOf}
+use Rattle.scan.specs.declared.Ask.{Ask}
+use Rattle.scan.specs.declared.Ask.the-variants.{Letters as AskLetters, Numbers, Nodes}
+use Rattle.scan.specs.declared.Hit.{Hit}
+use Rattle.formula.proofs.Lists.{All, all-map, flat-same, flat-map}
+use Rattle.formula.proofs.Scan.{firstByte, Quiet, scan-tree}
+use Rattle.formula.proofs.Standing.{Stands, StandsNode, all-stand, digit-place, number-is}
+
+-- the bytes that begin no node: `&`, `|`, `;`, `)`, `]`, `>`, `=` and the digits
+abbrev signs : List ℕ
+signs = 38 ∷ 124 ∷ 59 ∷ 41 ∷ 93 ∷ 62 ∷ 61 ∷ 48 ∷ 49 ∷ 50 ∷ 51 ∷ 52 ∷ 53 ∷ 54 ∷ 55 ∷ 56 ∷ 57 ∷ []
+
+abbrev Plain : (ℕ → Bool) → Type 0
+Plain g = (k : ℕ) → k < 17 → g (getD signs k 0) ≡ false
+
+digit-sign : (d : ℕ) → d < 10 → getD signs (7 + d) 0 ≡ 48 + d
+digit-sign = at-each (λ d. getD signs (7 + d) 0 ≡ 48 + d) 10 refl refl refl refl refl refl refl refl refl refl
+
+-- a test that picks none of them is quiet
+quiet : (g : ℕ → Bool) (f : ℕ → List ℕ) → Plain g → Quiet (λ b at. cond (g b) (f at) [])
+quiet g f p = record {
+  links = links;
+  close = λ at. off at (p 3 (omega arith));
+  shut = λ at. off at (p 4 (omega arith));
+  more = λ at. off at (p 5 (omega arith));
+  equal = λ at. off at (p 6 (omega arith));
+  digit = λ d h at. off at (ap g (sym (digit-sign d h)) ∙ p (7 + d) (omega arith));
+}
+  where
+    off : {c : Bool} (at : ℕ) → c ≡ false → cond c (f at) [] ≡ []
+    off at e = ap (λ (c : Bool). cond c (f at) []) e
+
+    links : {s : Sort} (l : Link s) (at : ℕ) → cond (g (linkByte l)) (f at) [] ≡ []
+    links and at = off at (p 0 (omega arith))
+    links or at = off at (p 1 (omega arith))
+    links chop at = off at (p 2 (omega arith))
+
+letter-is : (c : ℕ) → c < 8 → isLetter (97 + c) ≡ true
+letter-is = at-each (λ c. isLetter (97 + c) ≡ true) 8 refl refl refl refl refl refl refl refl
+
+letter-starts : (c : ℕ) → c < 8 → isStart (97 + c) ≡ true
+letter-starts = at-each (λ c. isStart (97 + c) ≡ true) 8 refl refl refl refl refl refl refl refl
+
+-- what stands for an answer at a node
+abbrev answer : Ask → {s : Sort} → Tree s → ℕ → List ℕ
+answer (AskLetters C) x at = outside C x at
+answer Numbers x at = above x at
+answer Nodes x at = at ∷ []
+
+module _ (t : List ℕ) where
+  quiet-at : (a : Ask) → Quiet (answersAt a t)
+  quiet-at (AskLetters C) = quiet (isOutside C) (λ at. at ∷ []) (at-each (λ k. isOutside C (getD signs k 0) ≡ false) 17 refl refl refl refl refl refl refl refl refl refl refl refl refl refl refl refl refl)
+  quiet-at Numbers = quiet (λ b. eqb b 35) (λ at. cond (ltb maxNumber (numberOf t at)) (digitOf t at ∷ []) []) (at-each (λ k. eqb (getD signs k 0) 35 ≡ false) 17 refl refl refl refl refl refl refl refl refl refl refl refl refl refl refl refl refl)
+  quiet-at Nodes = quiet isStart (λ at. at ∷ []) (at-each (λ k. isStart (getD signs k 0) ≡ false) 17 refl refl refl refl refl refl refl refl refl refl refl refl refl refl refl refl refl)
+
+  letters-answer : (C : ℕ) {s : Sort} (x : Tree s) (at : ℕ) → Letters 8 x → outsideAt C (firstByte x) at ≡ outside C x at
+  letters-answer C (constant true) at w = refl
+  letters-answer C (constant false) at w = refl
+  letters-answer C (letter c) at w = let e : 97 + c - 97 ≡ c = omega arith in rw (letter-is c w, e)
+  letters-answer C (negation x) at w = refl
+  letters-answer C (pair l x y) at w = refl
+  letters-answer C (duration x n) at w = refl
+  letters-answer C (throughout x) at w = refl
+
+  starts-answer : {s : Sort} (x : Tree s) (at : ℕ) → Letters 8 x → startAt (firstByte x) at ≡ at ∷ []
+  starts-answer (constant true) at w = refl
+  starts-answer (constant false) at w = refl
+  starts-answer (letter c) at w = rw (letter-starts c w)
+  starts-answer (negation x) at w = refl
+  starts-answer (pair l x y) at w = refl
+  starts-answer (duration x n) at w = refl
+  starts-answer (throughout x) at w = refl
+
+  limited-above : (n : ℕ) → ltb maxNumber (limited n) ≡ ltb maxNumber n
+  limited-above n = go (decLt maxNumber n)
+    where
+      go : Dec (maxNumber < n) → ltb maxNumber (limited n) ≡ ltb maxNumber n
+      go (yes h) = rw (lt-leb n maxNumber h, lt-ltb maxNumber n h)
+      go (no h) = rw (le-leb n maxNumber (omega arith))
+
+  numbers-answer : {s : Sort} (x : Tree s) (at : ℕ) → Stands t x at → aboveAt t (firstByte x) at ≡ above x at
+  numbers-answer (constant true) at w = refl
+  numbers-answer (constant false) at w = refl
+  numbers-answer (letter c) at w = rw (ne-eqb (97 + c) 35 (λ e. omega arith))
+  numbers-answer (negation x) at w = refl
+  numbers-answer (pair l x y) at w = refl
+  numbers-answer (duration x n) at w = rw (number-is t x n at w, digit-place t x n at w, limited-above n)
+  numbers-answer (throughout x) at w = refl
+
+  answered : (a : Ask) {s : Sort} (x : Tree s) (at : ℕ) → Stands t x at → answersAt a t (firstByte x) at ≡ answer a x at
+  answered (AskLetters C) x at w = letters-answer C x at (w .letters)
+  answered Numbers x at w = numbers-answer x at w
+  answered Nodes x at w = starts-answer x at (w .letters)
+
+  -- a scan of the bytes finds what the tree has
+  pub found : (a : Ask) (f : Tree Formula) → Letters 8 f → textOf f ≡ t → foundIn a t ≡ flatMap (λ (w : Node). answer a (w .part) (w .first)) (nodesOf f 0)
+  unfolding foundIn scan
+  found a f l e =
+      let w : Stands t f 0 = record { rest = []; here = sym e; clear = tt; letters = l } in
+      ap (λ q. scan (answersAt a t) q 0) (sym e) ∙ scan-tree (answersAt a t) (quiet-at a) f 0 [] ∙ append-nil _
+      ∙ flat-same _ _ (nodesOf f 0) (all-map (StandsNode t) _ (λ v s. answered a (v .part) (v .first) s) (nodesOf f 0) (all-stand t f 0 w))
+
+  -- a text that reads has a tree
+  pub read-tree : askGrammar t ≡ Yes → (f : Tree Formula) × (read t ≡ tree f)
+  unfolding askGrammar
+  read-tree = go (read t)
+    where
+      go : (o : Read Formula) → onRead o ≡ Yes → (f : Tree Formula) × (o ≡ tree f)
+      go (tree f) e = (f, refl)
+      go (stopped p) e = absurd (let z : _≡_ {A = ℕ} 0 1 = cc in omega arith)
+
+  pub found-in : (a : Ask) → askGrammar t ≡ Yes → foundIn a t ≡ flatMap (λ (w : Node). answer a (w .part) (w .first)) (nodesIn t)
+  unfolding nodesIn
+  found-in a e =
+      let (f, r) = read-tree e in
+      let w = prints-as-text t f r in
+      found a f (w .0) (w .1) ∙ ap (λ (o : Read Formula). flatMap (λ (w : Node). answer a (w .part) (w .first)) (nodesRead o)) (sym r)
+
+  pub letters-asked : (C : ℕ) → askGrammar t ≡ Yes → askLetters C t ≡ atFirst 5 (drop 0 (foundIn (AskLetters C) t))
+  unfolding askLetters
+  letters-asked C e = ap (atFirst 5) (sym (found-in (AskLetters C) e))
+
+  pub numbers-asked : askGrammar t ≡ Yes → askNumbers t ≡ atFirst 6 (drop 0 (foundIn Numbers t))
+  unfolding askNumbers
+  numbers-asked e = ap (atFirst 6) (sym (found-in Numbers e))
+
+  pub nodes-asked : askGrammar t ≡ Yes → askNodes t ≡ atFirst 7 (drop maxNodes (foundIn Nodes t))
+  unfolding askNodes
+  nodes-asked e = ap (λ (l : List ℕ). atFirst 7 (drop maxNodes l)) (sym (found-in Nodes e ∙ flat-map (λ (w : Node). w .first) (nodesIn t)))

@@ -1,0 +1,122 @@
+-- Each node of a printed tree stands at its place: from there on the text is the node's own and a rest that begins with no digit.
+-- So reading the part from there on ends at its last byte, and what is told of a node by its place is the node's.
+use mathlib.Core.Path.{_≡_, refl, sym, ap, _∙_}
+use mathlib.Core.Bool.{Bool, true, false, cond}
+use mathlib.Core.List.{List, [], _∷_, _++_, append-assoc}
+use Prim.Native.Nat.{ℕ, zero, suc, _+_, _*_, _-_, _≤_, _<_}
+use native.Mathlib.Decide.{decLt}
+use native.Mathlib.Omega.{arith}
+use native.Mathlib.Numerals.{add-one}
+use lib.Dec.{ltb}
+use lib.ListN.{length, take, drop, length-drop}
+use lib.Seq.{take-append-seam}
+use borrow.Author.Tests.{le-leb, lt-leb}
+use Rattle.grammar.specs.Trees.{Tree, constant, letter, negation, pair, duration, throughout, Letters, decimal, linkByte, write, textOf}
+use Rattle.grammar.specs.Reader.{whole, part, run, isDigit}
+use Rattle.grammar.specs.declared.Sort.{Sort}
+use Rattle.grammar.specs.declared.Sort.the-variants.{State}
+use Rattle.grammar.proofs.Bytes.{Clear, link-clear, digit-is}
+use Rattle.grammar.proofs.Decimal.{decimal-digit, decimal-more, by-digits}
+use Rattle.grammar.proofs.Printed.{part-read}
+use Rattle.grammar.proofs.Written.{write-text, length-write, drop-byte, drop-part}
+use Rattle.reader.specs.Parts.{restOf, endOf}
+use Rattle.reader.proofs.Parts.{rest-whole, in-place}
+use Rattle.formula.specs.Nodes.{Node, node, nodesOf}
+use Rattle.grammar.specs.Limits.{maxNumber}
+use Rattle.scan.specs.Scans.{limited, numberFrom, digitOf, numberOf}
+use Rattle.formula.proofs.Lists.{All, all-append}
+
+-- a part stands at a place of a text
+pub record Stands (t : List ℕ) {s : Sort} (x : Tree s) (at : ℕ) : Type 0 where
+  pub rest : List ℕ
+  pub here : drop at t ≡ write x rest
+  pub clear : Clear rest
+  pub letters : Letters 8 x
+
+text-some : {s : Sort} (x : Tree s) → 1 ≤ length (textOf x)
+unfolding write
+text-some (constant v) = omega arith
+text-some (letter c) = omega arith
+text-some (negation x) = omega arith
+text-some (pair l x y) = omega arith
+text-some (duration x n) = omega arith
+text-some (throughout x) = omega arith
+
+-- a number above the limit stays above it with a digit more
+limited-more : (m d : ℕ) → d < 10 → limited (limited m * 10 + d) ≡ limited (m * 10 + d)
+limited-more m d h = go (decLt maxNumber m)
+  where
+    go : Dec (maxNumber < m) → limited (limited m * 10 + d) ≡ limited (m * 10 + d)
+    go (yes k) = rw (lt-leb m maxNumber k, lt-leb (m * 10 + d) maxNumber (omega arith), lt-leb (suc maxNumber * 10 + d) maxNumber (omega arith))
+    go (no k) = rw (le-leb m maxNumber (omega arith))
+
+digits-read : (n : ℕ) (q : List ℕ) → numberFrom 0 (decimal n ++ q) ≡ numberFrom (limited n) q
+unfolding numberFrom
+digits-read = by-digits (λ n. (q : List ℕ) → numberFrom 0 (decimal n ++ q) ≡ numberFrom (limited n) q)
+    (λ d h q. let e : 0 * 10 + (48 + d - 48) ≡ d = omega arith in rw (decimal-digit d h) (rw (digit-is d h) (ap (λ (v : ℕ). numberFrom (limited v) q) e)))
+    (λ m d p h ih q. let e : 48 + d - 48 ≡ d = omega arith in
+    rw (decimal-more m d p h, append-assoc (decimal m) ((48 + d) ∷ []) q) (ih ((48 + d) ∷ q) ∙ rw (digit-is d h, e) (ap (λ (v : ℕ). numberFrom v q) (limited-more m d h))))
+
+read-number : (n : ℕ) (q : List ℕ) → Clear q → numberFrom 0 (decimal n ++ q) ≡ limited n
+unfolding numberFrom
+read-number n [] c = digits-read n []
+read-number n (b ∷ q) c = digits-read n (b ∷ q) ∙ rw c
+
+module _ (t : List ℕ) where
+  module _ {s : Sort} (x : Tree s) (at : ℕ) (w : Stands t x at) where
+    -- it ends within the text
+    pub end-within : at + length (textOf x) ≤ length t
+    end-within = omega (arith, ap length (w .here), length-drop at t, length-write x (w .rest), text-some x)
+
+    pub end-is : endOf t s at ≡ at + length (textOf x)
+    unfolding endOf
+    end-is =
+        let e = ap (λ q. restOf (run (part s whole) q)) (w .here) ∙ ap restOf (part-read x whole (w .rest) (w .letters) (w .clear)) ∙ rest-whole x (w .rest) in
+        ap (λ (q : List ℕ). length t - length q) e ∙ sym (in-place t (w .rest) (at + length (textOf x)) end-within (sym (drop-part t at x (w .rest) (w .here))))
+
+    -- its own text is that part of the text
+    pub text-is : take (length (textOf x)) (drop at t) ≡ textOf x
+    text-is = ap (take (length (textOf x))) (w .here ∙ write-text x (w .rest)) ∙ take-append-seam (textOf x) (w .rest)
+
+  -- the state assertion of a duration, and its number
+  pub measured-stands : (x : Tree State) (n at : ℕ) → Stands t (duration x n) at → Stands t x (suc at)
+  unfolding write
+  measured-stands x n at w = record {
+    rest = 62 ∷ 61 ∷ decimal n ++ w .rest;
+    here = drop-byte t at 35 (write x (62 ∷ 61 ∷ decimal n ++ w .rest)) (w .here);
+    clear = refl;
+    letters = w .letters;
+  }
+
+  pub digit-place : (x : Tree State) (n at : ℕ) → Stands t (duration x n) at → digitOf t at ≡ at + 1 + length (textOf x) + 2
+  digit-place x n at w = rw (add-one at) (ap (λ (p : ℕ). p + 2) (end-is x (suc at) (measured-stands x n at w)))
+
+  digits-stand : (x : Tree State) (n at : ℕ) (w : Stands t (duration x n) at) → drop (digitOf t at) t ≡ decimal n ++ w .rest
+  unfolding measured-stands
+  digits-stand x n at w =
+      let p : ℕ = suc at + length (textOf x) in
+      let e : digitOf t at ≡ suc (suc p) = omega (arith, digit-place x n at w) in
+      let v = measured-stands x n at w in
+      ap (λ (m : ℕ). drop m t) e ∙ drop-byte t (suc p) 61 (decimal n ++ w .rest) (drop-byte t p 62 (61 ∷ decimal n ++ w .rest) (drop-part t (suc at) x (v .rest) (v .here)))
+
+  pub number-is : (x : Tree State) (n at : ℕ) → Stands t (duration x n) at → numberOf t at ≡ limited n
+  number-is x n at w = ap (numberFrom 0) (digits-stand x n at w) ∙ read-number n (w .rest) (w .clear)
+
+  abbrev pub StandsNode : Node → Type 0
+  StandsNode w = Stands t (w .part) (w .first)
+
+  pub all-stand : {s : Sort} (x : Tree s) (at : ℕ) → Stands t x at → All StandsNode (nodesOf x at)
+  unfolding nodesOf write
+  all-stand (constant v) at w = (w, tt)
+  all-stand (letter c) at w = (w, tt)
+  all-stand (negation x) at w = (w, all-stand x (suc at) (record { rest = w .rest; here = drop-byte t at 33 (write x (w .rest)) (w .here); clear = w .clear; letters = w .letters }))
+  all-stand (pair l x y) at w =
+      let e = drop-byte t at 40 (write x (linkByte l ∷ write y (41 ∷ w .rest))) (w .here) in
+      let f = drop-byte t (suc at + length (textOf x)) (linkByte l) (write y (41 ∷ w .rest)) (drop-part t (suc at) x (linkByte l ∷ write y (41 ∷ w .rest)) e) in (
+        w,
+        all-append StandsNode (nodesOf x (suc at)) (nodesOf y (suc (suc at + length (textOf x))))
+            (all-stand x (suc at) (record { rest = linkByte l ∷ write y (41 ∷ w .rest); here = e; clear = link-clear l; letters = w .letters .0 }))
+            (all-stand y (suc (suc at + length (textOf x))) (record { rest = 41 ∷ w .rest; here = f; clear = refl; letters = w .letters .1 })),
+      )
+  all-stand (duration x n) at w = (w, all-stand x (suc at) (measured-stands x n at w))
+  all-stand (throughout x) at w = (w, all-stand x (suc at) (record { rest = 93 ∷ w .rest; here = drop-byte t at 91 (write x (93 ∷ w .rest)) (w .here); clear = refl; letters = w .letters }))

@@ -1,0 +1,112 @@
+// Document 01's questions 1 to 7: whether a formula's text is accepted for C and k.
+use grammar::MAX_CHANNELS;
+use grammar::MAX_LENGTH;
+use grammar::MAX_NODES;
+use interval::Interval;
+use reader::Checked;
+use refusal::Refusal;
+use refusal::Reply;
+use scan::Ask;
+ghost use mathlib.Core.Path.{_≡_};
+ghost use mathlib.Core.Bool.{_&&_};
+ghost use Prim.Native.Nat.{_+_, _≤_};
+ghost use lib.Dec.{leb};
+ghost use lib.ListN.{length, drop};
+ghost use Rattle.refusal.specs.Asked.{question, asked};
+ghost use Rattle.grammar.specs.Limits.{maxLength};
+ghost use Rattle.scan.specs.Scans.{foundIn};
+ghost use Rattle.formula.specs.Questions.{atFirst, askChannels, askLength, askGrammar, textQuestions, acceptOf};
+
+fn no(number: u32, place: usize) -> Reply
+    requires { ⌜ place ≤ maxLength + 2 ⌝ }
+    ensures { λ r. ⌜ r ≡ Reply.No (record { number = number; place = place }) ⌝ }
+{
+    Reply::No(Refusal {
+        number,
+        place: place as u32,
+    })
+}
+
+// The reply to a question that names no place, by its test.
+fn by_test(number: u32, yes: bool) -> Reply
+    ensures { λ r. ⌜ r ≡ question number 0 yes ⌝ }
+{
+    if yes { Reply::Yes } else { no(number, 0) }
+}
+
+fn within(x: usize, low: usize, high: usize) -> bool
+    ensures { λ r. ⌜ r ≡ leb low x && leb x high ⌝ }
+{
+    x >= low && x <= high
+}
+
+// Question 1.
+fn ask_channels(c: u32) -> Reply
+    ensures { λ r. ⌜ r ≡ askChannels c ⌝ }
+{
+    by_test(1, within(c as usize, 1, MAX_CHANNELS))
+}
+
+// Question 3.
+fn ask_length(text: &[u8]) -> Reply
+    ensures { λ r. ⌜ r ≡ askLength (now (text .entry)) ⌝ }
+{
+    by_test(3, within(text.len(), 1, MAX_LENGTH))
+}
+
+// Question 4.
+fn ask_grammar(text: &[u8]) -> Reply
+    requires { ⌜ length (now text) ≤ maxLength ⌝ }
+    ensures { λ r. ⌜ r ≡ askGrammar (now (text .entry)) ⌝ }
+{
+    let g = reader::check_text(text);
+    match g {
+        Checked::Reads => Reply::Yes,
+        Checked::Stops(p) => no(4, p),
+    }
+}
+
+// Questions 5, 6 and 7, of a text that reads.
+fn ask_all(text: &[u8], number: u32, a: Ask, skip: usize) -> Reply
+    requires { ⌜ length (now text) ≤ maxLength ⌝ }
+    ensures { λ r. ⌜ r ≡ atFirst number (drop skip (foundIn a (now (text .entry)))) ⌝ }
+{
+    let h = scan::first_hit(text, a, skip);
+    if h.count > 0 {
+        return no(number, h.place);
+    }
+    Reply::Yes
+}
+
+// Whether a formula's text is accepted for C and k: questions 1 to 7.
+pub fn accept(text: &[u8], c: u32, k: u32) -> Reply
+    ensures { λ r. ⌜ r ≡ acceptOf c k (now (text .entry)) ⌝ }
+{
+    if let Reply::No(r) = ask_channels(c) {
+        return Reply::No(r);
+    }
+    if let Reply::No(r) = Interval::ask_steps(k as usize) {
+        return Reply::No(r);
+    }
+    if let Reply::No(r) = ask_length(text) {
+        return Reply::No(r);
+    }
+    ask_text(text, c)
+}
+
+// Questions 4 to 7.
+fn ask_text(text: &[u8], c: u32) -> Reply
+    requires { ⌜ length (now text) ≤ maxLength ⌝ }
+    ensures { λ r. ⌜ r ≡ asked (textQuestions c (now (text .entry))) Reply.No Reply.Yes ⌝ }
+{
+    if let Reply::No(r) = ask_grammar(text) {
+        return Reply::No(r);
+    }
+    if let Reply::No(r) = ask_all(text, 5, Ask::Letters(c), 0) {
+        return Reply::No(r);
+    }
+    if let Reply::No(r) = ask_all(text, 6, Ask::Numbers, 0) {
+        return Reply::No(r);
+    }
+    ask_all(text, 7, Ask::Nodes, MAX_NODES)
+}

@@ -1,0 +1,85 @@
+-- A scan from i on is what the byte at i answers and the scan from i + 1 on; a number from i on likewise. So each loop keeps: what
+-- is left to scan answers as the whole does.
+use mathlib.Core.Path.{_≡_, refl, sym, ap, _∙_}
+use mathlib.Core.Bool.{Bool, true, false, cond}
+use mathlib.Core.List.{List, [], _∷_, _++_}
+use Prim.Native.Nat.{ℕ, zero, suc, _+_, _*_, _-_, _≤_, _<_}
+use native.Mathlib.Omega.{arith}
+use native.Mathlib.Numerals.{add-one}
+use lib.Dec.{ltb}
+use lib.ListN.{length, getD, take, drop, drop-of-length-le, replicate}
+use lib.Seq.{drop-nil}
+use borrow.Author.Tests.{le-leb, lt-leb}
+use Rattle.grammar.specs.Reader.{isDigit}
+use Rattle.reader.proofs.Parts.{at-byte}
+use Rattle.grammar.specs.Limits.{maxNumber}
+use Rattle.scan.specs.Scans.{scan, numberFrom, limited, digitOf, numberOf, aboveAt, foundIn, answersAt, listOf}
+use Rattle.scan.specs.declared.Ask.{Ask}
+use Rattle.scan.specs.declared.Hit.{Hit}
+
+-- a hit is taken off what is to be skipped
+drop-hit : (h : Hit) (left : ℕ) (q : List ℕ) → h .count ≤ 1 → h .count ≤ left → drop left (listOf h ++ q) ≡ drop (left - h .count) q
+drop-hit h left q = go (h .count) left
+  where
+    go : (n left : ℕ) → n ≤ 1 → n ≤ left → drop left (replicate n (h .place) ++ q) ≡ drop (left - n) q
+    go zero left w k = let e : left ≡ left - 0 = omega arith in ap (λ (m : ℕ). drop m q) e
+    go (suc zero) zero w k = absurd (omega arith)
+    go (suc zero) (suc left) w k = let e : left ≡ suc left - 1 = omega arith in ap (λ (m : ℕ). drop m q) e
+    go (suc (suc n)) left w k = absurd (omega arith)
+
+take-hit : (h : Hit) (left : ℕ) (q : List ℕ) → h .count ≤ 1 → left < h .count → listOf h ≡ take 1 (drop left (listOf h ++ q))
+take-hit h left q = go (h .count) left
+  where
+    go : (n left : ℕ) → n ≤ 1 → left < n → replicate n (h .place) ≡ take 1 (drop left (replicate n (h .place) ++ q))
+    go zero left w k = absurd (omega arith)
+    go (suc zero) zero w k = refl
+    go (suc zero) (suc left) w k = absurd (omega arith)
+    go (suc (suc n)) left w k = absurd (omega arith)
+
+module _ (t : List ℕ) (a : Ask) (skip : ℕ) where
+  -- from i on, and after so many finds, as from the beginning
+  pub record Left (left i : ℕ) : Type 0 where
+    pub within : i ≤ length t
+    pub same : drop left (scan (answersAt a t) (drop i t) i) ≡ drop skip (foundIn a t)
+
+  pub left-begun : Left skip 0
+  unfolding foundIn
+  left-begun = record { within = omega arith; same = refl }
+
+  module _ (left i : ℕ) (w : Left left i) where
+    module _ (h : Hit) (k : i < length t) (e : listOf h ≡ answersAt a t (getD t i 0) i) (c : h .count ≤ 1) where
+      scan-step : scan (answersAt a t) (drop i t) i ≡ listOf h ++ scan (answersAt a t) (drop (i + 1) t) (i + 1)
+      unfolding scan
+      scan-step = ap (λ q. scan (answersAt a t) q i) (at-byte t i k) ∙ ap (λ l. l ++ scan (answersAt a t) (drop (i + 1) t) (suc i)) (sym e) ∙ rw (add-one i)
+
+      pub left-on : h .count ≤ left → Left (left - h .count) (i + 1)
+      left-on l = record { within = omega arith; same = sym (drop-hit h left _ c l) ∙ ap (drop left) (sym scan-step) ∙ w .same }
+
+      pub left-found : left < h .count → listOf h ≡ take 1 (drop skip (foundIn a t))
+      left-found l = take-hit h left _ c l ∙ ap (take 1) (ap (drop left) (sym scan-step) ∙ w .same)
+
+    pub left-none : length t ≤ i → [] ≡ take 1 (drop skip (foundIn a t))
+    unfolding scan
+    left-none k = sym (ap (take 1) (sym (w .same) ∙ ap (λ q. drop left (scan (answersAt a t) q i)) (drop-of-length-le t k) ∙ drop-nil left))
+
+pub limited-in : (n m : ℕ) → n ≡ m → n ≤ maxNumber → n ≡ limited m
+limited-in n m e h = rw (le-leb m maxNumber (omega arith)) e
+
+pub limited-out : (n m : ℕ) → n ≡ m → maxNumber < n → suc maxNumber ≡ limited m
+limited-out n m e h = rw (lt-leb m maxNumber (omega arith))
+
+module _ (t : List ℕ) (i v : ℕ) where
+  pub number-more : i < length t → isDigit (getD t i 0) ≡ true → numberFrom v (drop i t) ≡ numberFrom (limited (v * 10 + (getD t i 0 - 48))) (drop (i + 1) t)
+  unfolding numberFrom
+  number-more k e = ap (numberFrom v) (at-byte t i k) ∙ rw e
+
+  pub number-none : i < length t → isDigit (getD t i 0) ≡ false → numberFrom v (drop i t) ≡ v
+  unfolding numberFrom
+  number-none k e = ap (numberFrom v) (at-byte t i k) ∙ rw e
+
+  pub number-end : length t ≤ i → numberFrom v (drop i t) ≡ v
+  unfolding numberFrom
+  number-end k = ap (numberFrom v) (drop-of-length-le t k)
+
+pub above-hit : (t l : List ℕ) (i b p v : ℕ) → b ≡ 35 → p ≡ digitOf t i → v ≡ numberOf t i → l ≡ cond (ltb maxNumber v) (p ∷ []) [] → l ≡ aboveAt t b i
+above-hit t l i b p v e f g h = h ∙ rw (e, f, g)

@@ -1,0 +1,138 @@
+// Goes through a text for the letters, numbers and nodes that questions 5 to 7 ask about.
+use grammar::MAX_NUMBER;
+use grammar::Sort;
+ghost use mathlib.Core.Path.{_≡_};
+ghost use mathlib.Core.Bool.{true, cond};
+ghost use mathlib.Core.List.{[], _∷_};
+ghost use Prim.Native.Nat.{suc, _+_, _*_, _-_, _≤_, _<_};
+ghost use lib.ListN.{length, getD, take, drop};
+ghost use Rattle.grammar.specs.Limits.{maxNumber, maxLength};
+ghost use Rattle.grammar.specs.Reader.{isDigit};
+ghost use Rattle.scan.specs.Scans.{isOutside, aboveAt, numberFrom, limited, numberOf, digitOf, listOf, answersAt, foundIn};
+
+// The number of a duration: its first digit's place, and its value, one above the limit for all beyond.
+pub struct Number {
+    pub place: usize,
+    pub value: usize,
+}
+
+// What questions 5 to 7 go through the text for.
+pub enum Ask {
+    Letters(u32),
+    Numbers,
+    Nodes,
+}
+
+// A place, or none: the count is 1 or 0.
+pub struct Hit {
+    pub count: usize,
+    pub place: usize,
+}
+
+fn wide(b: u8) -> usize
+    ensures { λ r. ⌜ r ≡ b ⌝ }
+{
+    b as usize
+}
+
+fn is_outside(c: u32, b: u8) -> bool
+    ensures { λ r. ⌜ r ≡ isOutside c b ⌝ }
+{
+    if !grammar::is_letter(b) {
+        return false;
+    }
+    c as usize <= wide(b) - 97
+}
+
+// One digit more, one above the limit for all beyond.
+fn with_digit(v: usize, b: u8) -> usize
+    requires { ⌜ v ≤ suc maxNumber ⌝ }
+    requires { ⌜ isDigit b ≡ true ⌝ }
+    ensures { λ r. ⌜ (r ≡ limited (v * 10 + (b - 48))) × (r ≤ suc maxNumber) ⌝ }
+{
+    let n = v * 10 + (wide(b) - 48);
+    if n <= MAX_NUMBER { n } else { MAX_NUMBER + 1 }
+}
+
+// The number from a place on, of any count of digits.
+fn number_at(text: &[u8], at: usize) -> usize
+    requires { ⌜ at ≤ length (now text) ⌝ }
+    ensures { λ r. ⌜ r ≡ numberFrom 0 (drop at (now (text .entry))) ⌝ }
+{
+    let mut v: usize = 0;
+    let mut i = at;
+    while i < text.len() {
+        let b = text[i];
+        if !grammar::is_digit(b) {
+            return v;
+        }
+        v = with_digit(v, b);
+        i += 1;
+    }
+    v
+}
+
+// The number of the duration that stands at a place.
+pub fn number_of(text: &[u8], at: usize) -> Number
+    requires { ⌜ (length (now text) ≤ maxLength) × (at < length (now text)) ⌝ }
+    ensures { λ r. ⌜ (r .place ≡ digitOf (now (text .entry)) at) × (r .value ≡ numberOf (now (text .entry)) at) × (r .place ≤ maxLength + 2) ⌝ }
+{
+    let place = reader::part_end(text, Sort::State, at + 1) + 2;
+    if place <= text.len() {
+        return Number {
+            place,
+            value: number_at(text, place),
+        };
+    }
+    Number { place, value: 0 }
+}
+
+fn hit_if(yes: bool, place: usize) -> Hit
+    ensures { λ r. ⌜ (listOf r ≡ cond yes (place ∷ []) []) × (r .count ≤ 1) × (r .place ≤ place) ⌝ }
+{
+    if yes {
+        return Hit { count: 1, place };
+    }
+    Hit { count: 0, place: 0 }
+}
+
+fn number_hit(text: &[u8], i: usize) -> Hit
+    requires { ⌜ (length (now text) ≤ maxLength) × (i < length (now text)) ⌝ }
+    ensures { λ r. ⌜ (listOf r ≡ aboveAt (now (text .entry)) (getD (now (text .entry)) i 0) i) × (r .count ≤ 1) × (r .place ≤ maxLength + 2) ⌝ }
+{
+    if text[i] != b'#' {
+        return Hit { count: 0, place: 0 };
+    }
+    let n = number_of(text, i);
+    hit_if(n.value > MAX_NUMBER, n.place)
+}
+
+// What a question finds at the byte at i.
+fn hit_at(text: &[u8], a: Ask, i: usize) -> Hit
+    requires { ⌜ (length (now text) ≤ maxLength) × (i < length (now text)) ⌝ }
+    ensures { λ r. ⌜ (listOf r ≡ answersAt a (now (text .entry)) (getD (now (text .entry)) i 0) i) × (r .count ≤ 1) × (r .place ≤ maxLength + 2) ⌝ }
+{
+    match a {
+        Ask::Letters(c) => hit_if(is_outside(c, text[i]), i),
+        Ask::Numbers => number_hit(text, i),
+        Ask::Nodes => hit_if(grammar::is_start(text[i]), i),
+    }
+}
+
+// What a question finds first, after a number of finds.
+pub fn first_hit(text: &[u8], a: Ask, skip: usize) -> Hit
+    requires { ⌜ length (now text) ≤ maxLength ⌝ }
+    ensures { λ r. ⌜ (listOf r ≡ take 1 (drop skip (foundIn a (now (text .entry))))) × (r .place ≤ maxLength + 2) ⌝ }
+{
+    let mut left = skip;
+    let mut i = 0;
+    while i < text.len() {
+        let h = hit_at(text, a, i);
+        if h.count > left {
+            return h;
+        }
+        left -= h.count;
+        i += 1;
+    }
+    Hit { count: 0, place: 0 }
+}
