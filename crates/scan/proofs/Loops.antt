@@ -36,6 +36,16 @@ take-hit h left q = go (h .count) left
     go (suc zero) (suc left) w k = absurd (omega arith)
     go (suc (suc n)) left w k = absurd (omega arith)
 
+-- a scan from a place on
+module _ (h : ℕ → ℕ → List ℕ) (t : List ℕ) (i : ℕ) where
+  pub scan-at : i < length t → scan h (drop i t) i ≡ h (getD t i 0) i ++ scan h (drop (i + 1) t) (i + 1)
+  unfolding scan
+  scan-at k = ap (λ q. scan h q i) (at-byte t i k) ∙ rw (add-one i)
+
+  pub scan-end : length t ≤ i → scan h (drop i t) i ≡ []
+  unfolding scan
+  scan-end k = ap (λ q. scan h q i) (drop-of-length-le t k)
+
 module _ (t : List ℕ) (a : Ask) (skip : ℕ) where
   -- from i on, and after so many finds, as from the beginning
   pub record Left (left i : ℕ) : Type 0 where
@@ -49,8 +59,7 @@ module _ (t : List ℕ) (a : Ask) (skip : ℕ) where
   module _ (left i : ℕ) (w : Left left i) where
     module _ (h : Hit) (k : i < length t) (e : listOf h ≡ answersAt a t (getD t i 0) i) (c : h .count ≤ 1) where
       scan-step : scan (answersAt a t) (drop i t) i ≡ listOf h ++ scan (answersAt a t) (drop (i + 1) t) (i + 1)
-      unfolding scan
-      scan-step = ap (λ q. scan (answersAt a t) q i) (at-byte t i k) ∙ ap (λ l. l ++ scan (answersAt a t) (drop (i + 1) t) (suc i)) (sym e) ∙ rw (add-one i)
+      scan-step = scan-at (answersAt a t) t i k ∙ ap (λ l. l ++ scan (answersAt a t) (drop (i + 1) t) (i + 1)) (sym e)
 
       pub left-on : h .count ≤ left → Left (left - h .count) (i + 1)
       left-on l = record { within = omega arith; same = sym (drop-hit h left _ c l) ∙ ap (drop left) (sym scan-step) ∙ w .same }
@@ -59,8 +68,7 @@ module _ (t : List ℕ) (a : Ask) (skip : ℕ) where
       left-found l = take-hit h left _ c l ∙ ap (take 1) (ap (drop left) (sym scan-step) ∙ w .same)
 
     pub left-none : length t ≤ i → [] ≡ take 1 (drop skip (foundIn a t))
-    unfolding scan
-    left-none k = sym (ap (take 1) (sym (w .same) ∙ ap (λ q. drop left (scan (answersAt a t) q i)) (drop-of-length-le t k) ∙ drop-nil left))
+    left-none k = sym (ap (take 1) (sym (w .same) ∙ ap (drop left) (scan-end (answersAt a t) t i k) ∙ drop-nil left))
 
 pub limited-in : (n m : ℕ) → n ≡ m → n ≤ maxNumber → n ≡ limited m
 limited-in n m e h = rw (le-leb m maxNumber (omega arith)) e

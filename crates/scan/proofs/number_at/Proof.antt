@@ -34,7 +34,7 @@ is-digit-requires c κs = search needs
 returns : tie.Need-returns Inv-loop μ-loop
 returns c =
     let w = c .before .before .before .before .loop in
-    sym (number-none (c .before .before .before .before .before .before .args .text .now) (w .i) (w .v) (search needs) (sym (c .before .is-digit .ensures) ∙ not-true _ (c .if1 .taken))) ∙ w .inv .2
+    (sym (number-none (c .before .before .before .before .before .before .args .text .now) (w .i) (w .v) (search needs) (sym (c .before .is-digit .ensures) ∙ not-true _ (c .if1 .taken))) ∙ w .inv .2, search needs)
 
 -- src/lib.rt:133:9
 with-digit-requires : tie.Need-with-digit-requires Inv-loop μ-loop
@@ -58,7 +58,7 @@ loop-again c =
 returns-2 : tie.Need-returns-2 Inv-loop μ-loop
 returns-2 c =
     let w = c .before .loop in
-    sym (number-end (c .before .before .before .args .text .now) (w .i) (w .v) (search needs)) ∙ w .inv .2
+    (sym (number-end (c .before .before .before .args .text .now) (w .i) (w .v) (search needs)) ∙ w .inv .2, search needs)
 
 pub number-at-spec : {M : Type 1} → statement M
 number-at-spec =

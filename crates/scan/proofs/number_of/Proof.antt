@@ -30,13 +30,13 @@ number-at-requires c κs = search needs
 
 -- src/lib.rt:145:9
 returns : tie.Need-returns
-returns c = (ap (λ (n : ℕ). n + 2) (c .before .before .part-end .ensures .0), c .number-at .ensures ∙ ap (λ (n : ℕ). numberFrom 0 (drop (n + 2) (c .before .before .before .before .args .text .now))) (c .before .before .part-end .ensures .0), search needs)
+returns c = (ap (λ (n : ℕ). n + 2) (c .before .before .part-end .ensures .0), c .number-at .ensures .0 ∙ ap (λ (n : ℕ). numberFrom 0 (drop (n + 2) (c .before .before .before .before .args .text .now))) (c .before .before .part-end .ensures .0), search needs, search needs)
 
 -- src/lib.rt:139:1
 returns-2 : tie.Need-returns-2
 returns-2 c =
     let e = ap (λ (n : ℕ). n + 2) (c .before .part-end .ensures .0) in
-    (e, sym (ap (λ (n : ℕ). numberFrom 0 (drop n (c .before .before .before .args .text .now))) (sym e) ∙ number-end (c .before .before .before .args .text .now) (c .before .part-end .result + 2) 0 (search needs)), search needs)
+    (e, sym (ap (λ (n : ℕ). numberFrom 0 (drop n (c .before .before .before .args .text .now))) (sym e) ∙ number-end (c .before .before .before .args .text .now) (c .before .part-end .result + 2) 0 (search needs)), search needs, search needs)
 
 pub number-of-spec : {M : Type 1} → statement M
 number-of-spec =
