@@ -58,7 +58,7 @@ quiet g f p = record {
     links or at = off at (p 1 (omega arith))
     links chop at = off at (p 2 (omega arith))
 
-letter-is : (c : ℕ) → c < 8 → isLetter (97 + c) ≡ true
+pub letter-is : (c : ℕ) → c < 8 → isLetter (97 + c) ≡ true
 letter-is = at-each (λ c. isLetter (97 + c) ≡ true) 8 refl refl refl refl refl refl refl refl
 
 letter-starts : (c : ℕ) → c < 8 → isStart (97 + c) ≡ true
@@ -115,13 +115,15 @@ module _ (t : List ℕ) where
   answered Numbers x at w = numbers-answer x at w
   answered Nodes x at w = starts-answer x at (w .letters)
 
-  -- a scan of the bytes finds what the tree has
-  pub found : (a : Ask) (f : Tree Formula) → Letters 8 f → textOf f ≡ t → foundIn a t ≡ flatMap (λ (w : Node). answer a (w .part) (w .first)) (nodesOf f 0)
-  unfolding foundIn scan
-  found a f l e =
-      let w : Stands t f 0 = record { rest = []; here = sym e; clear = tt; letters = l } in
-      ap (λ q. scan (answersAt a t) q 0) (sym e) ∙ scan-tree (answersAt a t) (quiet-at a) f 0 [] ∙ append-nil _
-      ∙ flat-same _ _ (nodesOf f 0) (all-map (StandsNode t) _ (λ v s. answered a (v .part) (v .first) s) (nodesOf f 0) (all-stand t f 0 w))
+  -- a scan of a part's bytes finds what its tree has
+  pub found-part : (a : Ask) {s : Sort} (x : Tree s) (at : ℕ) → Stands t x at → scan (answersAt a t) (textOf x) at ≡ flatMap (λ (w : Node). answer a (w .part) (w .first)) (nodesOf x at)
+  unfolding scan
+  found-part a x at w =
+      scan-tree (answersAt a t) (quiet-at a) x at [] ∙ append-nil _
+      ∙ flat-same _ _ (nodesOf x at) (all-map (StandsNode t) _ (λ v s. answered a (v .part) (v .first) s) (nodesOf x at) (all-stand t x at w))
+
+  pub starts-part : {s : Sort} (x : Tree s) (at : ℕ) → Stands t x at → scan startAt (textOf x) at ≡ map (λ (w : Node). w .first) (nodesOf x at)
+  starts-part x at w = found-part Nodes x at w ∙ flat-map (λ (w : Node). w .first) (nodesOf x at)
 
   -- a text that reads has a tree
   pub read-tree : askGrammar t ≡ Yes → (f : Tree Formula) × (read t ≡ tree f)
@@ -132,12 +134,14 @@ module _ (t : List ℕ) where
       go (tree f) e = (f, refl)
       go (stopped p) e = absurd (let z : _≡_ {A = ℕ} 0 1 = cc in omega arith)
 
+  pub root-stands : (f : Tree Formula) → read t ≡ tree f → Stands t f 0
+  root-stands f r = let w = prints-as-text t f r in record { rest = []; here = sym (w .1); clear = tt; letters = w .0 }
+
   pub found-in : (a : Ask) → askGrammar t ≡ Yes → foundIn a t ≡ flatMap (λ (w : Node). answer a (w .part) (w .first)) (nodesIn t)
-  unfolding nodesIn
+  unfolding nodesIn foundIn
   found-in a e =
       let (f, r) = read-tree e in
-      let w = prints-as-text t f r in
-      found a f (w .0) (w .1) ∙ ap (λ (o : Read Formula). flatMap (λ (w : Node). answer a (w .part) (w .first)) (nodesRead o)) (sym r)
+      ap (λ (q : List ℕ). scan (answersAt a t) q 0) (sym (prints-as-text t f r .1)) ∙ found-part a f 0 (root-stands f r) ∙ ap (λ (o : Read Formula). flatMap (λ (w : Node). answer a (w .part) (w .first)) (nodesRead o)) (sym r)
 
   pub letters-asked : (C : ℕ) → askGrammar t ≡ Yes → askLetters C t ≡ atFirst 5 (drop 0 (foundIn (AskLetters C) t))
   unfolding askLetters

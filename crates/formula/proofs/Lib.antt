@@ -3,3 +3,4 @@ pub mod Scan
 pub mod Standing
 pub mod Found
 pub mod Asked
+pub mod Laws

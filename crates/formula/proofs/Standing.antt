@@ -5,13 +5,14 @@ use mathlib.Core.Bool.{Bool, true, false, cond}
 use mathlib.Core.List.{List, [], _∷_, _++_, append-assoc}
 use Prim.Native.Nat.{ℕ, zero, suc, _+_, _*_, _-_, _≤_, _<_}
 use native.Mathlib.Decide.{decLt}
+use native.Mathlib.Nat.{add-zero}
 use native.Mathlib.Omega.{arith}
 use native.Mathlib.Numerals.{add-one}
 use lib.Dec.{ltb}
-use lib.ListN.{length, take, drop, length-drop}
-use lib.Seq.{take-append-seam}
+use lib.ListN.{length, getD, take, drop, length-drop}
+use lib.Seq.{take-append-seam, getD-drop}
 use borrow.Author.Tests.{le-leb, lt-leb}
-use Rattle.grammar.specs.Trees.{Tree, constant, letter, negation, pair, duration, throughout, Letters, decimal, linkByte, write, textOf}
+use Rattle.grammar.specs.Trees.{Link, Tree, constant, letter, negation, pair, duration, throughout, Letters, decimal, linkByte, constantByte, write, textOf}
 use Rattle.grammar.specs.Reader.{whole, part, run, isDigit}
 use Rattle.grammar.specs.declared.Sort.{Sort}
 use Rattle.grammar.specs.declared.Sort.the-variants.{State}
@@ -25,6 +26,7 @@ use Rattle.formula.specs.Nodes.{Node, node, nodesOf}
 use Rattle.grammar.specs.Limits.{maxNumber}
 use Rattle.scan.specs.Scans.{limited, numberFrom, digitOf, numberOf}
 use Rattle.formula.proofs.Lists.{All, all-append}
+use Rattle.formula.proofs.Scan.{firstByte}
 
 -- a part stands at a place of a text
 pub record Stands (t : List ℕ) {s : Sort} (x : Tree s) (at : ℕ) : Type 0 where
@@ -33,7 +35,7 @@ pub record Stands (t : List ℕ) {s : Sort} (x : Tree s) (at : ℕ) : Type 0 whe
   pub clear : Clear rest
   pub letters : Letters 8 x
 
-text-some : {s : Sort} (x : Tree s) → 1 ≤ length (textOf x)
+pub text-some : {s : Sort} (x : Tree s) → 1 ≤ length (textOf x)
 unfolding write
 text-some (constant v) = omega arith
 text-some (letter c) = omega arith
@@ -78,7 +80,32 @@ module _ (t : List ℕ) where
     pub text-is : take (length (textOf x)) (drop at t) ≡ textOf x
     text-is = ap (take (length (textOf x))) (w .here ∙ write-text x (w .rest)) ∙ take-append-seam (textOf x) (w .rest)
 
-  -- the state assertion of a duration, and its number
+  -- the parts of a node stand
+  pub negated-stands : {s : Sort} (x : Tree s) (at : ℕ) → Stands t (negation x) at → Stands t x (suc at)
+  unfolding write
+  negated-stands x at w = record { rest = w .rest; here = drop-byte t at 33 (write x (w .rest)) (w .here); clear = w .clear; letters = w .letters }
+
+  pub left-stands : {s : Sort} (l : Link s) (x y : Tree s) (at : ℕ) → Stands t (pair l x y) at → Stands t x (suc at)
+  unfolding write
+  left-stands l x y at w = record {
+    rest = linkByte l ∷ write y (41 ∷ w .rest);
+    here = drop-byte t at 40 (write x (linkByte l ∷ write y (41 ∷ w .rest))) (w .here);
+    clear = link-clear l;
+    letters = w .letters .0;
+  }
+
+  link-stands : {s : Sort} (l : Link s) (x y : Tree s) (at : ℕ) (w : Stands t (pair l x y) at) → drop (suc at + length (textOf x)) t ≡ linkByte l ∷ write y (41 ∷ w .rest)
+  unfolding left-stands
+  link-stands l x y at w = let v = left-stands l x y at w in drop-part t (suc at) x (v .rest) (v .here)
+
+  pub right-stands : {s : Sort} (l : Link s) (x y : Tree s) (at : ℕ) → Stands t (pair l x y) at → Stands t y (suc (suc at + length (textOf x)))
+  right-stands l x y at w = record {
+    rest = 41 ∷ w .rest;
+    here = drop-byte t (suc at + length (textOf x)) (linkByte l) (write y (41 ∷ w .rest)) (link-stands l x y at w);
+    clear = refl;
+    letters = w .letters .1;
+  }
+
   pub measured-stands : (x : Tree State) (n at : ℕ) → Stands t (duration x n) at → Stands t x (suc at)
   unfolding write
   measured-stands x n at w = record {
@@ -88,6 +115,27 @@ module _ (t : List ℕ) where
     letters = w .letters;
   }
 
+  pub entered-stands : (x : Tree State) (at : ℕ) → Stands t (throughout x) at → Stands t x (suc at)
+  unfolding write
+  entered-stands x at w = record { rest = 93 ∷ w .rest; here = drop-byte t at 91 (write x (93 ∷ w .rest)) (w .here); clear = refl; letters = w .letters }
+
+  -- a node's first byte, and the byte that joins its parts
+  byte-at : (at b : ℕ) (q : List ℕ) → drop at t ≡ b ∷ q → getD t at 0 ≡ b
+  byte-at at b q e = ap (λ (n : ℕ). getD t n 0) (sym (add-zero at)) ∙ sym (getD-drop at t 0 0) ∙ ap (λ (l : List ℕ). getD l 0 0) e
+
+  pub first-is : {s : Sort} (x : Tree s) (at : ℕ) → Stands t x at → getD t at 0 ≡ firstByte x
+  unfolding write
+  first-is (constant v) at w = byte-at at (constantByte v) _ (w .here)
+  first-is (letter c) at w = byte-at at (97 + c) _ (w .here)
+  first-is (negation x) at w = byte-at at 33 _ (w .here)
+  first-is (pair l x y) at w = byte-at at 40 _ (w .here)
+  first-is (duration x n) at w = byte-at at 35 _ (w .here)
+  first-is (throughout x) at w = byte-at at 91 _ (w .here)
+
+  pub link-is : {s : Sort} (l : Link s) (x y : Tree s) (at : ℕ) → Stands t (pair l x y) at → getD t (suc at + length (textOf x)) 0 ≡ linkByte l
+  link-is l x y at w = byte-at (suc at + length (textOf x)) (linkByte l) _ (link-stands l x y at w)
+
+  -- a duration's number
   pub digit-place : (x : Tree State) (n at : ℕ) → Stands t (duration x n) at → digitOf t at ≡ at + 1 + length (textOf x) + 2
   digit-place x n at w = rw (add-one at) (ap (λ (p : ℕ). p + 2) (end-is x (suc at) (measured-stands x n at w)))
 
@@ -106,17 +154,14 @@ module _ (t : List ℕ) where
   StandsNode w = Stands t (w .part) (w .first)
 
   pub all-stand : {s : Sort} (x : Tree s) (at : ℕ) → Stands t x at → All StandsNode (nodesOf x at)
-  unfolding nodesOf write
+  unfolding nodesOf
   all-stand (constant v) at w = (w, tt)
   all-stand (letter c) at w = (w, tt)
-  all-stand (negation x) at w = (w, all-stand x (suc at) (record { rest = w .rest; here = drop-byte t at 33 (write x (w .rest)) (w .here); clear = w .clear; letters = w .letters }))
-  all-stand (pair l x y) at w =
-      let e = drop-byte t at 40 (write x (linkByte l ∷ write y (41 ∷ w .rest))) (w .here) in
-      let f = drop-byte t (suc at + length (textOf x)) (linkByte l) (write y (41 ∷ w .rest)) (drop-part t (suc at) x (linkByte l ∷ write y (41 ∷ w .rest)) e) in (
-        w,
-        all-append StandsNode (nodesOf x (suc at)) (nodesOf y (suc (suc at + length (textOf x))))
-            (all-stand x (suc at) (record { rest = linkByte l ∷ write y (41 ∷ w .rest); here = e; clear = link-clear l; letters = w .letters .0 }))
-            (all-stand y (suc (suc at + length (textOf x))) (record { rest = 41 ∷ w .rest; here = f; clear = refl; letters = w .letters .1 })),
-      )
+  all-stand (negation x) at w = (w, all-stand x (suc at) (negated-stands x at w))
+  all-stand (pair l x y) at w = (
+    w,
+    all-append StandsNode (nodesOf x (suc at)) (nodesOf y (suc (suc at + length (textOf x))))
+        (all-stand x (suc at) (left-stands l x y at w)) (all-stand y (suc (suc at + length (textOf x))) (right-stands l x y at w)),
+  )
   all-stand (duration x n) at w = (w, all-stand x (suc at) (measured-stands x n at w))
-  all-stand (throughout x) at w = (w, all-stand x (suc at) (record { rest = 93 ∷ w .rest; here = drop-byte t at 91 (write x (93 ∷ w .rest)) (w .here); clear = refl; letters = w .letters }))
+  all-stand (throughout x) at w = (w, all-stand x (suc at) (entered-stands x at w))

@@ -32,6 +32,15 @@ Letters C (pair l x y) = Letters C x × Letters C y
 Letters C (duration x n) = Letters C x
 Letters C (throughout x) = Letters C x
 
+-- every n is at most N
+abbrev pub Numbers : {s : Sort} → ℕ → Tree s → Type 0
+Numbers N (constant v) = Unit
+Numbers N (letter c) = Unit
+Numbers N (negation x) = Numbers N x
+Numbers N (pair l x y) = Numbers N x × Numbers N y
+Numbers N (duration x n) = n ≤ N
+Numbers N (throughout x) = Unit
+
 -- "n is decimal: `0`, or a digit 1 to 9 and any digits after it"; f bounds how many digits
 unfoldable pub decimalIn : ℕ → ℕ → List ℕ
 decimalIn zero n = []

@@ -1,0 +1,113 @@
+-- What acceptance says of the tree: each question was answered with yes, so the text reads, and the questions about letters, numbers
+-- and nodes found nothing in it.
+use mathlib.Core.Path.{_≡_, refl, sym, ap, _∙_}
+use mathlib.Core.Bool.{Bool, true, false, cond, _&&_}
+use mathlib.Core.List.{List, [], _∷_, _++_, map, flatMap}
+use Prim.Native.Nat.{ℕ, zero, suc, _+_, _-_, _≤_, _<_}
+use native.Mathlib.Decide.{decLt}
+use native.Mathlib.Omega.{arith}
+use lib.Dec.{leb, ltb}
+use lib.ListN.{length, drop, length-drop, length-map}
+use borrow.Author.Tests.{leb-true, le-leb, lt-ltb}
+use Rattle.refusal.specs.Asked.{question, asked}
+use Rattle.refusal.specs.declared.Reply.{Reply}
+use Rattle.refusal.specs.declared.Reply.the-variants.{Yes, No}
+use Rattle.interval.specs.Limits.{maxSteps, askSteps}
+use Rattle.grammar.specs.Limits.{maxLength, maxNodes, maxNumber, maxChannels}
+use Rattle.grammar.specs.Trees.{Tree, constant, letter, negation, pair, duration, throughout, Letters, Numbers, textOf}
+use Rattle.grammar.specs.Reader.{Read, tree, read}
+use Rattle.grammar.specs.declared.Sort.{Sort}
+use Rattle.grammar.specs.declared.Sort.the-variants.{Formula}
+use Rattle.grammar.proofs.Bytes.{ranged}
+use Rattle.formula.specs.Nodes.{Node, nodesOf, nodesRead, nodesIn}
+use Rattle.formula.specs.Questions.{atFirst, askChannels, askLength, askGrammar, outside, above, askLetters, askNumbers, askNodes, formulaQuestions, acceptOf}
+use Rattle.formula.proofs.Lists.{All, flat-append}
+use Rattle.formula.proofs.Found.{read-tree}
+
+-- a formula accepted for C and k
+pub record Accepted (C k : ℕ) (t : List ℕ) : Type 0 where
+  pub channels : (1 ≤ C) × (C ≤ maxChannels)
+  pub steps : k ≤ maxSteps
+  pub bytes : (1 ≤ length t) × (length t ≤ maxLength)
+  pub grammar : askGrammar t ≡ Yes
+  pub root : Tree Formula
+  pub reads : read t ≡ tree root
+  pub letters : Letters C root
+  pub numbers : Numbers maxNumber root
+  pub nodes : length (nodesOf root 0) ≤ maxNodes
+
+-- each was answered with yes
+all-yes : (q : List Reply) → asked q No Yes ≡ Yes → All (λ r. r ≡ Yes) q
+all-yes [] e = tt
+all-yes (Yes ∷ q) e = (refl, all-yes q e)
+all-yes (No p ∷ q) e = absurd (let z : _≡_ {A = ℕ} 0 1 = cc in omega arith)
+
+pub test-yes : (n p : ℕ) (c : Bool) → question n p c ≡ Yes → c ≡ true
+test-yes n p true e = refl
+test-yes n p false e = absurd (let z : _≡_ {A = ℕ} 0 1 = cc in omega arith)
+
+none-first : (n : ℕ) (l : List ℕ) → atFirst n l ≡ Yes → l ≡ []
+none-first n [] e = refl
+none-first n (p ∷ l) e = absurd (let z : _≡_ {A = ℕ} 0 1 = cc in omega arith)
+
+both-empty : (l m : List ℕ) → l ++ m ≡ [] → (l ≡ []) × (m ≡ [])
+both-empty [] m e = (refl, e)
+both-empty (p ∷ l) m e = absurd (let z : _≡_ {A = ℕ} 0 1 = cc in omega arith)
+
+none-append : (f : Node → List ℕ) (l m : List Node) → flatMap f (l ++ m) ≡ [] → (flatMap f l ≡ []) × (flatMap f m ≡ [])
+none-append f l m e = both-empty (flatMap f l) (flatMap f m) (sym (flat-append f l m) ∙ e)
+
+-- where a question finds nothing in a tree's nodes
+letters-in : (C : ℕ) {s : Sort} (x : Tree s) (at : ℕ) → flatMap (λ (w : Node). outside C (w .part) (w .first)) (nodesOf x at) ≡ [] → Letters C x
+unfolding nodesOf flatMap
+letters-in C (constant v) at e = tt
+letters-in C (letter c) at e = go (decLt c C)
+  where
+    go : Dec (c < C) → c < C
+    go (yes h) = h
+    go (no h) = absurd (let g = le-leb C c (omega arith) in let z : _≡_ {A = ℕ} 0 1 = cc in omega arith)
+letters-in C (negation x) at e = letters-in C x (suc at) e
+letters-in C (pair l x y) at e =
+    let w = none-append (λ (w : Node). outside C (w .part) (w .first)) (nodesOf x (suc at)) (nodesOf y (suc (suc at + length (textOf x)))) e in
+    (letters-in C x (suc at) (w .0), letters-in C y (suc (suc at + length (textOf x))) (w .1))
+letters-in C (duration x n) at e = letters-in C x (suc at) e
+letters-in C (throughout x) at e = letters-in C x (suc at) e
+
+numbers-in : {s : Sort} (x : Tree s) (at : ℕ) → flatMap (λ (w : Node). above (w .part) (w .first)) (nodesOf x at) ≡ [] → Numbers maxNumber x
+unfolding nodesOf flatMap
+numbers-in (constant v) at e = tt
+numbers-in (letter c) at e = tt
+numbers-in (negation x) at e = numbers-in x (suc at) e
+numbers-in (pair l x y) at e =
+    let w = none-append (λ (w : Node). above (w .part) (w .first)) (nodesOf x (suc at)) (nodesOf y (suc (suc at + length (textOf x)))) e in
+    (numbers-in x (suc at) (w .0), numbers-in y (suc (suc at + length (textOf x))) (w .1))
+numbers-in (duration x n) at e = go (decLt maxNumber n)
+  where
+    go : Dec (maxNumber < n) → n ≤ maxNumber
+    go (yes h) = absurd (let g = lt-ltb maxNumber n h in let z : _≡_ {A = ℕ} 0 1 = cc in omega arith)
+    go (no h) = omega arith
+numbers-in (throughout x) at e = tt
+
+pub nodes-read : (t : List ℕ) (f : Tree Formula) → read t ≡ tree f → nodesIn t ≡ nodesOf f 0
+unfolding nodesIn
+nodes-read t f e = ap nodesRead e
+
+-- what acceptance says
+pub accepted : (C k : ℕ) (t : List ℕ) → acceptOf C k t ≡ Yes → Accepted C k t
+unfolding acceptOf askChannels askSteps askLength askLetters askNumbers askNodes
+accepted C k t e =
+    let q = all-yes (formulaQuestions C k t) e in
+    let (f, r) = read-tree t (q .1 .1 .1 .0) in
+    let n = nodes-read t f r in
+    let firsts : List ℕ = map (λ (w : Node). w .first) (nodesIn t) in
+    record {
+      channels = ranged 1 maxChannels C (test-yes 1 0 _ (q .0));
+      steps = leb-true k maxSteps (test-yes 2 0 _ (q .1 .0));
+      bytes = ranged 1 maxLength (length t) (test-yes 3 0 _ (q .1 .1 .0));
+      grammar = q .1 .1 .1 .0;
+      root = f;
+      reads = r;
+      letters = letters-in C f 0 (ap (flatMap (λ (w : Node). outside C (w .part) (w .first))) (sym n) ∙ none-first 5 _ (q .1 .1 .1 .1 .0));
+      numbers = numbers-in f 0 (ap (flatMap (λ (w : Node). above (w .part) (w .first))) (sym n) ∙ none-first 6 _ (q .1 .1 .1 .1 .1 .0));
+      nodes = omega (arith, ap length n, ap length (none-first 7 (drop maxNodes firsts) (q .1 .1 .1 .1 .1 .1 .0)), length-drop maxNodes firsts, length-map (nodesIn t) (λ (w : Node). w .first));
+    }

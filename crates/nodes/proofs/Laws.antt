@@ -1,0 +1,159 @@
+-- An accepted text fits the table, and the rows found are its nodes'. The node of a number from 1 to the count stands in the text at its
+-- row's first byte, so its own text is that part, and it is what the node prints.
+use mathlib.Core.Path.{_≡_, refl, sym, ap, ap₂, _∙_, subst}
+use mathlib.Core.Bool.{Bool, true, false, _&&_}
+use mathlib.Core.List.{List, [], _∷_, _++_, map}
+use Prim.Native.Nat.{ℕ, zero, suc, _+_, _-_, _≤_, _<_}
+use native.Mathlib.Omega.{arith}
+use lib.Dec.{leb}
+use lib.ListN.{length, getD, take, drop, length-map, List·getD-append}
+use lib.Seq.{take-all}
+use Rattle.refusal.specs.Asked.{question, asked}
+use Rattle.refusal.specs.declared.Refusal.{Refusal}
+use Rattle.refusal.specs.declared.Reply.{Reply}
+use Rattle.refusal.specs.declared.Reply.the-variants.{Yes, No}
+use Rattle.refusal.proofs.Laws.{asked-append, replied-yes, replied-no}
+use Rattle.grammar.specs.Limits.{maxLength, maxNodes}
+use Rattle.grammar.specs.Trees.{textOf}
+use Rattle.grammar.proofs.Bytes.{ranged}
+use Rattle.scan.specs.Scans.{scan, startAt, foundIn}
+use Rattle.scan.specs.declared.Ask.the-variants.{Nodes}
+use Rattle.formula.specs.Nodes.{Node, nodesOf, nodesIn}
+use Rattle.formula.specs.Questions.{formulaQuestions, acceptOf}
+use Rattle.formula.proofs.Lists.{All, flat-map}
+use Rattle.formula.proofs.Standing.{Stands, StandsNode, all-stand, end-within, text-is}
+use Rattle.formula.proofs.Found.{root-stands, found-in}
+use Rattle.formula.proofs.Asked.{asked-one}
+use Rattle.formula.proofs.Laws.{Accepted, accepted, nodes-read, test-yes}
+use Rattle.rows.specs.Table.{rowOf, padded, tableOf}
+use Rattle.rows.specs.Rows.{startsIn, rowsAt}
+use Rattle.rows.specs.declared.Row.{Row}
+use Rattle.rows.specs.declared.NodeTable.{NodeTable}
+use Rattle.rows.proofs.Rows.{rows-found}
+use Rattle.nodes.specs.Calls.{tabledOf, askNode, nodeQuestions, partOf, nodeTextOf, nodeRefusalOf}
+
+module _ (C k : ℕ) (t : List ℕ) where
+  pub table-refused : (n : NodeTable) (r : Refusal) → acceptOf C k t ≡ No r → n ≡ tableOf [] → record { reply = No r; table = n } ≡ tabledOf C k t
+  unfolding tabledOf acceptOf
+  table-refused n r e f = ap (λ (n : NodeTable). record { reply = No r; table = n }) f ∙ sym (replied-no (λ r. record { reply = No r; table = tableOf [] }) _ (formulaQuestions C k t) r e)
+
+  module _ (e : acceptOf C k t ≡ Yes) where
+    firsts-found : foundIn Nodes t ≡ map (λ (w : Node). w .first) (nodesIn t)
+    firsts-found = found-in t Nodes (accepted C k t e .grammar) ∙ flat-map (λ (w : Node). w .first) (nodesIn t)
+
+    count-found : length (foundIn Nodes t) ≡ length (nodesIn t)
+    count-found = ap length firsts-found ∙ length-map (nodesIn t) (λ (w : Node). w .first)
+
+    pub fits : (length t ≤ maxLength) × (length (foundIn Nodes t) ≤ maxNodes)
+    fits = let a = accepted C k t e in (a .bytes .1, omega (arith, a .nodes, count-found, ap length (nodes-read t (a .root) (a .reads))))
+
+    pub table-made : (n : NodeTable) → n ≡ tableOf (rowsAt t 0 (foundIn Nodes t)) → record { reply = Yes; table = n } ≡ tabledOf C k t
+    unfolding tabledOf acceptOf
+    table-made n f =
+        ap (λ (n : NodeTable). record { reply = Yes; table = n }) (f ∙ ap tableOf (rows-found C k t (accepted C k t e)))
+        ∙ sym (replied-yes (λ r. record { reply = No r; table = tableOf [] }) _ (formulaQuestions C k t) e)
+
+    pub count-is : startsIn t 0 (length t) ≡ length (nodesIn t)
+    unfolding foundIn
+    count-is = ap (λ (q : List ℕ). length (scan startAt q 0)) (take-all (length t - 0) t (omega arith)) ∙ count-found
+
+-- questions 1 to 7, then 8
+yes-both : (q : List Reply) (z : Reply) → asked q No z ≡ Yes → (asked q No Yes ≡ Yes) × (z ≡ Yes)
+yes-both [] z e = (refl, e)
+yes-both (Yes ∷ q) z e = yes-both q z e
+yes-both (No r ∷ q) z e = absurd (let z : _≡_ {A = ℕ} 0 1 = cc in omega arith)
+
+module _ (C k x : ℕ) (t : List ℕ) where
+  refusal-is : nodeRefusalOf C k x t ≡ asked (formulaQuestions C k t) No (askNode x t)
+  unfolding nodeRefusalOf
+  refusal-is = asked-append No Yes (formulaQuestions C k t) (askNode x t ∷ []) ∙ ap (asked (formulaQuestions C k t) No) (asked-one (askNode x t))
+
+  pub refused-early : (r : Refusal) → acceptOf C k t ≡ No r → No r ≡ nodeRefusalOf C k x t
+  unfolding acceptOf
+  refused-early r e = sym (refusal-is ∙ replied-no No (askNode x t) (formulaQuestions C k t) r e)
+
+  pub refused-last : acceptOf C k t ≡ Yes → nodeRefusalOf C k x t ≡ askNode x t
+  unfolding acceptOf
+  refused-last e = refusal-is ∙ replied-yes No (askNode x t) (formulaQuestions C k t) e
+
+  pub text-refused : (r : Refusal) → nodeRefusalOf C k x t ≡ No r → [] ≡ nodeTextOf C k x t
+  unfolding nodeTextOf nodeRefusalOf
+  text-refused r e = sym (replied-no (λ r. []) _ (nodeQuestions C k x t) r e)
+
+-- the node of a number
+node-after : (t : List ℕ) (l : List Node) (i : ℕ) → All (StandsNode t) l → i < length l → (w : Node) × StandsNode t w × (m : List Node) × (drop i l ≡ w ∷ m)
+node-after t [] i a h = absurd (omega arith)
+node-after t (w ∷ l) zero a h = (w, a .0, l, refl)
+node-after t (w ∷ l) (suc i) a h = node-after t l i (a .1) (omega arith)
+
+entry-after : (f : Node → ℕ) (l m : List Node) (i : ℕ) (w : Node) → drop i l ≡ w ∷ m → (i < length (map f l)) × (getD (map f l) i 0 ≡ f w)
+entry-after f [] m zero w e = absurd (let z : _≡_ {A = ℕ} 0 1 = cc in omega arith)
+entry-after f [] m (suc i) w e = absurd (let z : _≡_ {A = ℕ} 0 1 = cc in omega arith)
+entry-after f (v ∷ l) m zero w e = let h : v ≡ w = cc in (omega arith, ap f h)
+entry-after f (v ∷ l) m (suc i) w e = let g = entry-after f l m i w e in (omega (arith, g .0), g .1)
+
+-- a field of its row
+field-after : (g : Row → ℕ) (l m : List Node) (i : ℕ) (w : Node) → drop i l ≡ w ∷ m → getD (padded (map g (map rowOf l))) i 0 ≡ g (rowOf w)
+field-after g l m i w e =
+    let h = entry-after (λ (w : Node). g (rowOf w)) l m i w e in
+    let n : map g (map rowOf l) ≡ map (λ (w : Node). g (rowOf w)) l = map-map l in
+    ap (λ (q : List ℕ). getD (padded q) i 0) n ∙ List·getD-append (map (λ (w : Node). g (rowOf w)) l) _ 0 i (h .0) ∙ h .1
+  where
+    map-map : (l : List Node) → map g (map rowOf l) ≡ map (λ (w : Node). g (rowOf w)) l
+    map-map [] = refl
+    map-map (w ∷ l) = ap (λ (q : List ℕ). g (rowOf w) ∷ q) (map-map l)
+
+-- the node x of an accepted text
+pub record Chosen (t : List ℕ) (x : ℕ) : Type 0 where
+  pub chosen : Node
+  pub stands : StandsNode t chosen
+  pub later : List Node
+  pub is : drop (x - 1) (nodesIn t) ≡ chosen ∷ later
+
+module _ (C k x : ℕ) (t : List ℕ) (e : nodeRefusalOf C k x t ≡ Yes) where
+  pub both-yes : (acceptOf C k t ≡ Yes) × (askNode x t ≡ Yes)
+  unfolding acceptOf
+  both-yes = yes-both (formulaQuestions C k t) (askNode x t) (sym (refusal-is C k x t) ∙ e)
+
+  pub numbered : (1 ≤ x) × (x ≤ length (nodesIn t))
+  unfolding askNode
+  numbered = ranged 1 (length (nodesIn t)) x (test-yes 8 0 _ (both-yes .1))
+
+  pub chosen : Chosen t x
+  chosen =
+      let a = accepted C k t (both-yes .0) in
+      let n = nodes-read t (a .root) (a .reads) in
+      let s : All (StandsNode t) (nodesIn t) = subst (All (StandsNode t)) (sym n) (all-stand t (a .root) 0 (root-stands t (a .root) (a .reads))) in
+      let (w, s, m, d) = node-after t (nodesIn t) (x - 1) s (omega (arith, numbered)) in
+      record { chosen = w; stands = s; later = m; is = d }
+
+  pub index-fits : x - 1 < maxNodes
+  index-fits = omega (arith, numbered, fits C k t (both-yes .0), count-found C k t (both-yes .0))
+
+  text-made : take (length (textOf (chosen .chosen .part))) (drop (chosen .chosen .first) t) ≡ nodeTextOf C k x t
+  unfolding nodeTextOf nodeRefusalOf
+  text-made = sym (replied-yes (λ r. []) _ (nodeQuestions C k x t) e ∙ ap (partOf t) (chosen .is))
+
+  -- what the table has of it
+  module _ (n : NodeTable) (f : n ≡ tableOf (rowsAt t 0 (foundIn Nodes t))) where
+    table-rows : n ≡ tableOf (map rowOf (nodesIn t))
+    table-rows = f ∙ ap tableOf (rows-found C k t (accepted C k t (both-yes .0)))
+
+    first-field : getD (n .firsts) (x - 1) 0 ≡ chosen .chosen .first
+    unfolding tableOf
+    first-field = ap (λ (n : NodeTable). getD (n .firsts) (x - 1) 0) table-rows ∙ field-after (λ (r : Row). r .first) (nodesIn t) (chosen .later) (x - 1) (chosen .chosen) (chosen .is)
+
+    length-field : getD (n .lengths) (x - 1) 0 ≡ length (textOf (chosen .chosen .part))
+    unfolding tableOf
+    length-field = ap (λ (n : NodeTable). getD (n .lengths) (x - 1) 0) table-rows ∙ field-after (λ (r : Row). r .length) (nodesIn t) (chosen .later) (x - 1) (chosen .chosen) (chosen .is)
+
+    pub text-cut : (a b : ℕ) → a ≡ getD (n .firsts) (x - 1) 0 → b ≡ getD (n .lengths) (x - 1) 0 → (a + b ≤ length t) × (take (a + b - a) (drop a t) ≡ nodeTextOf C k x t)
+    text-cut a b p q =
+        let u : a ≡ chosen .chosen .first = p ∙ first-field in
+        let v : b ≡ length (textOf (chosen .chosen .part)) = q ∙ length-field in
+        let w : a + b - a ≡ length (textOf (chosen .chosen .part)) = omega arith in
+        (omega (arith, end-within t (chosen .chosen .part) (chosen .chosen .first) (chosen .stands)), ap₂ (λ (m i : ℕ). take m (drop i t)) w u ∙ text-made)
+
+  -- a node's own text is what its subtree prints
+  pub own-text : nodeTextOf C k x t ≡ textOf (chosen .chosen .part)
+  own-text = sym text-made ∙ text-is t (chosen .chosen .part) (chosen .chosen .first) (chosen .stands)

@@ -1,0 +1,42 @@
+-- Document 01, "Formula text": the nodes of an accepted text, and a node's own text; question 8.
+use mathlib.Core.Bool.{_&&_}
+use mathlib.Core.List.{List, [], _∷_, _++_, map}
+use Prim.Native.Nat.{ℕ, _-_}
+use lib.Dec.{leb}
+use lib.ListN.{length, take, drop}
+use Rattle.refusal.specs.Asked.{question, asked}
+use Rattle.refusal.specs.declared.Refusal.{Refusal}
+use Rattle.refusal.specs.declared.Reply.{Reply}
+use Rattle.refusal.specs.declared.Reply.the-variants.{Yes, No}
+use Rattle.grammar.specs.Trees.{textOf}
+use Rattle.formula.specs.Nodes.{Node, nodesIn}
+use Rattle.formula.specs.Questions.{formulaQuestions}
+use Rattle.rows.specs.Table.{rowOf, tableOf}
+use Rattle.nodes.specs.declared.Tabled.{Tabled}
+
+-- the table of an accepted text; no nodes where refused
+unfoldable pub tabledOf : ℕ → ℕ → List ℕ → Tabled
+tabledOf C k t = asked (formulaQuestions C k t)
+    (λ (r : Refusal). record { reply = No r; table = tableOf [] })
+    (record { reply = Yes; table = tableOf (map rowOf (nodesIn t)) })
+
+-- question 8: is the node number from 1 to the node count?
+unfoldable pub askNode : ℕ → List ℕ → Reply
+askNode x t = question 8 0 (leb 1 x && leb x (length (nodesIn t)))
+
+-- "Node text asks 1 to 8"
+abbrev pub nodeQuestions : ℕ → ℕ → ℕ → List ℕ → List Reply
+nodeQuestions C k x t = formulaQuestions C k t ++ askNode x t ∷ []
+
+-- "a node's own text is handed back as that part of the lent text, the empty part where refused": from its first byte, as
+-- many bytes as its subtree prints; the law `own-text` says that they are what it prints
+abbrev pub partOf : List ℕ → List Node → List ℕ
+partOf t [] = []
+partOf t (w ∷ l) = take (length (textOf (w .part))) (drop (w .first) t)
+
+unfoldable pub nodeTextOf : ℕ → ℕ → ℕ → List ℕ → List ℕ
+nodeTextOf C k x t = asked (nodeQuestions C k x t) (λ (r : Refusal). []) (partOf t (drop (x - 1) (nodesIn t)))
+
+-- "a second call on the same values gives the number and place"
+unfoldable pub nodeRefusalOf : ℕ → ℕ → ℕ → List ℕ → Reply
+nodeRefusalOf C k x t = asked (nodeQuestions C k x t) No Yes
