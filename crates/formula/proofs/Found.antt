@@ -1,31 +1,28 @@
 -- What questions 5 to 7 find in the bytes of a text that reads is what its tree has: a scan meets the nodes in their order, and at
 -- each node its first byte, and for a duration the number after it, tell what the tree's question asks.
-use mathlib.Core.Path.{_≡_, refl, sym, ap, _∙_, subst}
-use mathlib.Core.Bool.{Bool, true, false, cond, _&&_}
-use mathlib.Core.List.{List, [], _∷_, _++_, append-nil, map, flatMap}
-use Prim.Native.Nat.{ℕ, zero, suc, _+_, _-_, _≤_, _<_}
+use mathlib.Core.Path.{_≡_, refl, sym, ap, _∙_}
+use mathlib.Core.Bool.{Bool, true, false, cond}
+use mathlib.Core.List.{List, [], _∷_, append-nil, map, flatMap}
+use Prim.Native.Nat.{ℕ, _+_, _-_, _<_}
 use native.Mathlib.Decide.{decLt}
 use native.Mathlib.Omega.{arith}
-use lib.Dec.{eqb, leb, ltb}
-use lib.ListN.{length, getD, take, drop, replicate}
-use borrow.Author.Tests.{ne-eqb, lt-leb, le-leb, lt-ltb, le-ltb}
-use Rattle.refusal.specs.Asked.{question, asked}
-use Rattle.refusal.specs.declared.Reply.{Reply}
-use Rattle.refusal.specs.declared.Reply.the-variants.{Yes, No}
+use lib.Dec.{eqb, ltb}
+use lib.ListN.{getD, drop}
+use borrow.Author.Tests.{ne-eqb, lt-leb, le-leb, lt-ltb}
+use Rattle.refusal.specs.declared.Reply.the-variants.{Yes}
 use Rattle.grammar.specs.Limits.{maxNumber, maxNodes}
-use Rattle.grammar.specs.Trees.{Link, and, or, chop, Tree, constant, letter, negation, pair, duration, throughout, Letters, write, textOf, linkByte}
+use Rattle.grammar.specs.Trees.{Link, and, or, chop, Tree, constant, letter, negation, pair, duration, throughout, Letters, textOf, linkByte}
 use Rattle.grammar.specs.Reader.{isLetter, isStart, Read, tree, stopped, read}
 use Rattle.grammar.specs.declared.Sort.{Sort}
-use Rattle.grammar.specs.declared.Sort.the-variants.{State, Formula}
-use Rattle.grammar.proofs.Bytes.{at-each, ranged}
+use Rattle.grammar.specs.declared.Sort.the-variants.{Formula}
+use Rattle.grammar.proofs.Bytes.{at-each}
 use Rattle.grammar.proofs.Laws.{prints-as-text}
 use Rattle.formula.specs.Nodes.{Node, nodesOf, nodesRead, nodesIn}
 use Rattle.formula.specs.Questions.{atFirst, onRead, askGrammar, outside, above, askLetters, askNumbers, askNodes}
-use Rattle.scan.specs.Scans.{scan, startAt, isOutside, outsideAt, limited, digitOf, numberOf, aboveAt, answersAt, foundIn, listOf}
+use Rattle.scan.specs.Scans.{scan, startAt, isOutside, outsideAt, limited, digitOf, numberOf, aboveAt, answersAt, foundIn}
 use Rattle.scan.specs.declared.Ask.{Ask}
 use Rattle.scan.specs.declared.Ask.the-variants.{Letters as AskLetters, Numbers, Nodes}
-use Rattle.scan.specs.declared.Hit.{Hit}
-use Rattle.formula.proofs.Lists.{All, all-map, flat-same, flat-map}
+use Rattle.formula.proofs.Lists.{all-map, flat-same, flat-map}
 use Rattle.formula.proofs.Scan.{firstByte, Quiet, scan-tree}
 use Rattle.formula.proofs.Standing.{Stands, StandsNode, all-stand, digit-place, number-is}
 

@@ -1,12 +1,11 @@
 -- What acceptance says of the tree: each question was answered with yes, so the text reads, and the questions about letters, numbers
 -- and nodes found nothing in it.
-use mathlib.Core.Path.{_≡_, refl, sym, ap, _∙_}
-use mathlib.Core.Bool.{Bool, true, false, cond, _&&_}
+use mathlib.Core.Path.{_≡_, refl, sym, ap, _∙_, subst}
+use mathlib.Core.Bool.{Bool, true, false, cond}
 use mathlib.Core.List.{List, [], _∷_, _++_, map, flatMap}
-use Prim.Native.Nat.{ℕ, zero, suc, _+_, _-_, _≤_, _<_}
+use Prim.Native.Nat.{ℕ, suc, _+_, _≤_, _<_}
 use native.Mathlib.Decide.{decLt}
 use native.Mathlib.Omega.{arith}
-use lib.Dec.{leb, ltb}
 use lib.ListN.{length, drop, length-drop, length-map}
 use borrow.Author.Tests.{leb-true, le-leb, lt-ltb}
 use Rattle.refusal.specs.Asked.{question, asked}
@@ -15,14 +14,16 @@ use Rattle.refusal.specs.declared.Reply.the-variants.{Yes, No}
 use Rattle.interval.specs.Limits.{maxSteps, askSteps}
 use Rattle.grammar.specs.Limits.{maxLength, maxNodes, maxNumber, maxChannels}
 use Rattle.grammar.specs.Trees.{Tree, constant, letter, negation, pair, duration, throughout, Letters, Numbers, textOf}
-use Rattle.grammar.specs.Reader.{Read, tree, read}
+use Rattle.grammar.specs.Reader.{isStart, tree, read}
 use Rattle.grammar.specs.declared.Sort.{Sort}
 use Rattle.grammar.specs.declared.Sort.the-variants.{Formula}
 use Rattle.grammar.proofs.Bytes.{ranged}
+use Rattle.scan.specs.Scans.{scan, startAt, foundIn}
+use Rattle.scan.specs.declared.Ask.the-variants.{Nodes}
 use Rattle.formula.specs.Nodes.{Node, nodesOf, nodesRead, nodesIn}
 use Rattle.formula.specs.Questions.{atFirst, askChannels, askLength, askGrammar, outside, above, askLetters, askNumbers, askNodes, formulaQuestions, acceptOf}
-use Rattle.formula.proofs.Lists.{All, flat-append}
-use Rattle.formula.proofs.Found.{read-tree}
+use Rattle.formula.proofs.Lists.{All, flat-append, flat-map}
+use Rattle.formula.proofs.Found.{read-tree, found-in}
 
 -- a formula accepted for C and k
 pub record Accepted (C k : ℕ) (t : List ℕ) : Type 0 where
@@ -111,3 +112,26 @@ accepted C k t e =
       numbers = numbers-in f 0 (ap (flatMap (λ (w : Node). above (w .part) (w .first))) (sym n) ∙ none-first 6 _ (q .1 .1 .1 .1 .1 .0));
       nodes = omega (arith, ap length n, ap length (none-first 7 (drop maxNodes firsts) (q .1 .1 .1 .1 .1 .1 .0)), length-drop maxNodes firsts, length-map (nodesIn t) (λ (w : Node). w .first));
     }
+
+-- places one behind the other, from a place on
+abbrev pub Rising : ℕ → List ℕ → Type 0
+Rising at [] = Unit
+Rising at (p ∷ l) = (at ≤ p) × Rising (suc p) l
+
+rising-later : (at : ℕ) (l : List ℕ) → Rising (suc at) l → Rising at l
+rising-later at [] w = tt
+rising-later at (p ∷ l) w = (omega (arith, w .0), w .1)
+
+rising-scan : (t : List ℕ) (at : ℕ) → Rising at (scan startAt t at)
+unfolding scan
+rising-scan [] at = tt
+rising-scan (b ∷ t) at = go (isStart b) (rising-scan t (suc at))
+  where
+    go : (c : Bool) → Rising (suc at) (scan startAt t (suc at)) → Rising at (cond c (at ∷ []) [] ++ scan startAt t (suc at))
+    go true w = (omega arith, w)
+    go false w = rising-later at (scan startAt t (suc at)) w
+
+-- the nodes stand in the order of their first bytes
+pub nodes-in-order : (t : List ℕ) → askGrammar t ≡ Yes → Rising 0 (map (λ (w : Node). w .first) (nodesIn t))
+unfolding foundIn
+nodes-in-order t e = subst (Rising 0) (found-in t Nodes e ∙ flat-map (λ (w : Node). w .first) (nodesIn t)) (rising-scan t 0)

@@ -1,6 +1,6 @@
 -- Lists joined from lists, and what holds of every entry: both go by cases on the list.
 use mathlib.Core.Path.{_≡_, refl, sym, ap, ap₂, _∙_}
-use mathlib.Core.List.{List, [], _∷_, _++_, append-assoc, append-nil, map, flatMap}
+use mathlib.Core.List.{List, [], _∷_, _++_, append-assoc, map, flatMap}
 
 abbrev pub All : {A : Type 0} → (A → Type 0) → List A → Type 0
 All P [] = Unit

@@ -1,9 +1,8 @@
 -- Going through the bytes of a printed tree and answering at first bytes only, one meets the nodes in their order: what stands
 -- within a node beside its parts is a sign, a link or a digit, and none of these begins a node.
-use mathlib.Core.Path.{_≡_, refl, sym, ap, ap₂, _∙_}
-use mathlib.Core.Bool.{Bool, true, false, cond}
-use mathlib.Core.List.{List, [], _∷_, _++_, append-assoc, append-nil, flatMap}
-use Prim.Native.Nat.{ℕ, zero, suc, _+_, _*_, _<_}
+use mathlib.Core.Path.{_≡_, sym, ap, _∙_}
+use mathlib.Core.List.{List, [], _∷_, _++_, append-assoc, flatMap}
+use Prim.Native.Nat.{ℕ, suc, _+_, _<_}
 use native.Mathlib.Omega.{arith}
 use lib.ListN.{length, length-append}
 use Rattle.grammar.specs.Trees.{Link, Tree, constant, letter, negation, pair, duration, throughout, decimal, linkByte, constantByte, write, textOf}

@@ -1,19 +1,17 @@
 -- Each node of a printed tree stands at its place: from there on the text is the node's own and a rest that begins with no digit.
 -- So reading the part from there on ends at its last byte, and what is told of a node by its place is the node's.
 use mathlib.Core.Path.{_≡_, refl, sym, ap, _∙_}
-use mathlib.Core.Bool.{Bool, true, false, cond}
 use mathlib.Core.List.{List, [], _∷_, _++_, append-assoc}
-use Prim.Native.Nat.{ℕ, zero, suc, _+_, _*_, _-_, _≤_, _<_}
+use Prim.Native.Nat.{ℕ, suc, _+_, _*_, _-_, _≤_, _<_}
 use native.Mathlib.Decide.{decLt}
 use native.Mathlib.Nat.{add-zero}
 use native.Mathlib.Omega.{arith}
 use native.Mathlib.Numerals.{add-one}
-use lib.Dec.{ltb}
 use lib.ListN.{length, getD, take, drop, length-drop}
 use lib.Seq.{take-append-seam, getD-drop}
 use borrow.Author.Tests.{le-leb, lt-leb}
 use Rattle.grammar.specs.Trees.{Link, Tree, constant, letter, negation, pair, duration, throughout, Letters, decimal, linkByte, constantByte, write, textOf}
-use Rattle.grammar.specs.Reader.{whole, part, run, isDigit}
+use Rattle.grammar.specs.Reader.{whole, part, run}
 use Rattle.grammar.specs.declared.Sort.{Sort}
 use Rattle.grammar.specs.declared.Sort.the-variants.{State}
 use Rattle.grammar.proofs.Bytes.{Clear, link-clear, digit-is}
@@ -22,7 +20,7 @@ use Rattle.grammar.proofs.Printed.{part-read}
 use Rattle.grammar.proofs.Written.{write-text, length-write, drop-byte, drop-part}
 use Rattle.reader.specs.Parts.{restOf, endOf}
 use Rattle.reader.proofs.Parts.{rest-whole, in-place}
-use Rattle.formula.specs.Nodes.{Node, node, nodesOf}
+use Rattle.formula.specs.Nodes.{Node, nodesOf}
 use Rattle.grammar.specs.Limits.{maxNumber}
 use Rattle.scan.specs.Scans.{limited, numberFrom, digitOf, numberOf}
 use Rattle.formula.proofs.Lists.{All, all-append}

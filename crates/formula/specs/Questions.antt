@@ -1,7 +1,7 @@
 -- Document 01, "Questions in order", 1 to 7: when a formula is accepted for C and k.
 use mathlib.Core.Bool.{cond, _&&_}
 use mathlib.Core.List.{List, [], _∷_, map, flatMap}
-use Prim.Native.Nat.{ℕ, suc, _+_}
+use Prim.Native.Nat.{ℕ, _+_}
 use lib.Dec.{leb, ltb}
 use lib.ListN.{length, drop}
 use Rattle.refusal.specs.Asked.{question, asked}

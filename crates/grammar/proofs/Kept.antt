@@ -1,13 +1,13 @@
 -- A reading says which bytes it has taken, and each step adds its byte to them: so what it reads prints as the text. Every reading
 -- can be completed, and where it stops at a byte it stops there whatever follows: so no grammatical text goes on with that byte.
-use mathlib.Core.Path.{_≡_, refl, sym, ap, ap₂, _∙_, subst}
-use mathlib.Core.Bool.{Bool, true, false, cond}
+use mathlib.Core.Path.{_≡_, refl, sym, ap, _∙_}
+use mathlib.Core.Bool.{true, cond}
 use mathlib.Core.List.{List, [], _∷_, _++_, append-assoc}
-use Prim.Native.Nat.{ℕ, zero, suc, _+_, _*_, _-_, _≤_, _<_}
+use Prim.Native.Nat.{ℕ, _+_, _-_, _<_}
 use native.Mathlib.Omega.{arith}
 use lib.Dec.{eqb}
 use borrow.Author.Tests.{eqb-true, eqb-false}
-use Rattle.grammar.specs.Trees.{Link, and, or, chop, Tree, constant, letter, negation, pair, duration, throughout, Letters, decimal, linkByte, write, textOf}
+use Rattle.grammar.specs.Trees.{and, Tree, constant, negation, pair, duration, throughout, Letters, decimal, linkByte, write, textOf}
 use Rattle.grammar.specs.Reader.{Around, whole, negated, left, right, measured, entered, Reading, part, after, above, equals, digits, Next, go, stop, Outcome, reads, stops, isLetter, isDigit, ownLead, leadOf, leafOf, begin, ownJoint, jointOf, join, follow, next, endAfter, ended, onward, run}
 use Rattle.grammar.specs.declared.Sort.{Sort}
 use Rattle.grammar.specs.declared.Sort.the-variants.{State, Formula}

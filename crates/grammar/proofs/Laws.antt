@@ -1,11 +1,11 @@
 -- What the reader is: it reads back what is printed, what it reads prints as the text, and its stopping place is question 4's. The
 -- three follow from reading a printed part (Printed) and from what each outcome says (Kept).
 use mathlib.Core.Path.{_≡_, refl, sym, ap, _∙_, subst}
-use mathlib.Core.List.{List, [], _∷_, _++_, append-assoc, append-nil}
-use Prim.Native.Nat.{ℕ, suc, _+_, _-_, _≤_, _<_}
+use mathlib.Core.List.{List, [], _∷_, _++_, append-assoc}
+use Prim.Native.Nat.{ℕ, suc, _+_, _-_, _<_}
 use native.Mathlib.Omega.{arith}
 use lib.ListN.{length, take, drop, length-append, take-append-drop}
-use lib.Seq.{take-at, take-take, take-all, take-append-add}
+use lib.Seq.{take-at, take-take, take-all}
 use Rattle.grammar.specs.Trees.{Tree, Letters, textOf, Begins, Place}
 use Rattle.grammar.specs.Reader.{whole, part, Outcome, reads, stops, run, Read, tree, stopped, placed, read}
 use Rattle.grammar.specs.declared.Sort.the-variants.{Formula}
@@ -20,6 +20,13 @@ prints-as-text t f e = go (run (part Formula whole) t) (meant t (part Formula wh
     go : (o : Outcome Formula) → Meant (part Formula whole) t o → placed t o ≡ tree f → Letters 8 f × (textOf f ≡ t)
     go (reads x) m g = let h : x ≡ f = cc in subst (λ (y : Tree Formula). Letters 8 y × (textOf y ≡ t)) h (m .0, sym (m .1))
     go (stops q) m g = absurd (let z : _≡_ {A = ℕ} 0 1 = cc in omega arith)
+
+-- no text has two readings
+pub one-reading : (f g : Tree Formula) → Letters 8 f → Letters 8 g → textOf f ≡ textOf g → f ≡ g
+one-reading f g u v e = same (sym (reads-back f u) ∙ ap read e ∙ reads-back g v)
+  where
+    same : _≡_ {A = Read Formula} (tree f) (tree g) → f ≡ g
+    same e = ap (λ (o : Read Formula). elim o [ tree x ↦ x | stopped p ↦ f ]) e
 
 begins-shorter : (n : ℕ) (t : List ℕ) → Begins t → Begins (take n t)
 begins-shorter n t (f, w, q, e) = (f, w, drop n t ++ q, e ∙ ap (λ (u : List ℕ). u ++ q) (sym (take-append-drop n t)) ∙ append-assoc (take n t) (drop n t) q)
@@ -51,7 +58,7 @@ module _ (t q : List ℕ) (s : Stopped (part Formula whole) t q) where
       let n : length (s .before ++ b ∷ []) ≡ suc place = omega (arith, at-place, length-append (s .before) (b ∷ [])) in
       let h : take (suc place) t ≡ s .before ++ b ∷ [] =
       ap (take (suc place)) (s .is ∙ ap (λ (u : List ℕ). s .before ++ u) e ∙ sym (append-assoc (s .before) (b ∷ []) r)) ∙ take-at (s .before ++ b ∷ []) r (suc place) n in
-      no-stop f (length (textOf f) - length (b ∷ on)) w
+      no-stop f _ w
       (ap (placed (textOf f)) (ap (run (part Formula whole)) (g ∙ ap (λ (u : List ℕ). u ++ on) h ∙ append-assoc (s .before) (b ∷ []) on) ∙ s .never b r on e))
 
 whole-taken : (t : List ℕ) → take (length t - 0) t ≡ t

@@ -1,12 +1,12 @@
 -- The reader takes a printed part byte by byte: each byte of the printer is the one that the reader's step asks for, so it
 -- comes to the part's end with the part in hand. Only a number could go on; what stands after a part begins with no digit.
 use mathlib.Core.Path.{_≡_, refl, ap, _∙_}
-use mathlib.Core.Bool.{Bool, true, false, cond}
+use mathlib.Core.Bool.{Bool, true, false}
 use mathlib.Core.List.{List, [], _∷_, _++_, append-assoc}
 use Prim.Native.Nat.{ℕ, zero, suc, _+_, _*_, _-_, _<_}
 use native.Mathlib.Omega.{arith}
 use Rattle.grammar.specs.Trees.{Link, and, or, chop, Tree, constant, letter, negation, pair, duration, throughout, Letters, decimal, linkByte, constantByte, write, textOf}
-use Rattle.grammar.specs.Reader.{Around, whole, negated, left, right, measured, entered, Reading, part, after, above, equals, digits, go, Next, stop, next, join, jointOf, follow, endAfter, onward, run, Read, tree, placed, read, isDigit}
+use Rattle.grammar.specs.Reader.{Around, whole, negated, left, right, measured, entered, Reading, part, after, above, equals, digits, go, next, join, jointOf, follow, endAfter, onward, run, tree, placed, read}
 use Rattle.grammar.specs.declared.Sort.{Sort}
 use Rattle.grammar.specs.declared.Sort.the-variants.{State, Formula}
 use Rattle.grammar.proofs.Decimal.{decimal-digit, decimal-more, by-digits}

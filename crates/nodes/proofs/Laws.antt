@@ -1,14 +1,12 @@
 -- An accepted text fits the table, and the rows found are its nodes'. The node of a number from 1 to the count stands in the text at its
 -- row's first byte, so its own text is that part, and it is what the node prints.
 use mathlib.Core.Path.{_≡_, refl, sym, ap, ap₂, _∙_, subst}
-use mathlib.Core.Bool.{Bool, true, false, _&&_}
-use mathlib.Core.List.{List, [], _∷_, _++_, map}
+use mathlib.Core.List.{List, [], _∷_, map}
 use Prim.Native.Nat.{ℕ, zero, suc, _+_, _-_, _≤_, _<_}
 use native.Mathlib.Omega.{arith}
-use lib.Dec.{leb}
 use lib.ListN.{length, getD, take, drop, length-map, List·getD-append}
 use lib.Seq.{take-all}
-use Rattle.refusal.specs.Asked.{question, asked}
+use Rattle.refusal.specs.Asked.{asked}
 use Rattle.refusal.specs.declared.Refusal.{Refusal}
 use Rattle.refusal.specs.declared.Reply.{Reply}
 use Rattle.refusal.specs.declared.Reply.the-variants.{Yes, No}
@@ -18,13 +16,13 @@ use Rattle.grammar.specs.Trees.{textOf}
 use Rattle.grammar.proofs.Bytes.{ranged}
 use Rattle.scan.specs.Scans.{scan, startAt, foundIn}
 use Rattle.scan.specs.declared.Ask.the-variants.{Nodes}
-use Rattle.formula.specs.Nodes.{Node, nodesOf, nodesIn}
+use Rattle.formula.specs.Nodes.{Node, nodesIn}
 use Rattle.formula.specs.Questions.{formulaQuestions, acceptOf}
 use Rattle.formula.proofs.Lists.{All, flat-map}
-use Rattle.formula.proofs.Standing.{Stands, StandsNode, all-stand, end-within, text-is}
+use Rattle.formula.proofs.Standing.{StandsNode, all-stand, end-within, text-is}
 use Rattle.formula.proofs.Found.{root-stands, found-in}
 use Rattle.formula.proofs.Asked.{asked-one}
-use Rattle.formula.proofs.Laws.{Accepted, accepted, nodes-read, test-yes}
+use Rattle.formula.proofs.Laws.{accepted, nodes-read, test-yes}
 use Rattle.rows.specs.Table.{rowOf, padded, tableOf}
 use Rattle.rows.specs.Rows.{startsIn, rowsAt}
 use Rattle.rows.specs.declared.Row.{Row}

@@ -3,7 +3,7 @@
 use mathlib.Core.Path.{_≡_, refl, sym, ap, _∙_, subst}
 use mathlib.Core.Bool.{Bool, true, false, cond}
 use mathlib.Core.List.{List, [], _∷_}
-use Prim.Native.Nat.{ℕ, zero, suc, _+_, _*_, _-_, _≤_, _<_}
+use Prim.Native.Nat.{ℕ, suc, _+_, _*_, _-_, _≤_, _<_}
 use native.Mathlib.Decide.{decLt}
 use native.Mathlib.Nat.{le-of-lt}
 use native.Mathlib.Omega.{arith}
@@ -12,7 +12,7 @@ use lib.Dec.{eqb}
 use lib.ListN.{length, getD, drop, length-drop, drop-of-length-le}
 use lib.Seq.{drop-cons, drop-drop}
 use Rattle.grammar.specs.Trees.{Link, and, or, chop, Tree, negation, pair, duration, throughout, constant}
-use Rattle.grammar.specs.Reader.{Around, whole, negated, left, right, measured, entered, Reading, part, after, above, equals, digits, Next, go, stop, stops, isDigit, isLetter, isJoint, joins, leadOf, leafOf, begin, ownJoint, jointOf, join, next, follow, endAfter, ended, onward, run, read, placed}
+use Rattle.grammar.specs.Reader.{Around, whole, negated, left, right, measured, entered, Reading, part, after, above, equals, digits, go, stop, stops, isDigit, isLetter, isJoint, joins, leadOf, leafOf, begin, ownJoint, jointOf, join, next, follow, endAfter, ended, onward, run, read, placed}
 use Rattle.reader.specs.Parts.{resume, Within, PartAt, restOf, endOf, checkedOf, checked, testAt, isSign, digitCount, numberAt, onGood}
 use Rattle.grammar.specs.declared.Sort.{Sort}
 use Rattle.grammar.specs.declared.Sort.the-variants.{State, Formula}
@@ -24,7 +24,7 @@ use Rattle.reader.specs.declared.Got.{Got}
 use Rattle.reader.specs.declared.Got.the-variants.{Good, Bad}
 use Rattle.reader.specs.declared.Checked.the-variants.{Reads, Stops}
 use Rattle.grammar.proofs.Bytes.{cond-elim}
-use Rattle.grammar.proofs.Printed.{after-negated, one}
+use Rattle.grammar.proofs.Printed.{after-negated}
 
 module _ (t : List ℕ) (n : ℕ) where
   pub at-byte : n < length t → drop n t ≡ getD t n 0 ∷ drop (n + 1) t

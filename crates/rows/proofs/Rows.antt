@@ -1,7 +1,7 @@
 -- At a node's place the code finds the node's row: its first byte and the byte after its first part tell the kind, reading it tells its
 -- end, and as many nodes begin within it as it has. State assertions are those that begin before the end of the last `#S` or `[S`.
 use mathlib.Core.Path.{_≡_, refl, sym, ap, ap₂, _∙_}
-use mathlib.Core.Bool.{Bool, true, false, cond}
+use mathlib.Core.Bool.{true, false}
 use mathlib.Core.List.{List, [], _∷_, _++_, append-assoc, append-nil, map, map-append}
 use Prim.Native.Nat.{ℕ, suc, _+_, _-_, _≤_, _<_}
 use native.Mathlib.Omega.{arith}
@@ -9,8 +9,8 @@ use native.Mathlib.Numerals.{add-one}
 use lib.ListN.{length, getD, take, drop, length-map}
 use borrow.Author.Tests.{ne-eqb, le-leb, lt-ltb, le-ltb}
 use Rattle.grammar.specs.Limits.{maxNumber}
-use Rattle.grammar.specs.Trees.{Link, and, or, chop, Tree, constant, letter, negation, pair, duration, throughout, Letters, Numbers, decimal, linkByte, write, textOf}
-use Rattle.grammar.specs.Reader.{isLetter, leadOf, jointOf}
+use Rattle.grammar.specs.Trees.{Link, and, or, chop, Tree, constant, letter, negation, pair, duration, throughout, Numbers, decimal, linkByte, write, textOf}
+use Rattle.grammar.specs.Reader.{leadOf, jointOf}
 use Rattle.grammar.specs.declared.Sort.{Sort}
 use Rattle.grammar.specs.declared.Sort.the-variants.{State, Formula}
 use Rattle.grammar.specs.declared.Lead.the-variants.{Leaf}
@@ -25,7 +25,7 @@ use Rattle.formula.proofs.Scan.{firstByte}
 use Rattle.formula.proofs.Lists.{flat-map}
 use Rattle.formula.proofs.Found.{starts-part, letter-is, root-stands, found-in}
 use Rattle.formula.proofs.Laws.{Accepted, nodes-read}
-use Rattle.rows.specs.Table.{linkCode, heading, headOf, rowOf}
+use Rattle.rows.specs.Table.{linkCode, headOf, rowOf}
 use Rattle.rows.specs.Rows.{jointCode, leafHead, headAt, startsIn, rowAt, sortAt, isInner, untilAt, rowsAt}
 use Rattle.rows.specs.declared.Row.{Row}
 

@@ -4,22 +4,13 @@ use Rattle.formula.proofs.Asked.{length-most}
 use borrow.Author.Needs.{needs}
 use Rattle.formula.proofs.accept.Statement.{statement}
 use Rattle.formula.proofs.accept.Tie as tie
-use Rattle.formula.proofs.accept.Reads as reads
-use Rattle.formula.proofs.accept.Lts as lts
-use Rattle.formula.proofs.ask_channels.Reads as ask-channels-reads
-use Rattle.formula.proofs.ask_length.Reads as ask-length-reads
-use Rattle.formula.proofs.ask_text.Reads as ask-text-reads
-use Rattle.interval.proofs.Interval.ask_steps.Reads as ask-steps-reads
 
--- src/lib.rt:219:27
 ask-channels-requires : tie.Need-ask-channels-requires
 ask-channels-requires c κs = search needs
 
--- src/lib.rt:219:22
 enum-known-r : tie.Need-enum-known-r
 enum-known-r c = search needs
 
--- src/lib.rt:220:9
 returns : tie.Need-returns
 unfolding acceptOf
 returns c = simp (sym (c .before .before .before .ask-channels .ensures) ∙ c .before .r .given .1)
@@ -27,15 +18,12 @@ returns c = simp (sym (c .before .before .before .ask-channels .ensures) ∙ c .
 enum-told : tie.Need-enum-told
 enum-told c = search needs
 
--- src/lib.rt:222:27
 ask-steps-requires : tie.Need-ask-steps-requires
 ask-steps-requires c κs = search needs
 
--- src/lib.rt:222:22
 enum-known-r-2 : tie.Need-enum-known-r-2
 enum-known-r-2 c = search needs
 
--- src/lib.rt:223:9
 returns-2 : tie.Need-returns-2
 unfolding acceptOf
 returns-2 c = simp (sym (c .before .before .before .before .before .before .ask-channels .ensures) ∙ c .before .before .before .before .enum-told .given .1, sym (c .before .before .before .ask-steps .ensures) ∙ c .before .r2 .given .1)
@@ -43,15 +31,12 @@ returns-2 c = simp (sym (c .before .before .before .before .before .before .ask-
 enum-told-2 : tie.Need-enum-told-2
 enum-told-2 c = search needs
 
--- src/lib.rt:225:27
 ask-length-requires : tie.Need-ask-length-requires
 ask-length-requires c κs = search needs
 
--- src/lib.rt:225:22
 enum-known-r-3 : tie.Need-enum-known-r-3
 enum-known-r-3 c = search needs
 
--- src/lib.rt:226:9
 returns-3 : tie.Need-returns-3
 unfolding acceptOf
 returns-3 c = simp (sym (c .before .before .before .before .before .before .before .before .before .ask-channels .ensures) ∙ c .before .before .before .before .before .before .before .enum-told .given .1, sym (c .before .before .before .before .before .before .ask-steps .ensures) ∙ c .before .before .before .before .enum-told2 .given .1, sym (c .before .before .before .ask-length .ensures) ∙ c .before .r3 .given .1)
@@ -59,11 +44,9 @@ returns-3 c = simp (sym (c .before .before .before .before .before .before .befo
 enum-told-3 : tie.Need-enum-told-3
 enum-told-3 c = search needs
 
--- src/lib.rt:228:5
 ask-text-requires : tie.Need-ask-text-requires
 ask-text-requires c κs = length-most _ (sym (c .before .before .ask-length .ensures) ∙ c .enum-told3 .given .1)
 
--- src/lib.rt:216:1
 returns-4 : tie.Need-returns-4
 unfolding acceptOf
 returns-4 c = simp (sym (c .before .before .before .before .before .before .before .before .before .ask-channels .ensures) ∙ c .before .before .before .before .before .before .before .enum-told .given .1, sym (c .before .before .before .before .before .before .ask-steps .ensures) ∙ c .before .before .before .before .enum-told2 .given .1, sym (c .before .before .before .ask-length .ensures) ∙ c .before .enum-told3 .given .1) (c .ask-text .ensures)

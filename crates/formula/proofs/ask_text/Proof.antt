@@ -4,35 +4,25 @@ use Rattle.formula.proofs.Asked.{asked-one}
 use borrow.Author.Needs.{needs}
 use Rattle.formula.proofs.ask_text.Statement.{statement}
 use Rattle.formula.proofs.ask_text.Tie as tie
-use Rattle.formula.proofs.ask_text.Reads as reads
-use Rattle.formula.proofs.ask_text.Lts as lts
-use Rattle.formula.proofs.ask_all.Reads as ask-all-reads
-use Rattle.formula.proofs.ask_grammar.Reads as ask-grammar-reads
 
--- src/lib.rt:236:27
 ask-grammar-requires : tie.Need-ask-grammar-requires
 ask-grammar-requires c κs = search needs
 
--- src/lib.rt:236:22
 enum-known-r : tie.Need-enum-known-r
 enum-known-r c = search needs
 
--- src/lib.rt:237:9
 returns : tie.Need-returns
 returns c = simp (sym (c .before .before .before .ask-grammar .ensures) ∙ c .before .r .given .1)
 
 enum-told : tie.Need-enum-told
 enum-told c = search needs
 
--- src/lib.rt:239:27
 ask-all-requires : tie.Need-ask-all-requires
 ask-all-requires c κs = search needs
 
--- src/lib.rt:239:22
 enum-known-r-2 : tie.Need-enum-known-r-2
 enum-known-r-2 c = search needs
 
--- src/lib.rt:240:9
 returns-2 : tie.Need-returns-2
 returns-2 c =
     let g = sym (c .before .before .before .before .before .before .ask-grammar .ensures) ∙ c .before .before .before .before .enum-told .given .1 in
@@ -41,15 +31,12 @@ returns-2 c =
 enum-told-2 : tie.Need-enum-told-2
 enum-told-2 c = search needs
 
--- src/lib.rt:242:27
 ask-all-requires-2 : tie.Need-ask-all-requires-2
 ask-all-requires-2 c κs = search needs
 
--- src/lib.rt:242:22
 enum-known-r-3 : tie.Need-enum-known-r-3
 enum-known-r-3 c = search needs
 
--- src/lib.rt:243:9
 returns-3 : tie.Need-returns-3
 returns-3 c =
     let g = sym (c .before .before .before .before .before .before .before .before .before .ask-grammar .ensures) ∙ c .before .before .before .before .before .before .before .enum-told .given .1 in
@@ -58,11 +45,9 @@ returns-3 c =
 enum-told-3 : tie.Need-enum-told-3
 enum-told-3 c = search needs
 
--- src/lib.rt:245:5
 ask-all-requires-3 : tie.Need-ask-all-requires-3
 ask-all-requires-3 c κs = search needs
 
--- src/lib.rt:232:1
 returns-4 : tie.Need-returns-4
 returns-4 c =
     let g = sym (c .before .before .before .before .before .before .before .before .before .ask-grammar .ensures) ∙ c .before .before .before .before .before .before .before .enum-told .given .1 in

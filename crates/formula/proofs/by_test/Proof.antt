@@ -1,19 +1,13 @@
 use borrow.Author.Needs.{needs}
 use Rattle.formula.proofs.by_test.Statement.{statement}
 use Rattle.formula.proofs.by_test.Tie as tie
-use Rattle.formula.proofs.by_test.Reads as reads
-use Rattle.formula.proofs.by_test.Lts as lts
-use Rattle.formula.proofs.no.Reads as no-reads
 
--- src/lib.rt:46:34
 no-requires : tie.Need-no-requires
 no-requires c κs = search needs
 
--- src/lib.rt:43:1
 returns : tie.Need-returns
 returns c = search needs
 
--- src/lib.rt:43:1
 returns-2 : tie.Need-returns-2
 returns-2 c = rw (c .before .if1 .left) (c .no .ensures)
 

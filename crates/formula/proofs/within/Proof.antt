@@ -1,14 +1,10 @@
 use borrow.Author.Tests.{le-leb, lt-leb}
 use Rattle.formula.proofs.within.Statement.{statement}
 use Rattle.formula.proofs.within.Tie as tie
-use Rattle.formula.proofs.within.Reads as reads
-use Rattle.formula.proofs.within.Lts as lts
 
--- src/lib.rt:49:1
 returns : tie.Need-returns
 returns c = rw (le-leb (c .before .args .low) (c .before .args .x) (c .if1 .taken))
 
--- src/lib.rt:49:1
 returns-2 : tie.Need-returns-2
 returns-2 c = rw (lt-leb (c .before .args .low) (c .before .args .x) (c .if1 .left))
 

@@ -1,16 +1,10 @@
 use borrow.Author.Tests.{le-leb, lt-leb}
-use native.Mathlib.Omega.{arith}
-use borrow.Author.Needs.{needs}
 use Rattle.grammar.proofs.is_letter.Statement.{statement}
 use Rattle.grammar.proofs.is_letter.Tie as tie
-use Rattle.grammar.proofs.is_letter.Reads as reads
-use Rattle.grammar.proofs.is_letter.Lts as lts
 
--- src/lib.rt:57:1
 returns : tie.Need-returns
 returns c = rw (le-leb 97 (c .before .args .b) (c .if1 .taken))
 
--- src/lib.rt:57:1
 returns-2 : tie.Need-returns-2
 returns-2 c = rw (lt-leb 97 (c .before .args .b) (c .if1 .left))
 

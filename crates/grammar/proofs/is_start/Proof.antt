@@ -3,32 +3,22 @@ use Rattle.grammar.specs.Reader.{begins}
 use borrow.Author.Needs.{needs}
 use Rattle.grammar.proofs.is_start.Statement.{statement}
 use Rattle.grammar.proofs.is_start.Tie as tie
-use Rattle.grammar.proofs.is_start.Reads as reads
-use Rattle.grammar.proofs.is_start.Lts as lts
-use Rattle.grammar.proofs.begins.Reads as begins-reads
-use Rattle.grammar.proofs.lead_of.Reads as lead-of-reads
 
--- src/lib.rt:89:12
 lead-of-requires : tie.Need-lead-of-requires
 lead-of-requires c κs = search needs
 
--- src/lib.rt:89:5
 begins-requires : tie.Need-begins-requires
 begins-requires c κs = search needs
 
--- src/lib.rt:89:47
 lead-of-requires-2 : tie.Need-lead-of-requires-2
 lead-of-requires-2 c κs = search needs
 
--- src/lib.rt:89:40
 begins-requires-2 : tie.Need-begins-requires-2
 begins-requires-2 c κs = search needs
 
--- src/lib.rt:86:1
 returns : tie.Need-returns
 returns c = rw (ap begins (sym (c .before .before .lead-of .ensures)) ∙ sym (c .before .begins .ensures) ∙ c .if1 .taken) (c .if1 .taken)
 
--- src/lib.rt:86:1
 returns-2 : tie.Need-returns-2
 returns-2 c = rw (ap begins (sym (c .before .before .before .before .lead-of .ensures)) ∙ sym (c .before .before .before .begins .ensures) ∙ c .before .before .if1 .left) (c .begins2 .ensures ∙ ap begins (c .before .lead-of2 .ensures))
 

@@ -1,27 +1,19 @@
 use mathlib.Core.Path.{sym, ap}
 use borrow.Author.Tests.{ne-eqb}
 use Rattle.grammar.specs.Reader.{jointOf}
-use native.Mathlib.Omega.{arith}
 use borrow.Author.Needs.{needs}
 use Rattle.grammar.proofs.joint_of.Statement.{statement}
 use Rattle.grammar.proofs.joint_of.Tie as tie
-use Rattle.grammar.proofs.joint_of.Reads as reads
-use Rattle.grammar.proofs.joint_of.Lts as lts
-use Rattle.grammar.proofs.own_joint.Reads as own-joint-reads
 
--- src/lib.rt:115:14
 own-joint-requires : tie.Need-own-joint-requires
 own-joint-requires c κs = search needs
 
--- src/lib.rt:109:1
 returns : tie.Need-returns
 returns c = sym (ap (jointOf (c .before .args .s)) (c .match .keys1))
 
--- src/lib.rt:109:1
 returns-2 : tie.Need-returns-2
 returns-2 c = sym (ap (jointOf (c .before .args .s)) (c .match .keys2))
 
--- src/lib.rt:109:1
 returns-3 : tie.Need-returns-3
 returns-3 c = rw (ne-eqb _ 38 (c .before .match .rest .0 .1), ne-eqb _ 124 (c .before .match .rest .1)) (c .own-joint .ensures)
 

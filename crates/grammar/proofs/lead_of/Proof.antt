@@ -1,35 +1,25 @@
 use mathlib.Core.Path.{sym, ap}
 use borrow.Author.Tests.{ne-eqb}
 use Rattle.grammar.specs.Reader.{leadOf}
-use native.Mathlib.Omega.{arith}
 use borrow.Author.Needs.{needs}
 use Rattle.grammar.proofs.lead_of.Statement.{statement}
 use Rattle.grammar.proofs.lead_of.Tie as tie
-use Rattle.grammar.proofs.lead_of.Reads as reads
-use Rattle.grammar.proofs.lead_of.Lts as lts
-use Rattle.grammar.proofs.own_lead.Reads as own-lead-reads
 
--- src/lib.rt:90:14
 own-lead-requires : tie.Need-own-lead-requires
 own-lead-requires c κs = search needs
 
--- src/lib.rt:82:1
 returns : tie.Need-returns
 returns c = sym (ap (leadOf (c .before .args .s)) (c .match .keys1))
 
--- src/lib.rt:82:1
 returns-2 : tie.Need-returns-2
 returns-2 c = sym (ap (leadOf (c .before .args .s)) (c .match .keys2))
 
--- src/lib.rt:82:1
 returns-3 : tie.Need-returns-3
 returns-3 c = sym (ap (leadOf (c .before .args .s)) (c .match .keys3))
 
--- src/lib.rt:82:1
 returns-4 : tie.Need-returns-4
 returns-4 c = sym (ap (leadOf (c .before .args .s)) (c .match .keys4))
 
--- src/lib.rt:82:1
 returns-5 : tie.Need-returns-5
 returns-5 c =
     let w = c .before .match .rest in

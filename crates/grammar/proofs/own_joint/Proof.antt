@@ -1,28 +1,20 @@
 use borrow.Author.Tests.{eq-eqb, ne-eqb}
-use native.Mathlib.Omega.{arith}
 use borrow.Author.Needs.{needs}
 use Rattle.grammar.proofs.own_joint.Statement.{statement}
 use Rattle.grammar.proofs.own_joint.Tie as tie
-use Rattle.grammar.proofs.own_joint.Reads as reads
-use Rattle.grammar.proofs.own_joint.Lts as lts
 
--- src/lib.rt:98:24
 enum-told : tie.Need-enum-told
 enum-told c = search needs
 
--- src/lib.rt:100:16
 enum-told-2 : tie.Need-enum-told-2
 enum-told-2 c = search needs
 
--- src/lib.rt:94:1
 returns : tie.Need-returns
 returns c = search needs
 
--- src/lib.rt:94:1
 returns-2 : tie.Need-returns-2
 returns-2 c = rw (c .before .enum-told2 .given .1, eq-eqb _ 59 (c .if1 .taken))
 
--- src/lib.rt:94:1
 returns-3 : tie.Need-returns-3
 returns-3 c = rw (c .before .enum-told2 .given .1, ne-eqb _ 59 (c .if1 .left))
 

@@ -2,43 +2,31 @@ use mathlib.Core.Path.{sym, ap, _∙_}
 use borrow.Author.Tests.{ne-eqb}
 use Rattle.grammar.specs.Reader.{ownLead}
 use Rattle.grammar.specs.declared.Sort.the-variants.{Formula}
-use native.Mathlib.Omega.{arith}
 use borrow.Author.Needs.{needs}
 use Rattle.grammar.proofs.own_lead.Statement.{statement}
 use Rattle.grammar.proofs.own_lead.Tie as tie
-use Rattle.grammar.proofs.own_lead.Reads as reads
-use Rattle.grammar.proofs.own_lead.Lts as lts
-use Rattle.grammar.proofs.is_letter.Reads as is-letter-reads
 
--- src/lib.rt:68:16
 enum-told : tie.Need-enum-told
 enum-told c = search needs
 
--- src/lib.rt:68:16
 is-letter-requires : tie.Need-is-letter-requires
 is-letter-requires c κs = search needs
 
--- src/lib.rt:74:26
 enum-told-2 : tie.Need-enum-told-2
 enum-told-2 c = search needs
 
--- src/lib.rt:63:1
 returns : tie.Need-returns
 returns c = rw (c .before .before .enum-told .given .1, sym (c .before .is-letter .ensures) ∙ c .if1 .taken)
 
--- src/lib.rt:63:1
 returns-2 : tie.Need-returns-2
 returns-2 c = rw (c .before .before .enum-told .given .1, sym (c .before .is-letter .ensures) ∙ c .if1 .left)
 
--- src/lib.rt:63:1
 returns-3 : tie.Need-returns-3
 returns-3 c = rw (c .before .enum-told2 .given .1) (sym (ap (ownLead Formula) (c .match2 .keys1)))
 
--- src/lib.rt:63:1
 returns-4 : tie.Need-returns-4
 returns-4 c = rw (c .before .enum-told2 .given .1) (sym (ap (ownLead Formula) (c .match2 .keys2)))
 
--- src/lib.rt:63:1
 returns-5 : tie.Need-returns-5
 returns-5 c = rw (c .before .enum-told2 .given .1, ne-eqb _ 35 (c .match2 .rest .0 .1), ne-eqb _ 91 (c .match2 .rest .1))
 

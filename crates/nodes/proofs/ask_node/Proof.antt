@@ -1,18 +1,13 @@
 use borrow.Author.Tests.{le-leb, lt-leb}
 use Rattle.nodes.proofs.ask_node.Statement.{statement}
 use Rattle.nodes.proofs.ask_node.Tie as tie
-use Rattle.nodes.proofs.ask_node.Reads as reads
-use Rattle.nodes.proofs.ask_node.Lts as lts
 
--- src/lib.rt:281:13
 returns : tie.Need-returns
 returns c = rw (le-leb 1 _ (c .before .if1 .taken), le-leb _ _ (c .if2 .taken))
 
--- src/lib.rt:276:1
 returns-2 : tie.Need-returns-2
 returns-2 c = rw (le-leb 1 _ (c .before .if1 .taken), lt-leb _ _ (c .if2 .left))
 
--- src/lib.rt:276:1
 returns-3 : tie.Need-returns-3
 returns-3 c = rw (lt-leb 1 _ (c .if1 .left))
 

@@ -8,36 +8,25 @@ use Rattle.nodes.proofs.Laws.{count-is, refused-early, refused-last}
 use borrow.Author.Needs.{needs}
 use Rattle.nodes.proofs.node_refusal.Statement.{statement}
 use Rattle.nodes.proofs.node_refusal.Tie as tie
-use Rattle.nodes.proofs.node_refusal.Reads as reads
-use Rattle.nodes.proofs.node_refusal.Lts as lts
-use Rattle.formula.proofs.accept.Reads as accept-reads
-use Rattle.nodes.proofs.ask_node.Reads as ask-node-reads
-use Rattle.rows.proofs.starts_in.Reads as starts-in-reads
 
--- src/lib.rt:294:27
 accept-requires : tie.Need-accept-requires
 accept-requires c κs = search needs
 
--- src/lib.rt:294:22
 enum-known-r : tie.Need-enum-known-r
 enum-known-r c = search needs
 
--- src/lib.rt:295:9
 returns : tie.Need-returns
 returns c = refused-early _ _ _ _ _ (sym (c .before .before .before .accept .ensures) ∙ c .before .r .given .1)
 
 enum-told : tie.Need-enum-told
 enum-told c = search needs
 
--- src/lib.rt:297:17
 starts-in-requires : tie.Need-starts-in-requires
 starts-in-requires c κs = search needs
 
--- src/lib.rt:297:5
 ask-node-requires : tie.Need-ask-node-requires
 ask-node-requires c κs = search needs
 
--- src/lib.rt:291:1
 returns-2 : tie.Need-returns-2
 unfolding askNode
 returns-2 c =

@@ -3,36 +3,25 @@ use Rattle.nodes.proofs.Laws.{fits, table-refused, table-made}
 use borrow.Author.Needs.{needs}
 use Rattle.nodes.proofs.node_table.Statement.{statement}
 use Rattle.nodes.proofs.node_table.Tie as tie
-use Rattle.nodes.proofs.node_table.Reads as reads
-use Rattle.nodes.proofs.node_table.Lts as lts
-use Rattle.formula.proofs.accept.Reads as accept-reads
-use Rattle.rows.proofs.empty_table.Reads as empty-table-reads
-use Rattle.rows.proofs.rows_of.Reads as rows-of-reads
 
--- src/lib.rt:262:27
 accept-requires : tie.Need-accept-requires
 accept-requires c κs = search needs
 
--- src/lib.rt:262:22
 enum-known-r : tie.Need-enum-known-r
 enum-known-r c = search needs
 
--- src/lib.rt:265:20
 empty-table-requires : tie.Need-empty-table-requires
 empty-table-requires c κs = search needs
 
--- src/lib.rt:263:9
 returns : tie.Need-returns
 returns c = table-refused _ _ _ _ _ (sym (c .before .before .before .before .accept .ensures) ∙ c .before .before .r .given .1) (c .empty-table .ensures)
 
 enum-told : tie.Need-enum-told
 enum-told c = search needs
 
--- src/lib.rt:268:9
 rows-of-requires : tie.Need-rows-of-requires
 rows-of-requires c κs = fits (c .before .before .before .before .args .c) (c .before .before .before .before .args .k) _ (sym (c .before .before .accept .ensures) ∙ c .enum-told .given .1)
 
--- src/lib.rt:259:1
 returns-2 : tie.Need-returns-2
 returns-2 c = table-made _ _ _ (sym (c .before .before .before .accept .ensures) ∙ c .before .enum-told .given .1) _ (c .rows-of .ensures)
 

@@ -1,85 +1,62 @@
 use mathlib.Core.Path.{sym, _∙_}
-use native.Mathlib.Omega.{arith}
 use Rattle.nodes.proofs.Laws.{fits, text-refused, both-yes, numbered, index-fits, text-cut}
 use borrow.Author.Needs.{needs}
 use Rattle.nodes.proofs.node_text.Statement.{statement}
 use Rattle.nodes.proofs.node_text.Tie as tie
-use Rattle.nodes.proofs.node_text.Reads as reads
-use Rattle.nodes.proofs.node_text.Lts as lts
-use Rattle.nodes.proofs.node_refusal.Reads as node-refusal-reads
-use Rattle.rows.proofs.rows_of.Reads as rows-of-reads
-use Rattle.nodes.proofs.wide.Reads as wide-reads
 
--- src/lib.rt:310:27
 node-refusal-requires : tie.Need-node-refusal-requires
 node-refusal-requires c κs = search needs
 
--- src/lib.rt:310:22
 enum-known-r : tie.Need-enum-known-r
 enum-known-r c = search needs
 
--- src/lib.rt:311:16
 sub-result : tie.Need-sub-result
 sub-result c = search needs
 
--- src/lib.rt:311:16
 part-result-start : tie.Need-part-result-start
 part-result-start c = search needs
 
--- src/lib.rt:311:16
 part-result-end : tie.Need-part-result-end
 part-result-end c = search needs
 
--- src/lib.rt:311:9
 returns : tie.Need-returns
 returns c = text-refused _ _ _ _ _ (sym (c .before .before .before .before .node-refusal .ensures) ∙ c .before .before .r .given .1)
 
 enum-told : tie.Need-enum-told
 enum-told c = search needs
 
--- src/lib.rt:313:17
 rows-of-requires : tie.Need-rows-of-requires
 rows-of-requires c κs = fits (c .before .before .before .before .args .c) (c .before .before .before .before .args .k) _ (both-yes _ _ _ _ (sym (c .before .before .node-refusal .ensures) ∙ c .enum-told .given .1) .0)
 
--- src/lib.rt:314:13
 sub-i : tie.Need-sub-i
 sub-i c = numbered _ _ _ _ (sym (c .before .before .before .node-refusal .ensures) ∙ c .before .enum-told .given .1) .0
 
--- src/lib.rt:315:22
 element-copy-out-wide : tie.Need-element-copy-out-wide
 element-copy-out-wide c = index-fits _ _ _ _ (sym (c .before .before .before .node-refusal .ensures) ∙ c .before .enum-told .given .1)
 
--- src/lib.rt:315:9
 wide-requires : tie.Need-wide-requires
 wide-requires c κs = search needs
 
--- src/lib.rt:316:28
 element-copy-out-wide-2 : tie.Need-element-copy-out-wide-2
 element-copy-out-wide-2 c = index-fits _ _ _ _ (sym (c .before .before .before .before .before .node-refusal .ensures) ∙ c .before .before .before .enum-told .given .1)
 
--- src/lib.rt:316:23
 wide-requires-2 : tie.Need-wide-requires-2
 wide-requires-2 c κs = search needs
 
--- src/lib.rt:316:15
 add-end : tie.Need-add-end
 add-end c =
     let w = text-cut _ _ _ _ (sym (c .before .before .before .before .before .before .before .node-refusal .ensures) ∙ c .before .before .before .before .before .enum-told .given .1) _ (c .before .before .before .before .rows-of .ensures) _ _ (c .before .before .wide .ensures) (c .wide2 .ensures) in
     search needs
 
--- src/lib.rt:317:5
 sub-result-2 : tie.Need-sub-result-2
 sub-result-2 c = search needs
 
--- src/lib.rt:317:5
 part-result-start-2 : tie.Need-part-result-start-2
 part-result-start-2 c = search needs
 
--- src/lib.rt:317:5
 part-result-end-2 : tie.Need-part-result-end-2
 part-result-end-2 c = text-cut _ _ _ _ (sym (c .before .before .before .before .before .before .before .node-refusal .ensures) ∙ c .before .before .before .before .before .enum-told .given .1) _ (c .before .before .before .before .rows-of .ensures) _ _ (c .before .before .wide .ensures) (c .wide2 .ensures) .0
 
--- src/lib.rt:307:1
 returns-2 : tie.Need-returns-2
 returns-2 c = text-cut _ _ _ _ (sym (c .before .before .before .before .before .before .before .before .node-refusal .ensures) ∙ c .before .before .before .before .before .before .enum-told .given .1) _ (c .before .before .before .before .before .rows-of .ensures) _ _ (c .before .before .before .wide .ensures) (c .before .wide2 .ensures) .1
 

@@ -1,6 +1,6 @@
 use native.Mathlib.Omega.{arith}
 use borrow.Author.Needs.{needs}
-use mathlib.Core.Path.{_≡_, sym, ap, _∙_, subst}
+use mathlib.Core.Path.{sym, ap, _∙_, subst}
 use lib.ListN.{length}
 use Prim.Native.Nat.{ℕ, _-_, _<_}
 use Rattle.reader.specs.Parts.{PartAt, onGood, testAt, isSign, numberAt}
@@ -32,116 +32,90 @@ read-part-below t =
 abbrev calls : ℕ → read-part-lts.Claims
 calls t = (lead-of-reads.Asked, lead-of-reads.Learnt, read-part-below t, read-part.Post, joined-by-reads.Asked, joined-by-reads.Learnt, signed-by-reads.Asked, signed-by-reads.Learnt, numbered-by-reads.Asked, numbered-by-reads.Learnt)
 
--- src/lib.rt:194:9
 read-part-returns : (t : ℕ) → read-part-lts.Need-returns (calls t) (read-part-at t) read-part.Post
 read-part-returns t c =
     let a = c .before .before .args in
     part-end (a .text .now) (a .s) (a .at) (search needs) (search needs)
 
--- src/lib.rt:196:16
 read-part-add-next : (t : ℕ) → read-part-lts.Need-add-next (calls t) (read-part-at t) read-part.Post
 read-part-add-next t c = search needs
 
--- src/lib.rt:197:24
 read-part-shared-slice-read-lead-of : (t : ℕ) → read-part-lts.Need-shared-slice-read-lead-of (calls t) (read-part-at t) read-part.Post
 read-part-shared-slice-read-lead-of t c = search needs
 
--- src/lib.rt:197:9
 read-part-lead-of-requires : (t : ℕ) → read-part-lts.Need-lead-of-requires (calls t) (read-part-at t) read-part.Post
 read-part-lead-of-requires t c κs = search needs
 
--- src/lib.rt:199:23
 read-part-enum-told : (t : ℕ) → read-part-lts.Need-enum-told (calls t) (read-part-at t) read-part.Post
 read-part-enum-told t c = search needs
 
--- src/lib.rt:200:22
 read-part-enum-told-2 : (t : ℕ) → read-part-lts.Need-enum-told-2 (calls t) (read-part-at t) read-part.Post
 read-part-enum-told-2 t c = search needs
 
--- src/lib.rt:200:22
 read-part-read-part-requires : (t : ℕ) → read-part-lts.Need-read-part-requires (calls t) (read-part-at t) read-part.Post
 read-part-read-part-requires t c κs = (omega arith, omega arith)
 
--- src/lib.rt:202:44
 read-part-enum-told-3 : (t : ℕ) → read-part-lts.Need-enum-told-3 (calls t) (read-part-at t) read-part.Post
 read-part-enum-told-3 t c = search needs
 
--- src/lib.rt:202:44
 read-part-read-part-requires-2 : (t : ℕ) → read-part-lts.Need-read-part-requires-2 (calls t) (read-part-at t) read-part.Post
 read-part-read-part-requires-2 t c κs = (omega arith, omega arith)
 
--- src/lib.rt:202:17
 read-part-joined-by-requires : (t : ℕ) → read-part-lts.Need-joined-by-requires (calls t) (read-part-at t) read-part.Post
 read-part-joined-by-requires t c κs = search needs
 
--- src/lib.rt:204:27
 read-part-enum-known-first : (t : ℕ) → read-part-lts.Need-enum-known-first (calls t) (read-part-at t) read-part.Post
 read-part-enum-known-first t c = search needs
 
--- src/lib.rt:204:55
 read-part-read-part-requires-3 : (t : ℕ) → read-part-lts.Need-read-part-requires-3 (calls t) (read-part-at t) read-part.Post
 read-part-read-part-requires-3 t c κs =
     let a = c .before .before .before .before .before .before .before .before .before .before .before .args in
     let w = open-within (a .text .now) (a .s) _ _ _ (c .before .before .before .before .read-part2 .ensures) (sym (c .before .before .before .joined-by .ensures) ∙ c .before .first .given .1) in
     (omega arith, omega arith)
 
--- src/lib.rt:204:33
 read-part-signed-by-requires : (t : ℕ) → read-part-lts.Need-signed-by-requires (calls t) (read-part-at t) read-part.Post
 read-part-signed-by-requires t c κs = search needs
 
--- src/lib.rt:205:26
 read-part-enum-known-first-2 : (t : ℕ) → read-part-lts.Need-enum-known-first-2 (calls t) (read-part-at t) read-part.Post
 read-part-enum-known-first-2 t c = search needs
 
--- src/lib.rt:209:63
 read-part-enum-told-4 : (t : ℕ) → read-part-lts.Need-enum-told-4 (calls t) (read-part-at t) read-part.Post
 read-part-enum-told-4 t c = search needs
 
--- src/lib.rt:209:47
 read-part-read-part-requires-4 : (t : ℕ) → read-part-lts.Need-read-part-requires-4 (calls t) (read-part-at t) read-part.Post
 read-part-read-part-requires-4 t c κs = (omega arith, omega arith)
 
--- src/lib.rt:209:17
 read-part-signed-by-requires-2 : (t : ℕ) → read-part-lts.Need-signed-by-requires-2 (calls t) (read-part-at t) read-part.Post
 read-part-signed-by-requires-2 t c κs = search needs
 
--- src/lib.rt:210:31
 read-part-signed-by-requires-3 : (t : ℕ) → read-part-lts.Need-signed-by-requires-3 (calls t) (read-part-at t) read-part.Post
 read-part-signed-by-requires-3 t c κs = search needs
 
--- src/lib.rt:210:13
 read-part-numbered-by-requires : (t : ℕ) → read-part-lts.Need-numbered-by-requires (calls t) (read-part-at t) read-part.Post
 read-part-numbered-by-requires t c κs = search needs
 
--- src/lib.rt:212:62
 read-part-enum-told-5 : (t : ℕ) → read-part-lts.Need-enum-told-5 (calls t) (read-part-at t) read-part.Post
 read-part-enum-told-5 t c = search needs
 
--- src/lib.rt:212:46
 read-part-read-part-requires-5 : (t : ℕ) → read-part-lts.Need-read-part-requires-5 (calls t) (read-part-at t) read-part.Post
 read-part-read-part-requires-5 t c κs = (omega arith, omega arith)
 
--- src/lib.rt:212:24
 read-part-signed-by-requires-4 : (t : ℕ) → read-part-lts.Need-signed-by-requires-4 (calls t) (read-part-at t) read-part.Post
 read-part-signed-by-requires-4 t c κs = search needs
 
--- src/lib.rt:213:24
 read-part-enum-told-6 : (t : ℕ) → read-part-lts.Need-enum-told-6 (calls t) (read-part-at t) read-part.Post
 read-part-enum-told-6 t c = search needs
 
--- src/lib.rt:189:1
 read-part-returns-2 : (t : ℕ) → read-part-lts.Need-returns-2 (calls t) (read-part-at t) read-part.Post
 read-part-returns-2 t c =
     let a = c .before .before .before .before .before .before .args in
     part-leaf (a .text .now) (a .s) (a .at) (search needs) (sym (c .enum-told .given .1) ∙ c .before .before .lead-of .ensures)
 
--- src/lib.rt:189:1
 read-part-returns-3 : (t : ℕ) → read-part-lts.Need-returns-3 (calls t) (read-part-at t) read-part.Post
 read-part-returns-3 t c =
     let a = c .before .before .before .before .before .before .before .args in
     part-not (a .text .now) (a .s) (a .at) (search needs) (c .read-part .result) (sym (c .before .enum-told2 .given .1) ∙ c .before .before .before .lead-of .ensures) (c .read-part .ensures)
 
--- src/lib.rt:189:1
 read-part-returns-4 : (t : ℕ) → read-part-lts.Need-returns-4 (calls t) (read-part-at t) read-part.Post
 read-part-returns-4 t c =
     let a = c .before .before .before .before .before .before .before .before .before .before .before .before .before .args in
@@ -149,27 +123,23 @@ read-part-returns-4 t c =
     (part-open (a .text .now) (a .s) (a .at) (search needs) (c .before .before .before .before .before .before .read-part2 .result) _ (c .before .read-part3 .result) (sym (c .before .before .before .before .before .before .before .enum-told3 .given .1) ∙ c .before .before .before .before .before .before .before .before .before .lead-of .ensures) (c .before .before .before .before .before .before .read-part2 .ensures)
     (sym (c .before .before .before .before .before .joined-by .ensures) ∙ c .before .before .before .first .given .1) (c .before .read-part3 .ensures))
 
--- src/lib.rt:189:1
 read-part-returns-5 : (t : ℕ) → read-part-lts.Need-returns-5 (calls t) (read-part-at t) read-part.Post
 read-part-returns-5 t c =
     let a = c .before .before .before .before .before .before .before .before .before .before .before .args in
     part-open-bad (a .text .now) (a .s) (a .at) (search needs) (c .before .before .before .before .read-part2 .result) _ (sym (c .before .before .before .before .before .enum-told3 .given .1) ∙ c .before .before .before .before .before .before .before .lead-of .ensures) (c .before .before .before .before .read-part2 .ensures)
     (sym (c .before .before .before .joined-by .ensures) ∙ c .before .first2 .given .1)
 
--- src/lib.rt:189:1
 read-part-returns-6 : (t : ℕ) → read-part-lts.Need-returns-6 (calls t) (read-part-at t) read-part.Post
 read-part-returns-6 t c =
     let a = c .before .before .before .before .before .before .before .before .before .before .args in
     let e = c .numbered-by .ensures ∙ ap (λ (g : Got). onGood (a .text .now) numberAt g) (c .before .signed-by3 .ensures ∙ ap (onGood (a .text .now) (testAt (isSign 61))) (c .before .before .signed-by2 .ensures)) in
     subst (PartAt (a .text .now) (a .s) (a .at)) (sym e) (part-measure (a .text .now) (a .at) (search needs) (c .before .before .before .read-part4 .result) (c .before .before .before .read-part4 .ensures) (a .s) (sym (c .before .before .before .before .enum-told4 .given .1) ∙ c .before .before .before .before .before .before .lead-of .ensures))
 
--- src/lib.rt:189:1
 read-part-returns-7 : (t : ℕ) → read-part-lts.Need-returns-7 (calls t) (read-part-at t) read-part.Post
 read-part-returns-7 t c =
     let a = c .before .before .before .before .before .before .before .before .args in
     subst (PartAt (a .text .now) (a .s) (a .at)) (sym (c .signed-by4 .ensures)) (part-enter (a .text .now) (a .at) (search needs) (c .before .read-part5 .result) (c .before .read-part5 .ensures) (a .s) (sym (c .before .before .enum-told5 .given .1) ∙ c .before .before .before .before .lead-of .ensures))
 
--- src/lib.rt:189:1
 read-part-returns-8 : (t : ℕ) → read-part-lts.Need-returns-8 (calls t) (read-part-at t) read-part.Post
 read-part-returns-8 t c =
     let a = c .before .before .before .before .before .before .args in

@@ -2,31 +2,22 @@ use Rattle.reader.proofs.Parts.{check-more, check-reads, check-stops}
 use borrow.Author.Needs.{needs}
 use Rattle.reader.proofs.check_text.Statement.{statement}
 use Rattle.reader.proofs.check_text.Tie as tie
-use Rattle.reader.proofs.check_text.Reads as reads
-use Rattle.reader.proofs.check_text.Lts as lts
-use Rattle.reader.proofs.read_part.Reads as read-part-reads
 
--- src/lib.rt:235:9
 read-part-requires : tie.Need-read-part-requires
 read-part-requires c κs = search needs
 
--- src/lib.rt:237:19
 enum-known-g : tie.Need-enum-known-g
 enum-known-g c = search needs
 
--- src/lib.rt:244:18
 enum-known-g-2 : tie.Need-enum-known-g-2
 enum-known-g-2 c = search needs
 
--- src/lib.rt:232:1
 returns : tie.Need-returns
 returns c = check-more _ _ (c .before .before .before .before .read-part .ensures) _ (c .before .before .g .given .1) (c .if1 .taken)
 
--- src/lib.rt:232:1
 returns-2 : tie.Need-returns-2
 returns-2 c = check-reads _ _ (c .before .before .before .before .read-part .ensures) _ (c .before .before .g .given .1) (c .if1 .left)
 
--- src/lib.rt:232:1
 returns-3 : tie.Need-returns-3
 returns-3 c = check-stops _ _ (c .before .before .before .read-part .ensures) _ (c .before .g2 .given .1)
 

@@ -5,43 +5,31 @@ use Rattle.reader.proofs.Parts.{tested, at-end}
 use borrow.Author.Needs.{needs}
 use Rattle.reader.proofs.joined_by.Statement.{statement}
 use Rattle.reader.proofs.joined_by.Tie as tie
-use Rattle.reader.proofs.joined_by.Reads as reads
-use Rattle.reader.proofs.joined_by.Lts as lts
-use Rattle.grammar.proofs.is_joint.Reads as is-joint-reads
 
--- src/lib.rt:143:19
 enum-known-g : tie.Need-enum-known-g
 enum-known-g c = search needs
 
--- src/lib.rt:144:9
 enum-told : tie.Need-enum-told
 enum-told c = search needs
 
--- src/lib.rt:144:9
 returns : tie.Need-returns
 returns c = search needs
 
--- src/lib.rt:147:24
 shared-slice-read-is-joint : tie.Need-shared-slice-read-is-joint
 shared-slice-read-is-joint c = search needs
 
--- src/lib.rt:147:12
 is-joint-requires : tie.Need-is-joint-requires
 is-joint-requires c κs = search needs
 
--- src/lib.rt:148:30
 add-t10 : tie.Need-add-t10
 add-t10 c = search needs
 
--- src/lib.rt:148:13
 returns-2 : tie.Need-returns-2
 returns-2 c = rw (c .before .before .before .before .before .g .given .1) (sym (tested _ _ (isJoint (c .before .before .before .before .before .before .before .before .args .s)) (c .before .before .before .if1 .taken) (sym (c .before .is-joint .ensures) ∙ c .if2 .taken)))
 
--- src/lib.rt:140:1
 returns-3 : tie.Need-returns-3
 returns-3 c = rw (c .before .before .before .before .before .g .given .1) (sym (tested _ _ (isJoint (c .before .before .before .before .before .before .before .before .args .s)) (c .before .before .before .if1 .taken) (sym (c .before .is-joint .ensures) ∙ c .if2 .left)))
 
--- src/lib.rt:140:1
 returns-4 : tie.Need-returns-4
 returns-4 c = rw (c .before .before .g .given .1) (sym (at-end _ _ (testAt (isJoint (c .before .before .before .before .before .args .s))) refl (c .if1 .left)))
 

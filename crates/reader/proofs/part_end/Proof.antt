@@ -2,31 +2,22 @@ use Rattle.reader.proofs.Parts.{end-past, end-good, end-bad}
 use borrow.Author.Needs.{needs}
 use Rattle.reader.proofs.part_end.Statement.{statement}
 use Rattle.reader.proofs.part_end.Tie as tie
-use Rattle.reader.proofs.part_end.Reads as reads
-use Rattle.reader.proofs.part_end.Lts as lts
-use Rattle.reader.proofs.read_part.Reads as read-part-reads
 
--- src/lib.rt:222:9
 returns : tie.Need-returns
 returns c = end-past _ _ _ (c .if1 .taken)
 
--- src/lib.rt:224:9
 read-part-requires : tie.Need-read-part-requires
 read-part-requires c κs = search needs
 
--- src/lib.rt:226:19
 enum-known-g : tie.Need-enum-known-g
 enum-known-g c = search needs
 
--- src/lib.rt:227:18
 enum-known-g-2 : tie.Need-enum-known-g-2
 enum-known-g-2 c = search needs
 
--- src/lib.rt:218:1
 returns-2 : tie.Need-returns-2
 returns-2 c = end-good _ _ _ _ _ (c .before .before .before .read-part .ensures) (c .before .g .given .1)
 
--- src/lib.rt:218:1
 returns-3 : tie.Need-returns-3
 returns-3 c = end-bad _ _ _ _ _ (c .before .before .before .read-part .ensures) (c .before .g2 .given .1)
 

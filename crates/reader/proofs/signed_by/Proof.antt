@@ -5,38 +5,28 @@ use Rattle.reader.proofs.Parts.{tested, at-end}
 use borrow.Author.Needs.{needs}
 use Rattle.reader.proofs.signed_by.Statement.{statement}
 use Rattle.reader.proofs.signed_by.Tie as tie
-use Rattle.reader.proofs.signed_by.Reads as reads
-use Rattle.reader.proofs.signed_by.Lts as lts
 
--- src/lib.rt:128:19
 enum-known-g : tie.Need-enum-known-g
 enum-known-g c = search needs
 
--- src/lib.rt:129:9
 enum-told : tie.Need-enum-told
 enum-told c = search needs
 
--- src/lib.rt:129:9
 returns : tie.Need-returns
 returns c = search needs
 
--- src/lib.rt:132:12
 shared-slice-read-if2 : tie.Need-shared-slice-read-if2
 shared-slice-read-if2 c = search needs
 
--- src/lib.rt:133:30
 add-t10 : tie.Need-add-t10
 add-t10 c = search needs
 
--- src/lib.rt:133:13
 returns-2 : tie.Need-returns-2
 returns-2 c = rw (c .before .before .before .before .g .given .1) (sym (tested _ _ (isSign _) (c .before .before .if1 .taken) (eq-eqb _ _ (c .if2 .taken))))
 
--- src/lib.rt:125:1
 returns-3 : tie.Need-returns-3
 returns-3 c = rw (c .before .before .before .before .g .given .1) (sym (tested _ _ (isSign _) (c .before .before .if1 .taken) (ne-eqb _ _ (c .if2 .left))))
 
--- src/lib.rt:125:1
 returns-4 : tie.Need-returns-4
 returns-4 c = rw (c .before .before .g .given .1) (sym (at-end _ _ (testAt (isSign _)) refl (c .if1 .left)))
 

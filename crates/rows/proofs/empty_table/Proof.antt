@@ -2,10 +2,7 @@ use mathlib.Core.Path.{refl}
 use Rattle.rows.specs.Table.{tableOf}
 use Rattle.rows.proofs.empty_table.Statement.{statement}
 use Rattle.rows.proofs.empty_table.Tie as tie
-use Rattle.rows.proofs.empty_table.Reads as reads
-use Rattle.rows.proofs.empty_table.Lts as lts
 
--- src/lib.rt:204:1
 returns : tie.Need-returns
 unfolding tableOf
 returns c = refl

@@ -1,14 +1,10 @@
 use borrow.Author.Tests.{eq-eqb, ne-eqb}
 use Rattle.rows.proofs.is_inner.Statement.{statement}
 use Rattle.rows.proofs.is_inner.Tie as tie
-use Rattle.rows.proofs.is_inner.Reads as reads
-use Rattle.rows.proofs.is_inner.Lts as lts
 
--- src/lib.rt:177:1
 returns : tie.Need-returns
 returns c = rw (eq-eqb _ 35 (c .if1 .taken))
 
--- src/lib.rt:177:1
 returns-2 : tie.Need-returns-2
 returns-2 c = rw (ne-eqb _ 35 (c .if1 .left))
 

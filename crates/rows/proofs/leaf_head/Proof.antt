@@ -7,40 +7,28 @@ use Rattle.rows.specs.Table.{heading}
 use borrow.Author.Needs.{needs}
 use Rattle.rows.proofs.leaf_head.Statement.{statement}
 use Rattle.rows.proofs.leaf_head.Tie as tie
-use Rattle.rows.proofs.leaf_head.Reads as reads
-use Rattle.rows.proofs.leaf_head.Lts as lts
-use Rattle.grammar.proofs.is_letter.Reads as is-letter-reads
-use Rattle.rows.proofs.sort_code.Reads as sort-code-reads
 
--- src/lib.rt:77:8
 is-letter-requires : tie.Need-is-letter-requires
 is-letter-requires c κs = search needs
 
--- src/lib.rt:80:21
 sub-t4 : tie.Need-sub-t4
 sub-t4 c = ranged 97 104 (c .before .before .args .b) (sym (c .before .is-letter .ensures) ∙ c .if1 .taken) .0
 
--- src/lib.rt:78:9
 returns : tie.Need-returns
 returns c = rw (sym (c .before .is-letter .ensures) ∙ c .if1 .taken)
 
--- src/lib.rt:85:19
 sort-code-requires : tie.Need-sort-code-requires
 sort-code-requires c κs = search needs
 
--- src/lib.rt:85:19
 add-t7 : tie.Need-add-t7
 add-t7 c = search needs
 
--- src/lib.rt:84:9
 returns-2 : tie.Need-returns-2
 returns-2 c = rw (sym (c .before .before .before .is-letter .ensures) ∙ c .before .before .if1 .left, eq-eqb _ 84 (c .before .if2 .taken)) (ap (λ (n : ℕ). heading (n + 1) 0) (c .sort-code .ensures .0))
 
--- src/lib.rt:90:15
 sort-code-requires-2 : tie.Need-sort-code-requires-2
 sort-code-requires-2 c κs = search needs
 
--- src/lib.rt:74:1
 returns-3 : tie.Need-returns-3
 returns-3 c = rw (sym (c .before .before .before .is-letter .ensures) ∙ c .before .before .if1 .left, ne-eqb _ 84 (c .before .if2 .left)) (ap (λ (n : ℕ). heading n 0) (c .sort-code2 .ensures .0 ∙ sym (add-zero _)))
 

@@ -6,34 +6,22 @@ use Rattle.rows.specs.Rows.{jointCode}
 use borrow.Author.Needs.{needs}
 use Rattle.rows.proofs.link_at.Statement.{statement}
 use Rattle.rows.proofs.link_at.Tie as tie
-use Rattle.rows.proofs.link_at.Reads as reads
-use Rattle.rows.proofs.link_at.Lts as lts
-use Rattle.grammar.proofs.joint_of.Reads as joint-of-reads
-use Rattle.rows.proofs.byte_at.Reads as byte-at-reads
-use Rattle.rows.proofs.joint_code.Reads as joint-code-reads
-use Rattle.reader.proofs.part_end.Reads as part-end-reads
 
--- src/lib.rt:99:77
 add-part-end : tie.Need-add-part-end
 add-part-end c = search needs
 
--- src/lib.rt:99:51
 part-end-requires : tie.Need-part-end-requires
 part-end-requires c κs = search needs
 
--- src/lib.rt:99:37
 byte-at-requires : tie.Need-byte-at-requires
 byte-at-requires c κs = search needs
 
--- src/lib.rt:99:16
 joint-of-requires : tie.Need-joint-of-requires
 joint-of-requires c κs = search needs
 
--- src/lib.rt:99:5
 joint-code-requires : tie.Need-joint-code-requires
 joint-code-requires c κs = search needs
 
--- src/lib.rt:95:1
 returns : tie.Need-returns
 returns c = (c .joint-code .ensures .0 ∙ ap jointCode (c .before .joint-of .ensures ∙ ap (jointOf (c .before .before .before .before .before .args .s)) (c .before .before .byte-at .ensures ∙ ap (λ (n : ℕ). getD (c .before .before .before .before .before .args .text .now) n 0) (c .before .before .before .part-end .ensures .0))), c .joint-code .ensures .1)
 

@@ -6,14 +6,6 @@ use lib.ListN.{length}
 use Rattle.rows.proofs.Steps.{Filled, filled-begun, filled-skip, filled-room, filled-row, filled-done}
 use Rattle.rows.proofs.rows_of.Statement.{statement}
 use Rattle.rows.proofs.rows_of.Tie as tie
-use Rattle.rows.proofs.rows_of.Reads as reads
-use Rattle.rows.proofs.rows_of.Lts as lts
-use Rattle.grammar.proofs.is_start.Reads as is-start-reads
-use Rattle.rows.proofs.empty_table.Reads as empty-table-reads
-use Rattle.rows.proofs.row_at.Reads as row-at-reads
-use Rattle.rows.proofs.sort_at.Reads as sort-at-reads
-use Rattle.rows.proofs.until_at.Reads as until-at-reads
-use Rattle.rows.proofs.with_row.Reads as with-row-reads
 
 abbrev Inv-loop : tie.InvT-loop
 Inv-loop text table₀ until₀ i₀ table until i = Filled text table until i
@@ -21,63 +13,48 @@ Inv-loop text table₀ until₀ i₀ table until i = Filled text table until i
 abbrev μ-loop : tie.MeasureT-loop
 μ-loop text table₀ until₀ i₀ table until i = length text - i
 
--- src/lib.rt:240:9
 empty-table-requires : tie.Need-empty-table-requires Inv-loop μ-loop
 empty-table-requires c κs = search needs
 
--- src/lib.rt:243:5
 loop-holds : tie.Need-loop-holds Inv-loop μ-loop
 loop-holds c = filled-begun _ _ (c .empty-table .ensures)
 
--- src/lib.rt:244:31
 shared-slice-read-is-start : tie.Need-shared-slice-read-is-start Inv-loop μ-loop
 shared-slice-read-is-start c = search needs
 
--- src/lib.rt:244:13
 is-start-requires : tie.Need-is-start-requires Inv-loop μ-loop
 is-start-requires c κs = search needs
 
--- src/lib.rt:245:13
 add-i : tie.Need-add-i Inv-loop μ-loop
 add-i c = search needs
 
--- src/lib.rt:243:5
 loop-less : tie.Need-loop-less Inv-loop μ-loop
 loop-less c = search needs
 
--- src/lib.rt:243:5
 loop-again : tie.Need-loop-again Inv-loop μ-loop
 loop-again c = filled-skip _ _ _ _ (c .before .before .before .before .loop .inv) (c .before .before .before .loop-test .taken) (sym (c .before .is-start .ensures) ∙ not-true _ (c .if1 .taken))
 
--- src/lib.rt:248:46
 sort-at-requires : tie.Need-sort-at-requires Inv-loop μ-loop
 sort-at-requires c κs = search needs
 
--- src/lib.rt:248:33
 row-at-requires : tie.Need-row-at-requires Inv-loop μ-loop
 row-at-requires c κs = search needs
 
--- src/lib.rt:248:9
 with-row-requires : tie.Need-with-row-requires Inv-loop μ-loop
 with-row-requires c κs = filled-room _ _ _ _ (c .before .before .before .before .before .before .loop .inv) (c .before .before .before .before .before .loop-test .taken) (sym (c .before .before .before .is-start .ensures) ∙ not-false _ (c .before .before .if1 .left)) (c .before .before .before .before .before .before .before .before .before .pre .1)
 
--- src/lib.rt:249:9
 until-at-requires : tie.Need-until-at-requires Inv-loop μ-loop
 until-at-requires c κs = search needs
 
--- src/lib.rt:250:9
 add-i-2 : tie.Need-add-i-2 Inv-loop μ-loop
 add-i-2 c = search needs
 
--- src/lib.rt:243:5
 loop-less-2 : tie.Need-loop-less-2 Inv-loop μ-loop
 loop-less-2 c = search needs
 
--- src/lib.rt:243:5
 loop-again-2 : tie.Need-loop-again-2 Inv-loop μ-loop
 loop-again-2 c = filled-row _ _ _ _ (c .before .before .before .before .before .before .before .before .loop .inv) (c .before .before .before .before .before .before .before .loop-test .taken) (sym (c .before .before .before .before .before .is-start .ensures) ∙ not-false _ (c .before .before .before .before .if1 .left)) (c .before .before .before .before .before .before .before .before .before .before .before .pre .1) _ _ _ _ (c .before .before .before .sort-at .ensures) (c .before .before .row-at .ensures) (c .before .with-row .ensures) (c .until-at .ensures)
 
--- src/lib.rt:236:1
 returns : tie.Need-returns Inv-loop μ-loop
 returns c = filled-done _ _ _ _ (c .before .loop .inv) (c .loop-test .left)
 

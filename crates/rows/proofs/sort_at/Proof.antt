@@ -1,14 +1,10 @@
 use borrow.Author.Tests.{lt-ltb, le-ltb}
 use Rattle.rows.proofs.sort_at.Statement.{statement}
 use Rattle.rows.proofs.sort_at.Tie as tie
-use Rattle.rows.proofs.sort_at.Reads as reads
-use Rattle.rows.proofs.sort_at.Lts as lts
 
--- src/lib.rt:194:1
 returns : tie.Need-returns
 returns c = rw (lt-ltb (c .before .args .at) _ (c .if1 .taken))
 
--- src/lib.rt:194:1
 returns-2 : tie.Need-returns-2
 returns-2 c = rw (le-ltb (c .before .args .at) _ (c .if1 .left))
 

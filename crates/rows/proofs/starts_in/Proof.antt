@@ -1,5 +1,5 @@
-use mathlib.Core.Path.{_≡_, refl, sym, ap, _∙_}
-use Prim.Native.Nat.{ℕ, _+_, _-_, _≤_}
+use mathlib.Core.Path.{_≡_, ap, _∙_}
+use Prim.Native.Nat.{_+_, _-_, _≤_}
 use native.Mathlib.Omega.{arith}
 use borrow.Author.Needs.{needs}
 use lib.ListN.{length}
@@ -7,10 +7,6 @@ use Rattle.rows.specs.Rows.{countIf, startsIn}
 use Rattle.rows.proofs.Steps.{count-step, count-end}
 use Rattle.rows.proofs.starts_in.Statement.{statement}
 use Rattle.rows.proofs.starts_in.Tie as tie
-use Rattle.rows.proofs.starts_in.Reads as reads
-use Rattle.rows.proofs.starts_in.Lts as lts
-use Rattle.grammar.proofs.is_start.Reads as is-start-reads
-use Rattle.rows.proofs.count_if.Reads as count-if-reads
 
 abbrev Inv-loop : tie.InvT-loop
 Inv-loop text a e n₀ i₀ n i = (i ≤ length text) × (n ≤ i) × (n + startsIn text i e ≡ startsIn text a e)
@@ -18,41 +14,32 @@ Inv-loop text a e n₀ i₀ n i = (i ≤ length text) × (n ≤ i) × (n + start
 abbrev μ-loop : tie.MeasureT-loop
 μ-loop text a e n₀ i₀ n i = e - i
 
--- src/lib.rt:147:5
 loop-holds : tie.Need-loop-holds Inv-loop μ-loop
 loop-holds c = search needs
 
--- src/lib.rt:148:41
 shared-slice-read-is-start : tie.Need-shared-slice-read-is-start Inv-loop μ-loop
 shared-slice-read-is-start c = search needs
 
--- src/lib.rt:148:23
 is-start-requires : tie.Need-is-start-requires Inv-loop μ-loop
 is-start-requires c κs = search needs
 
--- src/lib.rt:148:14
 count-if-requires : tie.Need-count-if-requires Inv-loop μ-loop
 count-if-requires c κs = search needs
 
--- src/lib.rt:148:9
 add-n : tie.Need-add-n Inv-loop μ-loop
 add-n c = search needs
 
--- src/lib.rt:149:9
 add-i : tie.Need-add-i Inv-loop μ-loop
 add-i c = search needs
 
--- src/lib.rt:147:5
 loop-less : tie.Need-loop-less Inv-loop μ-loop
 loop-less c = search needs
 
--- src/lib.rt:147:5
 loop-again : tie.Need-loop-again Inv-loop μ-loop
 loop-again c =
     let w = c .before .before .before .before .loop in
     (search needs, search needs, omega (arith, w .inv .2, count-step (c .before .before .before .before .before .before .args .text .now) (w .i) (c .before .before .before .before .before .before .args .e) (search needs) (search needs), c .count-if .ensures .0 ∙ ap countIf (c .before .is-start .ensures)))
 
--- src/lib.rt:141:1
 returns : tie.Need-returns Inv-loop μ-loop
 returns c =
     let w = c .before .loop in

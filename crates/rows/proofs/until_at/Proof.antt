@@ -2,32 +2,22 @@ use mathlib.Core.Path.{sym, _∙_}
 use borrow.Author.Needs.{needs}
 use Rattle.rows.proofs.until_at.Statement.{statement}
 use Rattle.rows.proofs.until_at.Tie as tie
-use Rattle.rows.proofs.until_at.Reads as reads
-use Rattle.rows.proofs.until_at.Lts as lts
-use Rattle.rows.proofs.is_inner.Reads as is-inner-reads
-use Rattle.reader.proofs.part_end.Reads as part-end-reads
 
--- src/lib.rt:188:17
 shared-slice-read-is-inner : tie.Need-shared-slice-read-is-inner
 shared-slice-read-is-inner c = search needs
 
--- src/lib.rt:188:8
 is-inner-requires : tie.Need-is-inner-requires
 is-inner-requires c κs = search needs
 
--- src/lib.rt:189:52
 add-part-end : tie.Need-add-part-end
 add-part-end c = search needs
 
--- src/lib.rt:189:9
 part-end-requires : tie.Need-part-end-requires
 part-end-requires c κs = search needs
 
--- src/lib.rt:189:9
 returns : tie.Need-returns
 returns c = rw (sym (c .before .before .is-inner .ensures) ∙ c .before .if1 .taken) (c .part-end .ensures .0)
 
--- src/lib.rt:184:1
 returns-2 : tie.Need-returns-2
 returns-2 c = rw (sym (c .before .is-inner .ensures) ∙ c .if1 .left)
 

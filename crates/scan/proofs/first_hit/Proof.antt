@@ -4,9 +4,6 @@ use lib.ListN.{length}
 use Rattle.scan.proofs.Loops.{Left, left-begun, left-on, left-found, left-none}
 use Rattle.scan.proofs.first_hit.Statement.{statement}
 use Rattle.scan.proofs.first_hit.Tie as tie
-use Rattle.scan.proofs.first_hit.Reads as reads
-use Rattle.scan.proofs.first_hit.Lts as lts
-use Rattle.scan.proofs.hit_at.Reads as hit-at-reads
 
 abbrev Inv-loop : tie.InvT-loop
 Inv-loop text a skip left₀ i₀ left i = Left text a skip left i
@@ -14,31 +11,24 @@ Inv-loop text a skip left₀ i₀ left i = Left text a skip left i
 abbrev μ-loop : tie.MeasureT-loop
 μ-loop text a skip left₀ i₀ left i = length text - i
 
--- src/lib.rt:192:5
 loop-holds : tie.Need-loop-holds Inv-loop μ-loop
 loop-holds c = left-begun _ _ _
 
--- src/lib.rt:193:13
 hit-at-requires : tie.Need-hit-at-requires Inv-loop μ-loop
 hit-at-requires c κs = search needs
 
--- src/lib.rt:195:13
 returns : tie.Need-returns Inv-loop μ-loop
 returns c = (left-found _ _ _ _ _ (c .before .before .before .before .loop .inv) _ (c .before .before .before .loop-test .taken) (c .before .before .hit-at .ensures .0) (c .before .before .hit-at .ensures .1) (c .if1 .taken), search needs)
 
--- src/lib.rt:198:9
 add-i : tie.Need-add-i Inv-loop μ-loop
 add-i c = search needs
 
--- src/lib.rt:192:5
 loop-less : tie.Need-loop-less Inv-loop μ-loop
 loop-less c = search needs
 
--- src/lib.rt:192:5
 loop-again : tie.Need-loop-again Inv-loop μ-loop
 loop-again c = left-on _ _ _ _ _ (c .before .before .before .before .before .loop .inv) _ (c .before .before .before .before .loop-test .taken) (c .before .before .before .hit-at .ensures .0) (c .before .before .before .hit-at .ensures .1) (c .before .if1 .left)
 
--- src/lib.rt:186:1
 returns-2 : tie.Need-returns-2 Inv-loop μ-loop
 returns-2 c = (left-none _ _ _ _ _ (c .before .loop .inv) (c .loop-test .left), search needs)
 

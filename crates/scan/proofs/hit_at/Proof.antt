@@ -4,62 +4,43 @@ use mathlib.Core.List.{[], _∷_}
 use borrow.Author.Needs.{needs}
 use Rattle.scan.proofs.hit_at.Statement.{statement}
 use Rattle.scan.proofs.hit_at.Tie as tie
-use Rattle.scan.proofs.hit_at.Reads as reads
-use Rattle.scan.proofs.hit_at.Lts as lts
-use Rattle.scan.proofs.hit_if.Reads as hit-if-reads
-use Rattle.scan.proofs.is_outside.Reads as is-outside-reads
-use Rattle.scan.proofs.number_hit.Reads as number-hit-reads
-use Rattle.grammar.proofs.is_start.Reads as is-start-reads
 
--- src/lib.rt:179:22
 enum-known-a : tie.Need-enum-known-a
 enum-known-a c = search needs
 
--- src/lib.rt:179:49
 shared-slice-read-is-outside : tie.Need-shared-slice-read-is-outside
 shared-slice-read-is-outside c = search needs
 
--- src/lib.rt:179:35
 is-outside-requires : tie.Need-is-outside-requires
 is-outside-requires c κs = search needs
 
--- src/lib.rt:179:28
 hit-if-requires : tie.Need-hit-if-requires
 hit-if-requires c κs = search needs
 
--- src/lib.rt:180:25
 enum-told : tie.Need-enum-told
 enum-told c = search needs
 
--- src/lib.rt:180:25
 number-hit-requires : tie.Need-number-hit-requires
 number-hit-requires c κs = search needs
 
--- src/lib.rt:181:48
 enum-told-2 : tie.Need-enum-told-2
 enum-told-2 c = search needs
 
--- src/lib.rt:181:48
 shared-slice-read-is-start : tie.Need-shared-slice-read-is-start
 shared-slice-read-is-start c = search needs
 
--- src/lib.rt:181:30
 is-start-requires : tie.Need-is-start-requires
 is-start-requires c κs = search needs
 
--- src/lib.rt:181:23
 hit-if-requires-2 : tie.Need-hit-if-requires-2
 hit-if-requires-2 c κs = search needs
 
--- src/lib.rt:174:1
 returns : tie.Need-returns
 returns c = (rw (c .before .before .before .before .a .given .1) (c .hit-if .ensures .0 ∙ ap (λ (v : Bool). cond v (c .before .before .before .before .before .before .before .args .i ∷ []) []) (c .before .is-outside .ensures)), search needs, search needs)
 
--- src/lib.rt:174:1
 returns-2 : tie.Need-returns-2
 returns-2 c = (rw (c .before .enum-told .given .1) (c .number-hit .ensures .0), search needs, search needs)
 
--- src/lib.rt:174:1
 returns-3 : tie.Need-returns-3
 returns-3 c = (rw (c .before .before .before .enum-told2 .given .1) (c .hit-if2 .ensures .0 ∙ ap (λ (v : Bool). cond v (c .before .before .before .before .before .before .args .i ∷ []) []) (c .before .is-start .ensures)), search needs, search needs)
 

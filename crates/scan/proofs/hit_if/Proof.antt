@@ -2,14 +2,10 @@ use mathlib.Core.Path.{refl}
 use borrow.Author.Needs.{needs}
 use Rattle.scan.proofs.hit_if.Statement.{statement}
 use Rattle.scan.proofs.hit_if.Tie as tie
-use Rattle.scan.proofs.hit_if.Reads as reads
-use Rattle.scan.proofs.hit_if.Lts as lts
 
--- src/lib.rt:157:9
 returns : tie.Need-returns
 returns c = rw (c .if1 .taken) (refl, search needs, search needs)
 
--- src/lib.rt:153:1
 returns-2 : tie.Need-returns-2
 returns-2 c = rw (c .if1 .left) (refl, search needs, search needs)
 

@@ -1,30 +1,21 @@
 use Rattle.scan.proofs.Loops.{above-hit}
-use borrow.Author.Tests.{eq-eqb, ne-eqb}
+use borrow.Author.Tests.{ne-eqb}
 use borrow.Author.Needs.{needs}
 use Rattle.scan.proofs.number_hit.Statement.{statement}
 use Rattle.scan.proofs.number_hit.Tie as tie
-use Rattle.scan.proofs.number_hit.Reads as reads
-use Rattle.scan.proofs.number_hit.Lts as lts
-use Rattle.scan.proofs.hit_if.Reads as hit-if-reads
-use Rattle.scan.proofs.number_of.Reads as number-of-reads
 
--- src/lib.rt:166:8
 shared-slice-read-if1 : tie.Need-shared-slice-read-if1
 shared-slice-read-if1 c = search needs
 
--- src/lib.rt:167:9
 returns : tie.Need-returns
 returns c = (rw (ne-eqb _ 35 (c .if1 .taken)), search needs, search needs)
 
--- src/lib.rt:169:9
 number-of-requires : tie.Need-number-of-requires
 number-of-requires c κs = search needs
 
--- src/lib.rt:170:5
 hit-if-requires : tie.Need-hit-if-requires
 hit-if-requires c κs = search needs
 
--- src/lib.rt:162:1
 returns-2 : tie.Need-returns-2
 returns-2 c = (above-hit _ _ _ _ _ _ (c .before .before .before .if1 .left) (c .before .before .number-of .ensures .0) (c .before .before .number-of .ensures .1) (c .hit-if .ensures .0), search needs, search needs)
 

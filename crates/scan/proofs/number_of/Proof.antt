@@ -1,38 +1,27 @@
 use mathlib.Core.Path.{sym, ap, _∙_}
 use Prim.Native.Nat.{ℕ, _+_}
-use native.Mathlib.Omega.{arith}
 use lib.ListN.{drop}
 use Rattle.scan.specs.Scans.{numberFrom}
 use Rattle.scan.proofs.Loops.{number-end}
 use borrow.Author.Needs.{needs}
 use Rattle.scan.proofs.number_of.Statement.{statement}
 use Rattle.scan.proofs.number_of.Tie as tie
-use Rattle.scan.proofs.number_of.Reads as reads
-use Rattle.scan.proofs.number_of.Lts as lts
-use Rattle.scan.proofs.number_at.Reads as number-at-reads
-use Rattle.reader.proofs.part_end.Reads as part-end-reads
 
--- src/lib.rt:143:53
 add-part-end : tie.Need-add-part-end
 add-part-end c = search needs
 
--- src/lib.rt:143:17
 part-end-requires : tie.Need-part-end-requires
 part-end-requires c κs = search needs
 
--- src/lib.rt:143:17
 add-place : tie.Need-add-place
 add-place c = search needs
 
--- src/lib.rt:147:20
 number-at-requires : tie.Need-number-at-requires
 number-at-requires c κs = search needs
 
--- src/lib.rt:145:9
 returns : tie.Need-returns
 returns c = (ap (λ (n : ℕ). n + 2) (c .before .before .part-end .ensures .0), c .number-at .ensures .0 ∙ ap (λ (n : ℕ). numberFrom 0 (drop (n + 2) (c .before .before .before .before .args .text .now))) (c .before .before .part-end .ensures .0), search needs, search needs)
 
--- src/lib.rt:139:1
 returns-2 : tie.Need-returns-2
 returns-2 c =
     let e = ap (λ (n : ℕ). n + 2) (c .before .part-end .ensures .0) in

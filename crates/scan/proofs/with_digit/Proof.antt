@@ -6,35 +6,25 @@ use Rattle.grammar.proofs.Bytes.{ranged}
 use borrow.Author.Needs.{needs}
 use Rattle.scan.proofs.with_digit.Statement.{statement}
 use Rattle.scan.proofs.with_digit.Tie as tie
-use Rattle.scan.proofs.with_digit.Reads as reads
-use Rattle.scan.proofs.with_digit.Lts as lts
-use Rattle.scan.proofs.wide.Reads as wide-reads
 
--- src/lib.rt:117:13
 mul-n : tie.Need-mul-n
 mul-n c = search needs
 
--- src/lib.rt:117:23
 wide-requires : tie.Need-wide-requires
 wide-requires c κs = search needs
 
--- src/lib.rt:117:23
 sub-n : tie.Need-sub-n
 sub-n c = omega (arith, ranged 48 57 (c .before .args .b) (c .before .pre .1), c .wide .ensures)
 
--- src/lib.rt:117:13
 add-n : tie.Need-add-n
 add-n c = search needs
 
--- src/lib.rt:118:37
 add-result : tie.Need-add-result
 add-result c = search needs
 
--- src/lib.rt:112:1
 returns : tie.Need-returns
 returns c = (limited-in _ _ (ap (λ (n : ℕ). c .before .before .args .v * 10 + (n - 48)) (c .before .wide .ensures)) (c .if1 .taken), search needs)
 
--- src/lib.rt:112:1
 returns-2 : tie.Need-returns-2
 returns-2 c = (limited-out _ _ (ap (λ (n : ℕ). c .before .before .args .v * 10 + (n - 48)) (c .before .wide .ensures)) (c .if1 .left), search needs)
 
