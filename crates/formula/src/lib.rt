@@ -8,11 +8,9 @@ use refusal::Refusal;
 use refusal::Reply;
 use scan::Ask;
 ghost use mathlib.Core.Path.{_≡_};
-ghost use mathlib.Core.Bool.{_&&_};
 ghost use Prim.Native.Nat.{_+_, _≤_};
-ghost use lib.Dec.{leb};
 ghost use lib.ListN.{length, drop};
-ghost use Rattle.refusal.specs.Asked.{question, asked};
+ghost use Rattle.refusal.specs.Asked.{asked};
 ghost use Rattle.grammar.specs.Limits.{maxLength};
 ghost use Rattle.scan.specs.Scans.{foundIn};
 ghost use Rattle.formula.specs.Questions.{atFirst, askChannels, askLength, askGrammar, textQuestions, acceptOf};
@@ -27,31 +25,18 @@ fn no(number: u32, place: usize) -> Reply
     })
 }
 
-// The reply to a question that names no place, by its test.
-fn by_test(number: u32, yes: bool) -> Reply
-    ensures { λ r. ⌜ r ≡ question number 0 yes ⌝ }
-{
-    if yes { Reply::Yes } else { no(number, 0) }
-}
-
-fn within(x: usize, low: usize, high: usize) -> bool
-    ensures { λ r. ⌜ r ≡ leb low x && leb x high ⌝ }
-{
-    x >= low && x <= high
-}
-
 // Question 1.
 fn ask_channels(c: u32) -> Reply
     ensures { λ r. ⌜ r ≡ askChannels c ⌝ }
 {
-    by_test(1, within(c as usize, 1, MAX_CHANNELS))
+    refusal::by_test(1, refusal::within(c as usize, 1, MAX_CHANNELS))
 }
 
 // Question 3.
 fn ask_length(text: &[u8]) -> Reply
     ensures { λ r. ⌜ r ≡ askLength (now (text .entry)) ⌝ }
 {
-    by_test(3, within(text.len(), 1, MAX_LENGTH))
+    refusal::by_test(3, refusal::within(text.len(), 1, MAX_LENGTH))
 }
 
 // Question 4.

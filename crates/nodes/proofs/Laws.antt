@@ -1,12 +1,14 @@
 -- An accepted text fits the table, and the rows found are its nodes'. The node of a number from 1 to the count stands in the text at its
 -- row's first byte, so its own text is that part, and it is what the node prints.
 use mathlib.Core.Path.{_≡_, refl, sym, ap, ap₂, _∙_, subst}
+use mathlib.Core.Bool.{Bool, _&&_}
 use mathlib.Core.List.{List, [], _∷_, map}
 use Prim.Native.Nat.{ℕ, zero, suc, _+_, _-_, _≤_, _<_}
 use native.Mathlib.Omega.{arith}
+use lib.Dec.{leb}
 use lib.ListN.{length, getD, take, drop, length-map, List·getD-append}
 use lib.Seq.{take-all}
-use Rattle.refusal.specs.Asked.{asked}
+use Rattle.refusal.specs.Asked.{question, asked}
 use Rattle.refusal.specs.declared.Refusal.{Refusal}
 use Rattle.refusal.specs.declared.Reply.{Reply}
 use Rattle.refusal.specs.declared.Reply.the-variants.{Yes, No}
@@ -70,9 +72,10 @@ module _ (C k x : ℕ) (t : List ℕ) where
   unfolding acceptOf
   refused-early r e = sym (refusal-is ∙ replied-no No (askNode x t) (formulaQuestions C k t) r e)
 
-  pub refused-last : acceptOf C k t ≡ Yes → nodeRefusalOf C k x t ≡ askNode x t
-  unfolding acceptOf
-  refused-last e = refusal-is ∙ replied-yes No (askNode x t) (formulaQuestions C k t) e
+  pub refused-last : acceptOf C k t ≡ Yes → (n : ℕ) (c : Bool) (r : Reply) → n ≡ startsIn t 0 (length t) → c ≡ leb 1 x && leb x n → r ≡ question 8 0 c → r ≡ nodeRefusalOf C k x t
+  unfolding acceptOf askNode
+  refused-last e n c r p q u =
+      u ∙ ap (question 8 0) (q ∙ ap (λ (m : ℕ). leb 1 x && leb x m) (p ∙ count-is C k t e)) ∙ sym (refusal-is ∙ replied-yes No (askNode x t) (formulaQuestions C k t) e)
 
   pub text-refused : (r : Refusal) → nodeRefusalOf C k x t ≡ No r → [] ≡ nodeTextOf C k x t
   unfolding nodeTextOf nodeRefusalOf

@@ -1,11 +1,7 @@
 // The calls on an accepted formula's nodes: the node table, and a node's own text.
-use refusal::Refusal;
 use refusal::Reply;
 use rows::NodeTable;
 ghost use mathlib.Core.Path.{_≡_};
-ghost use mathlib.Core.Bool.{_&&_};
-ghost use lib.Dec.{leb};
-ghost use Rattle.refusal.specs.Asked.{question};
 ghost use Rattle.nodes.specs.Calls.{tabledOf, nodeTextOf, nodeRefusalOf};
 
 // The answer to questions 1 to 7, and the table: no nodes where refused.
@@ -31,21 +27,6 @@ pub fn node_table(text: &[u8], c: u32, k: u32) -> Tabled
     }
 }
 
-// Question 8.
-fn ask_node(x: u32, count: usize) -> Reply
-    ensures { λ r. ⌜ r ≡ question 8 0 (leb 1 x && leb x count) ⌝ }
-{
-    if x >= 1 {
-        if x as usize <= count {
-            return Reply::Yes;
-        }
-    }
-    Reply::No(Refusal {
-        number: 8,
-        place: 0,
-    })
-}
-
 // The number and place of the refusal of a node's text: questions 1 to 8.
 pub fn node_refusal(text: &[u8], c: u32, k: u32, x: u32) -> Reply
     ensures { λ r. ⌜ r ≡ nodeRefusalOf c k x (now (text .entry)) ⌝ }
@@ -53,13 +34,8 @@ pub fn node_refusal(text: &[u8], c: u32, k: u32, x: u32) -> Reply
     if let Reply::No(r) = formula::accept(text, c, k) {
         return Reply::No(r);
     }
-    ask_node(x, rows::starts_in(text, 0, text.len()))
-}
-
-fn wide(b: u8) -> usize
-    ensures { λ r. ⌜ r ≡ b ⌝ }
-{
-    b as usize
+    let count = rows::starts_in(text, 0, text.len());
+    refusal::by_test(8, refusal::within(x as usize, 1, count))
 }
 
 // A node's own text as that part of the lent text, the empty part where refused.
@@ -71,7 +47,7 @@ pub fn node_text(text: &[u8], c: u32, k: u32, x: u32) -> &[u8]
     }
     let table = rows::rows_of(text);
     let i = x as usize - 1;
-    let first = wide(table.firsts[i]);
-    let end = first + wide(table.lengths[i]);
+    let first = scan::wide(table.firsts[i]);
+    let end = first + scan::wide(table.lengths[i]);
     &text[first..end]
 }

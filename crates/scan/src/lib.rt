@@ -29,7 +29,7 @@ pub struct Hit {
     pub place: usize,
 }
 
-fn wide(b: u8) -> usize
+pub fn wide(b: u8) -> usize
     ensures { λ r. ⌜ r ≡ b ⌝ }
 {
     b as usize

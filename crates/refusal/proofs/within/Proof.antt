@@ -1,6 +1,6 @@
 use borrow.Author.Tests.{le-leb, lt-leb}
-use Rattle.formula.proofs.within.Statement.{statement}
-use Rattle.formula.proofs.within.Tie as tie
+use Rattle.refusal.proofs.within.Statement.{statement}
+use Rattle.refusal.proofs.within.Tie as tie
 
 returns : tie.Need-returns
 returns c = rw (le-leb (c .before .args .low) (c .before .args .x) (c .if1 .taken))
