@@ -1,4 +1,5 @@
--- Lists joined from lists, and what holds of every entry: both go by cases on the list.
+-- Lists joined from lists, and what holds of every entry of a list.
+-- Each law goes by cases on the list.
 use mathlib.Core.Path.{_≡_, refl, sym, ap, ap₂, _∙_}
 use mathlib.Core.List.{List, [], _∷_, _++_, append-assoc, map, flatMap}
 

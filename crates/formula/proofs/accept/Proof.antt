@@ -1,3 +1,5 @@
+-- `accept` asks 1, 2, 3 and then those of the text, and goes on where the reply is yes: so does the definition,
+-- once each reply is put in.
 use mathlib.Core.Path.{sym, _∙_}
 use Rattle.formula.specs.Questions.{acceptOf}
 use Rattle.formula.proofs.Asked.{length-most}

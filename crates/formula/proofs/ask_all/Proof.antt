@@ -1,3 +1,5 @@
+-- `ask_all` says no at the first find after some: a hit is the first of the finds that are left,
+-- and no hit means that none are left.
 use lib.ListN.{drop}
 use Rattle.scan.specs.Scans.{foundIn}
 use mathlib.Core.Path.{_∙_}

@@ -1,3 +1,5 @@
+-- `ask_grammar` asks question 4: a check that the text reads, or stops at p, says what the reader says,
+-- and p lies within the text.
 use native.Mathlib.Omega.{arith}
 use mathlib.Core.Path.{sym, _∙_}
 use Rattle.formula.proofs.Asked.{stop-within, grammar-reads, grammar-stops}

@@ -1,3 +1,5 @@
+-- `ask_text` asks 4 to 7 in order. Once 4 says yes, the text has a tree,
+-- and what a scan of its bytes finds is what 5, 6 and 7 ask of the tree.
 use mathlib.Core.Path.{sym, _∙_}
 use Rattle.formula.proofs.Found.{letters-asked, numbers-asked, nodes-asked}
 use Rattle.formula.proofs.Asked.{asked-one}

@@ -1,3 +1,5 @@
+-- `is_digit` tests the lower end first and then the upper one;
+-- where the first fails, the definition's conjunction is false too.
 use borrow.Author.Tests.{le-leb, lt-leb}
 use Rattle.grammar.proofs.is_digit.Statement.{statement}
 use Rattle.grammar.proofs.is_digit.Tie as tie

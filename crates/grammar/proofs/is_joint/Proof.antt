@@ -1,3 +1,5 @@
+-- `is_joint` says whether a byte joins two parts: `joint_of` gives the definition's joint,
+-- and each arm says what `joins` says of it.
 use mathlib.Core.Path.{sym, ap, _∙_}
 use Rattle.grammar.specs.Reader.{joins}
 use borrow.Author.Needs.{needs}

@@ -1,3 +1,5 @@
+-- `is_start` says whether a byte begins a part of either sort: it asks both leads,
+-- the second only where the first begins nothing, as the definition's disjunction does.
 use mathlib.Core.Path.{sym, ap, _∙_}
 use Rattle.grammar.specs.Reader.{begins}
 use borrow.Author.Needs.{needs}

@@ -1,3 +1,5 @@
+-- `lead_of` tells what a byte begins: each arm's byte is put into the definition,
+-- and a byte that is none of them passes all its tests on to `own_lead`.
 use mathlib.Core.Path.{sym, ap}
 use borrow.Author.Tests.{ne-eqb}
 use Rattle.grammar.specs.Reader.{leadOf}

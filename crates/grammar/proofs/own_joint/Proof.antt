@@ -1,3 +1,5 @@
+-- `own_joint` tells what joins two parts of one sort alone: `;` joins formulas.
+-- The sort and the test of the byte decide the definition's case.
 use borrow.Author.Tests.{eq-eqb, ne-eqb}
 use borrow.Author.Needs.{needs}
 use Rattle.grammar.proofs.own_joint.Statement.{statement}

@@ -1,3 +1,5 @@
+-- `own_lead` tells what a byte begins in one sort alone: a letter in states, `#` and `[` in formulas.
+-- Each arm's byte, or that it is none of them, decides the definition's tests.
 use mathlib.Core.Path.{sym, ap, _∙_}
 use borrow.Author.Tests.{ne-eqb}
 use Rattle.grammar.specs.Reader.{ownLead}

@@ -1,3 +1,5 @@
+-- `node_refusal` asks 1 to 7, and then 8: an accepted text has as many nodes as first bytes,
+-- so its test of the number is the definition's.
 use mathlib.Core.Path.{sym, _∙_}
 use Rattle.nodes.proofs.Laws.{refused-early, refused-last}
 use borrow.Author.Needs.{needs}

@@ -1,3 +1,5 @@
+-- `node_table` answers as `accept` does; an accepted text fits the table,
+-- and the rows found are those of its tree's nodes.
 use mathlib.Core.Path.{sym, _∙_}
 use Rattle.nodes.proofs.Laws.{fits, table-refused, table-made}
 use borrow.Author.Needs.{needs}

@@ -1,3 +1,5 @@
+-- `node_text` hands back nothing where refused. An accepted node's row has its first byte and its length,
+-- and the part that they cut from the text is the node's own.
 use mathlib.Core.Path.{sym, _∙_}
 use Rattle.nodes.proofs.Laws.{fits, text-refused, both-yes, numbered, index-fits, text-cut}
 use borrow.Author.Needs.{needs}

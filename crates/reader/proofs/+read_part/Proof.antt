@@ -1,3 +1,5 @@
+-- `read_part` calls itself on its parts, from a later place each time, so the bytes that remain fall.
+-- By what the first byte begins, its chain of calls is the reader's run: a law of proofs/Parts.antt for each case.
 use native.Mathlib.Omega.{arith}
 use borrow.Author.Needs.{needs}
 use mathlib.Core.Path.{sym, ap, _∙_, subst}

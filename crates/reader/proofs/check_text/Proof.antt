@@ -1,3 +1,5 @@
+-- `check_text` reads a formula from the first byte on: the text reads where that comes to its end,
+-- and stops where the formula ends too early or where its reading stops.
 use Rattle.reader.proofs.Parts.{check-more, check-reads, check-stops}
 use borrow.Author.Needs.{needs}
 use Rattle.reader.proofs.check_text.Statement.{statement}

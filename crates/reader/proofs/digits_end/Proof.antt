@@ -1,3 +1,5 @@
+-- `digits_end` goes on while digits stand: at each turn the place so far and the digits from there on
+-- make the same end as from the beginning, and at the end there are none.
 use borrow.Author.Tests.{not-true, not-false}
 use native.Mathlib.Omega.{arith}
 use borrow.Author.Needs.{needs}

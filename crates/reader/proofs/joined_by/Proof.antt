@@ -1,3 +1,5 @@
+-- `joined_by` tests one byte after a good read, if the text has one there:
+-- so it answers what the test at that place answers, and a bad read stays bad.
 use mathlib.Core.Path.{refl, sym, _∙_}
 use Rattle.grammar.specs.Reader.{isJoint}
 use Rattle.reader.specs.Parts.{testAt}

@@ -1,3 +1,5 @@
+-- `numbered_by` looks at one byte after a good read: `0` ends the number at once, another digit is followed
+-- by any digits, and no other byte begins a number. These are the definition's cases.
 use mathlib.Core.Path.{refl, sym, ap, _∙_}
 use borrow.Author.Tests.{ne-eqb}
 use Rattle.reader.specs.Parts.{numberAt}

@@ -1,3 +1,5 @@
+-- `part_end` is where a part's reading came to, good or bad: by itself a part is followed by nothing, so the reader
+-- stops just there. Past the text's end nothing is read.
 use Rattle.reader.proofs.Parts.{end-past, end-good, end-bad}
 use borrow.Author.Needs.{needs}
 use Rattle.reader.proofs.part_end.Statement.{statement}

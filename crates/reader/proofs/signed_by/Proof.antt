@@ -1,3 +1,5 @@
+-- `signed_by` tests one byte after a good read, if the text has one there:
+-- so it answers what the test at that place answers, and a bad read stays bad.
 use mathlib.Core.Path.{refl, sym}
 use borrow.Author.Tests.{eq-eqb, ne-eqb}
 use Rattle.reader.specs.Parts.{testAt, isSign}

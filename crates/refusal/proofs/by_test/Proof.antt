@@ -1,3 +1,5 @@
+-- `by_test` says yes where the test does,
+-- and no with place 0 where it does not: the definition's two cases.
 use borrow.Author.Needs.{needs}
 use Rattle.refusal.proofs.by_test.Statement.{statement}
 use Rattle.refusal.proofs.by_test.Tie as tie

@@ -1,3 +1,5 @@
+-- `within` tests the lower end first and then the upper one;
+-- where the first fails, the definition's conjunction is false too.
 use borrow.Author.Tests.{le-leb, lt-leb}
 use Rattle.refusal.proofs.within.Statement.{statement}
 use Rattle.refusal.proofs.within.Tie as tie

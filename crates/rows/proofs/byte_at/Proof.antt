@@ -1,3 +1,5 @@
+-- `byte_at` is the byte at a place; past the text's end it is 0,
+-- as the definition has it.
 use mathlib.Core.Path.{sym}
 use lib.ListN.{List·getD-eq-default}
 use borrow.Author.Needs.{needs}

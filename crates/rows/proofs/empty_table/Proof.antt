@@ -1,3 +1,5 @@
+-- `empty_table` has no rows, so each array is 0 throughout:
+-- the definition computes to it.
 use mathlib.Core.Path.{refl}
 use Rattle.rows.specs.Table.{tableOf}
 use Rattle.rows.proofs.empty_table.Statement.{statement}

@@ -1,3 +1,5 @@
+-- `head_at` goes by what the first byte begins:
+-- each arm's answer is the definition's at that lead.
 use mathlib.Core.Path.{sym, ap, ap₂, _∙_}
 use Prim.Native.Nat.{ℕ, _+_}
 use Rattle.rows.specs.Table.{heading}

@@ -1,3 +1,5 @@
+-- `is_inner` tests for `#` and, where that fails, for `[`:
+-- the definition's disjunction.
 use borrow.Author.Tests.{eq-eqb, ne-eqb}
 use Rattle.rows.proofs.is_inner.Statement.{statement}
 use Rattle.rows.proofs.is_inner.Tie as tie

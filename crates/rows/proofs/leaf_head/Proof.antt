@@ -1,3 +1,5 @@
+-- `leaf_head` tells a part of one byte: a letter by its channel, `T` and `F` by their numbers.
+-- The two tests decide the definition's cases.
 use mathlib.Core.Path.{sym, ap, _∙_}
 use Prim.Native.Nat.{ℕ, _+_}
 use native.Mathlib.Nat.{add-zero}

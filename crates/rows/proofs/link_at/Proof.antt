@@ -1,3 +1,5 @@
+-- `link_at` looks at the byte where the first part ends:
+-- each callee's answer is put into the definition.
 use mathlib.Core.Path.{ap, _∙_}
 use Prim.Native.Nat.{ℕ}
 use lib.ListN.{getD}

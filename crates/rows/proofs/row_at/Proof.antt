@@ -1,3 +1,5 @@
+-- `row_at` puts the four together: the end of the part gives its size and length,
+-- the first byte gives its head.
 use Rattle.rows.proofs.Steps.{row-is}
 use borrow.Author.Needs.{needs}
 use Rattle.rows.proofs.row_at.Statement.{statement}

@@ -1,3 +1,5 @@
+-- `rows_of` keeps: the rows so far, and those at the first bytes that are left, are all the rows.
+-- A byte that begins no node changes nothing; at a first byte there is still room, since there are at most 64.
 use mathlib.Core.Path.{sym, _∙_}
 use Prim.Native.Nat.{_-_}
 use borrow.Author.Needs.{needs}

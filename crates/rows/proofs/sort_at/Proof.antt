@@ -1,3 +1,5 @@
+-- `sort_at` compares the place with where the state assertions end:
+-- the definition's two cases.
 use borrow.Author.Tests.{lt-ltb, le-ltb}
 use Rattle.rows.proofs.sort_at.Statement.{statement}
 use Rattle.rows.proofs.sort_at.Tie as tie

@@ -1,3 +1,5 @@
+-- `starts_in` counts byte by byte: at each turn the count so far and the nodes that begin from there on
+-- make the same number as from the beginning.
 use mathlib.Core.Path.{_≡_, ap, _∙_}
 use Prim.Native.Nat.{_+_, _-_, _≤_}
 use native.Mathlib.Omega.{arith}

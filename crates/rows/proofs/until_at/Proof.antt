@@ -1,3 +1,5 @@
+-- `until_at` moves on at a `#` or `[` alone, to the end of the state assertion after it:
+-- the definition's two cases.
 use mathlib.Core.Path.{sym, _∙_}
 use borrow.Author.Needs.{needs}
 use Rattle.rows.proofs.until_at.Statement.{statement}

@@ -1,3 +1,5 @@
+-- `first_hit` skips finds until none is left to skip: at each turn the finds from the place so far on,
+-- less those still to skip, are those of the whole text, less all to skip.
 use borrow.Author.Needs.{needs}
 use Prim.Native.Nat.{_-_}
 use lib.ListN.{length}

@@ -1,3 +1,5 @@
+-- `hit_at` answers, for each question, what that question finds at the byte:
+-- the test's answer, or the number's, put into the question's case.
 use mathlib.Core.Path.{ap, _∙_}
 use mathlib.Core.Bool.{Bool, cond}
 use mathlib.Core.List.{[], _∷_}

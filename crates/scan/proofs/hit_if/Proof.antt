@@ -1,3 +1,5 @@
+-- `hit_if` is a place or none, by a test:
+-- the list that it stands for has that place or is empty.
 use mathlib.Core.Path.{refl}
 use borrow.Author.Needs.{needs}
 use Rattle.scan.proofs.hit_if.Statement.{statement}

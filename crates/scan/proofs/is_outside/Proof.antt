@@ -1,3 +1,5 @@
+-- `is_outside` compares a letter's channel with C; any other byte is inside.
+-- A letter is 97 or more, so the channel's difference is a true one.
 use Prim.Native.Nat.{ℕ, _-_}
 use lib.Dec.{leb}
 use mathlib.Core.Path.{sym, ap, _∙_}

@@ -1,3 +1,5 @@
+-- `number_at` takes digit after digit: at each turn the value so far and the digits from there on
+-- make the same number as from the beginning, and at the end none are left.
 use mathlib.Core.Path.{_≡_, refl, sym, ap, _∙_}
 use Prim.Native.Nat.{ℕ, _+_, _-_, _≤_}
 use borrow.Author.Needs.{needs}

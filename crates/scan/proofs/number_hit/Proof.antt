@@ -1,3 +1,5 @@
+-- `number_hit` answers at a `#` alone, with the first digit where the number is above the limit:
+-- as the definition does at that byte.
 use Rattle.scan.proofs.Loops.{above-hit}
 use borrow.Author.Tests.{ne-eqb}
 use borrow.Author.Needs.{needs}

@@ -1,3 +1,5 @@
+-- `number_of` reads the state assertion after `#` and skips `>=`: there the number stands.
+-- Where that lies past the text's end there are no digits, so the value is 0.
 use mathlib.Core.Path.{sym, ap, _∙_}
 use Prim.Native.Nat.{ℕ, _+_}
 use lib.ListN.{drop}

@@ -1,3 +1,5 @@
+-- `with_digit` takes one digit more, and one above the limit for all beyond: a byte that is a digit is 48 or more,
+-- and the two branches are the definition's.
 use mathlib.Core.Path.{ap}
 use Prim.Native.Nat.{ℕ, _+_, _*_, _-_}
 use native.Mathlib.Omega.{arith}
