@@ -1,13 +1,13 @@
 -- A reading says which bytes it has taken, and each step adds its byte to them: so what it reads prints as the text. Every reading
 -- can be completed, and where it stops at a byte it stops there whatever follows: so no grammatical text goes on with that byte.
 use mathlib.Core.Path.{_≡_, refl, sym, ap, _∙_}
-use mathlib.Core.Bool.{true, cond}
+use mathlib.Core.Bool.{Bool, true, false, cond}
 use mathlib.Core.List.{List, [], _∷_, _++_, append-assoc}
 use Prim.Native.Nat.{ℕ, _+_, _-_, _<_}
 use native.Mathlib.Omega.{arith}
 use lib.Dec.{eqb}
 use borrow.Author.Tests.{eqb-true, eqb-false}
-use Rattle.grammar.specs.Trees.{and, Tree, constant, negation, pair, duration, throughout, Letters, decimal, linkByte, write, textOf}
+use Rattle.grammar.specs.Trees.{and, Tree, constant, negation, pair, duration, throughout, Letters, decimal, linkByte, constantByte, write, textOf}
 use Rattle.grammar.specs.Reader.{Around, whole, negated, left, right, measured, entered, Reading, part, after, above, equals, digits, Next, go, stop, Outcome, reads, stops, isLetter, isDigit, ownLead, leadOf, leafOf, begin, ownJoint, jointOf, join, follow, next, endAfter, ended, onward, run}
 use Rattle.grammar.specs.declared.Sort.{Sort}
 use Rattle.grammar.specs.declared.Sort.the-variants.{State, Formula}
@@ -72,15 +72,12 @@ Joined b Or = b ≡ 124
 Joined b Chop = b ≡ 59
 Joined b Nothing = Unit
 
-constant-led : (s : Sort) (b : ℕ) → b ≡ 84 → Led s b Leaf
+constant-led : (s : Sort) (v : Bool) (b : ℕ) → b ≡ constantByte v → Led s b Leaf
 unfolding write
-constant-led State b e = rw e (tt, λ q. refl)
-constant-led Formula b e = rw e (tt, λ q. refl)
-
-false-led : (s : Sort) (b : ℕ) → b ≡ 70 → Led s b Leaf
-unfolding write
-false-led State b e = rw e (tt, λ q. refl)
-false-led Formula b e = rw e (tt, λ q. refl)
+constant-led State true b e = rw e (tt, λ q. refl)
+constant-led State false b e = rw e (tt, λ q. refl)
+constant-led Formula true b e = rw e (tt, λ q. refl)
+constant-led Formula false b e = rw e (tt, λ q. refl)
 
 own-led : (s : Sort) (b : ℕ) → Led s b (ownLead s b)
 unfolding write
@@ -93,8 +90,8 @@ own-led State b = cond-elim (Led State b) (isLetter b)
 own-led Formula b = cond-elim (Led Formula b) (eqb b 35) (eqb-true b 35) (λ e. cond-elim (Led Formula b) (eqb b 91) (eqb-true b 91) (λ g. tt))
 
 led : (s : Sort) (b : ℕ) → Led s b (leadOf s b)
-led s b = cond-elim (Led s b) (eqb b 84) (λ e. constant-led s b (eqb-true b 84 e))
-    (λ e. cond-elim (Led s b) (eqb b 70) (λ e. false-led s b (eqb-true b 70 e))
+led s b = cond-elim (Led s b) (eqb b 84) (λ e. constant-led s true b (eqb-true b 84 e))
+    (λ e. cond-elim (Led s b) (eqb b 70) (λ e. constant-led s false b (eqb-true b 70 e))
     (λ e. cond-elim (Led s b) (eqb b 33) (eqb-true b 33)
     (λ e. cond-elim (Led s b) (eqb b 40) (eqb-true b 40) (λ e. own-led s b))))
 

@@ -133,6 +133,15 @@ module _ (t : List ℕ) where
       ap (rowsAt t until) (ap (λ (l : List ℕ). l ++ ps) (map-append _ X Y) ∙ append-assoc (firsts X) (firsts Y) ps) ∙ e ∙ ap (λ (l : List Row). map rowOf X ++ l) f
       ∙ sym (append-assoc (map rowOf X) (map rowOf Y) _) ∙ ap (λ (l : List Row). l ++ rowsAt t u′ ps) (sym (map-append rowOf X Y))
 
+  -- a node with two parts
+  rows-pair : {s : Sort} (l : Link s) (x y : Tree s) (at until u u′ : ℕ) (ps : List ℕ) → Stands t (pair l x y) at → Numbers maxNumber (pair l x y) → Under s until at (at + length (textOf (pair l x y)))
+      → (let X = nodesOf x (suc at) in let Y = nodesOf y (suc (suc at + length (textOf x))) in
+      rowsAt t until (firsts X ++ (firsts Y ++ ps)) ≡ map rowOf X ++ rowsAt t u (firsts Y ++ ps) → rowsAt t u (firsts Y ++ ps) ≡ map rowOf Y ++ rowsAt t u′ ps
+      → rowsAt t until (at ∷ firsts (X ++ Y) ++ ps) ≡ rowOf (node (pair l x y) at) ∷ map rowOf (X ++ Y) ++ rowsAt t u′ ps)
+  rows-pair l x y at until u u′ ps w n k e f =
+      row-first (pair l x y) at until until _ w n k (until-stays (pair l x y) at until w refl)
+      ∙ ap (λ (r : List Row). rowOf (node (pair l x y) at) ∷ r) (rows-two (nodesOf x (suc at)) (nodesOf y (suc (suc at + length (textOf x)))) until u u′ ps e f)
+
   pub rows-part : {s : Sort} (x : Tree s) (at until : ℕ) (ps : List ℕ) → Stands t x at → Numbers maxNumber x → Under s until at (at + length (textOf x)) → Found x at until ps
   unfolding nodesOf write
   rows-part {s} (constant true) at until ps w n k = (until, out-same s until at _ (omega arith) k, row-first (constant true) at until until ps w n k (until-stays (constant true) at until w refl))
@@ -143,15 +152,11 @@ module _ (t : List ℕ) where
       let f = rows-part x (suc at) until ps (negated-stands t x at w) n (under-part s until at _ (suc at) _ (omega arith) (omega arith) k) in
       (f .0, out-later s until (f .0) _ _ (omega arith) (f .1), rows-below (negation x) x at until until ps w n k (until-stays (negation x) at until w refl) f)
   rows-part {s} (pair l x y) at until ps w n k =
-      let b : ℕ = suc (suc at + length (textOf x)) in
       let h = length-write x (linkByte l ∷ write y (41 ∷ [])) in
       let g = length-write y (41 ∷ []) in
-      let p = rows-part x (suc at) until (firsts (nodesOf y b) ++ ps) (left-stands t l x y at w) (n .0) (under-part s until at _ (suc at) _ (omega arith) (omega arith) k) in
-      let q = rows-part y b (p .0) ps (right-stands t l x y at w) (n .1) (under-next s until (p .0) at _ _ b _ (omega arith) (omega arith) k (p .1)) in (
-        q .0,
-        out-both s until (p .0) (q .0) _ _ (p .1) (out-later s (p .0) (q .0) _ _ (omega arith) (q .1)),
-        row-first (pair l x y) at until until _ w n k (until-stays (pair l x y) at until w refl) ∙ ap (λ (r : List Row). rowOf (node (pair l x y) at) ∷ r) (rows-two (nodesOf x (suc at)) (nodesOf y b) until (p .0) (q .0) ps (p .2) (q .2)),
-      )
+      let p = rows-part x (suc at) until (firsts (nodesOf y (suc (suc at + length (textOf x)))) ++ ps) (left-stands t l x y at w) (n .0) (under-part s until at _ (suc at) _ (omega arith) (omega arith) k) in
+      let q = rows-part y (suc (suc at + length (textOf x))) (p .0) ps (right-stands t l x y at w) (n .1) (under-next s until (p .0) at _ _ _ _ (omega arith) (omega arith) k (p .1)) in
+      (q .0, out-both s until (p .0) (q .0) _ _ (p .1) (out-later s (p .0) (q .0) _ _ (omega arith) (q .1)), rows-pair l x y at until (p .0) (q .0) ps w n k (p .2) (q .2))
   rows-part (duration x n) at until ps w m k =
       let v = measured-stands t x n at w in
       let f = rows-part x (suc at) (suc at + length (textOf x)) ps v (state-numbers x) (omega arith) in
