@@ -18,7 +18,7 @@ use Rattle.grammar.proofs.Laws.{stops-at-place}
 use Rattle.reader.specs.Parts.{checked, checkedOf}
 use Rattle.reader.specs.declared.Checked.the-variants.{Reads, Stops}
 use Rattle.scan.specs.Scans.{listOf}
-use Rattle.scan.specs.declared.Hit.{Hit}
+use Rattle.scan.specs.declared.Find.{Find}
 use Rattle.formula.specs.Questions.{atFirst, onRead, askLength, askGrammar}
 
 -- what a check of the grammar says
@@ -49,7 +49,7 @@ module _ (t : List ℕ) where
 
 -- the first of some places
 module _ (number : ℕ) where
-  pub first-is : (h : Hit) (l : List ℕ) → listOf h ≡ take 1 l → 0 < h .count → No (record { number = number; place = h .place }) ≡ atFirst number l
+  pub first-is : (h : Find) (l : List ℕ) → listOf h ≡ take 1 l → 0 < h .count → No (record { number = number; place = h .place }) ≡ atFirst number l
   first-is h = go (h .count)
     where
       go : (n : ℕ) (l : List ℕ) → replicate n (h .place) ≡ take 1 l → 0 < n → No (record { number = number; place = h .place }) ≡ atFirst number l
@@ -57,7 +57,7 @@ module _ (number : ℕ) where
       go (suc n) [] e k = absurd (let z : _≡_ {A = ℕ} 0 1 = cc in omega arith)
       go (suc n) (p ∷ l) e k = let f : h .place ≡ p = cc in ap (λ (q : ℕ). No (record { number = number; place = q })) f
 
-  pub none-is : (h : Hit) (l : List ℕ) → listOf h ≡ take 1 l → h .count ≤ 0 → Yes ≡ atFirst number l
+  pub none-is : (h : Find) (l : List ℕ) → listOf h ≡ take 1 l → h .count ≤ 0 → Yes ≡ atFirst number l
   none-is h = go (h .count)
     where
       go : (n : ℕ) (l : List ℕ) → replicate n (h .place) ≡ take 1 l → n ≤ 0 → Yes ≡ atFirst number l

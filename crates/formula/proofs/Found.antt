@@ -1,13 +1,13 @@
 -- What questions 5 to 7 find in the bytes of a text that reads is what its tree has: a scan meets the nodes in their order, and at
 -- each node its first byte, and for a duration the number after it, tell what the tree's question asks.
 use mathlib.Core.Path.{_≡_, refl, sym, ap, _∙_}
-use mathlib.Core.Bool.{Bool, true, false, cond}
+use mathlib.Core.Bool.{Bool, true, false, cond, _||_, true≢false}
 use mathlib.Core.List.{List, [], _∷_, append-nil, map, flatMap}
-use Prim.Native.Nat.{ℕ, _+_, _-_, _<_}
+use Prim.Native.Nat.{ℕ, zero, suc, _+_, _-_, _<_}
 use native.Mathlib.Decide.{decLt}
 use native.Mathlib.Omega.{arith}
 use lib.Dec.{eqb, ltb}
-use lib.ListN.{getD, drop}
+use lib.ListN.{length, getD, drop}
 use borrow.Author.Tests.{ne-eqb, lt-leb, le-leb, lt-ltb}
 use Rattle.refusal.specs.declared.Reply.the-variants.{Yes}
 use Rattle.grammar.specs.Limits.{maxNumber, maxNodes}
@@ -23,22 +23,33 @@ use Rattle.scan.specs.Scans.{scan, startAt, isOutside, outsideAt, limited, digi
 use Rattle.scan.specs.declared.Ask.{Ask}
 use Rattle.scan.specs.declared.Ask.the-variants.{Letters as AskLetters, Numbers, Nodes}
 use Rattle.formula.proofs.Lists.{all-map, flat-same, flat-map}
-use Rattle.formula.proofs.Scan.{firstByte, Quiet, scan-tree}
+use Rattle.formula.proofs.InOrder.{firstByte, Quiet, scan-tree}
 use Rattle.formula.proofs.Standing.{Stands, StandsNode, all-stand, digit-place, number-is}
 
 -- the bytes that begin no node: `&`, `|`, `;`, `)`, `]`, `>`, `=` and the digits
 abbrev signs : List ℕ
 signs = 38 ∷ 124 ∷ 59 ∷ 41 ∷ 93 ∷ 62 ∷ 61 ∷ 48 ∷ 49 ∷ 50 ∷ 51 ∷ 52 ∷ 53 ∷ 54 ∷ 55 ∷ 56 ∷ 57 ∷ []
 
-abbrev Plain : (ℕ → Bool) → Type 0
-Plain g = (k : ℕ) → k < 17 → g (getD signs k 0) ≡ false
+-- a test picks none of a list
+abbrev any : (ℕ → Bool) → List ℕ → Bool
+any g [] = false
+any g (b ∷ l) = g b || any g l
+
+neither : (a b : Bool) → a || b ≡ false → (a ≡ false) × (b ≡ false)
+neither true b e = absurd (true≢false e)
+neither false b e = (refl, e)
+
+none : (g : ℕ → Bool) (l : List ℕ) → any g l ≡ false → (k : ℕ) → k < length l → g (getD l k 0) ≡ false
+none g [] e k h = absurd (omega arith)
+none g (b ∷ l) e zero h = neither (g b) (any g l) e .0
+none g (b ∷ l) e (suc k) h = none g l (neither (g b) (any g l) e .1) k (omega arith)
 
 digit-sign : (d : ℕ) → d < 10 → getD signs (7 + d) 0 ≡ 48 + d
 digit-sign = at-each (λ d. getD signs (7 + d) 0 ≡ 48 + d) 10 refl refl refl refl refl refl refl refl refl refl
 
--- a test that picks none of them is quiet
-quiet : (g : ℕ → Bool) (f : ℕ → List ℕ) → Plain g → Quiet (λ b at. cond (g b) (f at) [])
-quiet g f p = record {
+-- a test that picks no sign is quiet
+quiet : (g : ℕ → Bool) (f : ℕ → List ℕ) → any g signs ≡ false → Quiet (λ b at. cond (g b) (f at) [])
+quiet g f e = record {
   links = links;
   close = λ at. off at (p 3 (omega arith));
   shut = λ at. off at (p 4 (omega arith));
@@ -47,6 +58,9 @@ quiet g f p = record {
   digit = λ d h at. off at (ap g (sym (digit-sign d h)) ∙ p (7 + d) (omega arith));
 }
   where
+    p : (k : ℕ) → k < 17 → g (getD signs k 0) ≡ false
+    p = none g signs e
+
     off : {c : Bool} (at : ℕ) → c ≡ false → cond c (f at) [] ≡ []
     off at e = ap (λ (c : Bool). cond c (f at) []) e
 
@@ -69,9 +83,9 @@ answer Nodes x at = at ∷ []
 
 module _ (t : List ℕ) where
   quiet-at : (a : Ask) → Quiet (answersAt a t)
-  quiet-at (AskLetters C) = quiet (isOutside C) (λ at. at ∷ []) (at-each (λ k. isOutside C (getD signs k 0) ≡ false) 17 refl refl refl refl refl refl refl refl refl refl refl refl refl refl refl refl refl)
-  quiet-at Numbers = quiet (λ b. eqb b 35) (λ at. cond (ltb maxNumber (numberOf t at)) (digitOf t at ∷ []) []) (at-each (λ k. eqb (getD signs k 0) 35 ≡ false) 17 refl refl refl refl refl refl refl refl refl refl refl refl refl refl refl refl refl)
-  quiet-at Nodes = quiet isStart (λ at. at ∷ []) (at-each (λ k. isStart (getD signs k 0) ≡ false) 17 refl refl refl refl refl refl refl refl refl refl refl refl refl refl refl refl refl)
+  quiet-at (AskLetters C) = quiet (isOutside C) (λ at. at ∷ []) refl
+  quiet-at Numbers = quiet (λ b. eqb b 35) (λ at. cond (ltb maxNumber (numberOf t at)) (digitOf t at ∷ []) []) refl
+  quiet-at Nodes = quiet isStart (λ at. at ∷ []) refl
 
   letters-answer : (C : ℕ) {s : Sort} (x : Tree s) (at : ℕ) → Letters 8 x → outsideAt C (firstByte x) at ≡ outside C x at
   letters-answer C (constant true) at w = refl

@@ -1,5 +1,5 @@
 pub mod Lists
-pub mod Scan
+pub mod InOrder
 pub mod Standing
 pub mod Found
 pub mod Asked

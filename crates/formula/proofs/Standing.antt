@@ -24,7 +24,7 @@ use Rattle.formula.specs.Nodes.{Node, nodesOf}
 use Rattle.grammar.specs.Limits.{maxNumber}
 use Rattle.scan.specs.Scans.{limited, numberFrom, digitOf, numberOf}
 use Rattle.formula.proofs.Lists.{All, all-append}
-use Rattle.formula.proofs.Scan.{firstByte}
+use Rattle.formula.proofs.InOrder.{firstByte}
 
 -- a part stands at a place of a text
 pub record Stands (t : List ℕ) {s : Sort} (x : Tree s) (at : ℕ) : Type 0 where

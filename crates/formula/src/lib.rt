@@ -52,11 +52,11 @@ fn ask_grammar(text: &[u8]) -> Reply
 }
 
 // Questions 5, 6 and 7, of a text that reads.
-fn ask_all(text: &[u8], number: u32, a: Ask, skip: usize) -> Reply
+fn ask_first(text: &[u8], number: u32, a: Ask, skip: usize) -> Reply
     requires { ⌜ length (now text) ≤ maxLength ⌝ }
     ensures { λ r. ⌜ r ≡ atFirst number (drop skip (foundIn a (now (text .entry)))) ⌝ }
 {
-    let h = scan::first_hit(text, a, skip);
+    let h = scan::first_find(text, a, skip);
     if h.count > 0 {
         return no(number, h.place);
     }
@@ -87,11 +87,11 @@ fn ask_text(text: &[u8], c: u32) -> Reply
     if let Reply::No(r) = ask_grammar(text) {
         return Reply::No(r);
     }
-    if let Reply::No(r) = ask_all(text, 5, Ask::Letters(c), 0) {
+    if let Reply::No(r) = ask_first(text, 5, Ask::Letters(c), 0) {
         return Reply::No(r);
     }
-    if let Reply::No(r) = ask_all(text, 6, Ask::Numbers, 0) {
+    if let Reply::No(r) = ask_first(text, 6, Ask::Numbers, 0) {
         return Reply::No(r);
     }
-    ask_all(text, 7, Ask::Nodes, MAX_NODES)
+    ask_first(text, 7, Ask::Nodes, MAX_NODES)
 }

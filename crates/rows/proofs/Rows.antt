@@ -21,7 +21,7 @@ use Rattle.scan.specs.declared.Ask.the-variants.{Nodes}
 use Rattle.formula.specs.Nodes.{Node, node, nodesOf, nodesIn}
 use Rattle.formula.proofs.Standing.{Stands, end-is, text-is, text-some, negated-stands, left-stands, right-stands, measured-stands, entered-stands, first-is, link-is, number-is}
 use Rattle.grammar.proofs.Written.{length-write}
-use Rattle.formula.proofs.Scan.{firstByte}
+use Rattle.formula.proofs.InOrder.{firstByte}
 use Rattle.formula.proofs.Lists.{flat-map}
 use Rattle.formula.proofs.Found.{starts-part, letter-is, root-stands, found-in}
 use Rattle.formula.proofs.Laws.{Accepted, nodes-read}

@@ -16,8 +16,8 @@ use Rattle.reader.specs.Parts.{endOf}
 use Rattle.scan.specs.Scans.{scan, startAt, foundIn}
 use Rattle.scan.specs.declared.Ask.the-variants.{Nodes}
 use Rattle.scan.proofs.Loops.{scan-at, scan-end}
-use Rattle.rows.specs.Table.{padded, tableOf, withRow}
-use Rattle.rows.specs.Rows.{countIf, startsIn, headAt, rowAt, sortAt, untilAt, rowsAt}
+use Rattle.rows.specs.Table.{padded, tableOf}
+use Rattle.rows.specs.Rows.{countIf, startsIn, headAt, rowAt, sortAt, untilAt, withRow, rowsAt}
 use Rattle.rows.specs.declared.Head.{Head}
 use Rattle.rows.specs.declared.Row.{Row}
 use Rattle.rows.specs.declared.NodeTable.{NodeTable}

@@ -3,7 +3,7 @@ use mathlib.Core.Bool.{Bool, true, false, cond, _||_}
 use mathlib.Core.List.{List, [], _∷_}
 use Prim.Native.Nat.{ℕ, _+_, _-_}
 use lib.Dec.{eqb, ltb}
-use lib.ListN.{length, getD, take, drop}
+use lib.ListN.{length, getD, take, drop, set}
 use Rattle.grammar.specs.Reader.{isLetter, leadOf, jointOf}
 use Rattle.grammar.specs.declared.Sort.{Sort}
 use Rattle.grammar.specs.declared.Sort.the-variants.{State, Formula}
@@ -16,6 +16,7 @@ use Rattle.scan.specs.Scans.{scan, startAt, numberOf}
 use Rattle.rows.specs.Table.{sortCode, constantCode, heading}
 use Rattle.rows.specs.declared.Head.{Head}
 use Rattle.rows.specs.declared.Row.{Row}
+use Rattle.rows.specs.declared.NodeTable.{NodeTable}
 
 abbrev pub jointCode : Joint → ℕ
 jointCode And = 3
@@ -66,3 +67,14 @@ untilAt t until at = cond (isInner (getD t at 0)) (endOf t State (at + 1)) until
 unfoldable pub rowsAt : List ℕ → ℕ → List ℕ → List Row
 rowsAt t until [] = []
 rowsAt t until (p ∷ ps) = rowAt t (sortAt until p) p ∷ rowsAt t (untilAt t until p) ps
+
+-- a table with one row more
+abbrev pub withRow : NodeTable → Row → NodeTable
+withRow n r = record {
+  count = n .count + 1;
+  kinds = set (n .kinds) (n .count) (r .head .kind);
+  numbers = set (n .numbers) (n .count) (r .head .number);
+  sizes = set (n .sizes) (n .count) (r .size);
+  firsts = set (n .firsts) (n .count) (r .first);
+  lengths = set (n .lengths) (n .count) (r .length);
+}

@@ -2,7 +2,7 @@
 use mathlib.Core.Bool.{Bool, true, false}
 use mathlib.Core.List.{List, _++_, map}
 use Prim.Native.Nat.{ℕ, _+_, _-_}
-use lib.ListN.{length, replicate, set}
+use lib.ListN.{length, replicate}
 use Rattle.grammar.specs.Limits.{maxNodes}
 use Rattle.grammar.specs.Trees.{Link, and, or, chop, Tree, constant, letter, negation, pair, duration, throughout, textOf}
 use Rattle.grammar.specs.declared.Sort.{Sort}
@@ -12,7 +12,7 @@ use Rattle.rows.specs.declared.Head.{Head}
 use Rattle.rows.specs.declared.Row.{Row}
 use Rattle.rows.specs.declared.NodeTable.{NodeTable}
 
--- what a node is, by number: the same for both sorts, and 16 more for a formula
+-- what a node is, by number: `F` 0, `T` 1, `!` 2, `&` 3, `|` 4, `;` 5, a letter 6, `#` 7, `[` 8; 16 more for a formula
 abbrev pub sortCode : Sort → ℕ
 sortCode State = 0
 sortCode Formula = 16
@@ -35,8 +35,8 @@ headOf {s} (constant v) = heading (sortCode s + constantCode v) 0
 headOf {s} (negation x) = heading (sortCode s + 2) 0
 headOf {s} (pair l x y) = heading (sortCode s + linkCode l) 0
 headOf (letter c) = heading 6 c
-headOf (duration x n) = heading 23 n
-headOf (throughout x) = heading 24 0
+headOf (duration x n) = heading (sortCode Formula + 7) n
+headOf (throughout x) = heading (sortCode Formula + 8) 0
 
 -- a node's row: its size is how many nodes it has, itself included
 abbrev pub rowOf : Node → Row
@@ -54,15 +54,4 @@ tableOf rows = record {
   sizes = padded (map (λ (r : Row). r .size) rows);
   firsts = padded (map (λ (r : Row). r .first) rows);
   lengths = padded (map (λ (r : Row). r .length) rows);
-}
-
--- a table with one row more
-abbrev pub withRow : NodeTable → Row → NodeTable
-withRow n r = record {
-  count = n .count + 1;
-  kinds = set (n .kinds) (n .count) (r .head .kind);
-  numbers = set (n .numbers) (n .count) (r .head .number);
-  sizes = set (n .sizes) (n .count) (r .size);
-  firsts = set (n .firsts) (n .count) (r .first);
-  lengths = set (n .lengths) (n .count) (r .length);
 }

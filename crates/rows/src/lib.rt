@@ -10,8 +10,8 @@ ghost use lib.ListN.{length, getD};
 ghost use Rattle.grammar.specs.Limits.{maxLength, maxNodes};
 ghost use Rattle.scan.specs.Scans.{foundIn};
 ghost use Rattle.scan.specs.declared.Ask.the-variants.{Nodes};
-ghost use Rattle.rows.specs.Table.{sortCode, withRow, tableOf};
-ghost use Rattle.rows.specs.Rows.{jointCode, leafHead, linkAt, headAt, countIf, startsIn, rowAt, isInner, untilAt, sortAt, rowsAt};
+ghost use Rattle.rows.specs.Table.{sortCode, tableOf};
+ghost use Rattle.rows.specs.Rows.{jointCode, leafHead, linkAt, headAt, countIf, startsIn, rowAt, isInner, untilAt, sortAt, withRow, rowsAt};
 
 // What a node is: its kind and its number.
 pub struct Head {

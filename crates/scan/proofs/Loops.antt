@@ -15,11 +15,11 @@ use Rattle.reader.proofs.Parts.{at-byte}
 use Rattle.grammar.specs.Limits.{maxNumber}
 use Rattle.scan.specs.Scans.{scan, numberFrom, limited, digitOf, numberOf, aboveAt, foundIn, answersAt, listOf}
 use Rattle.scan.specs.declared.Ask.{Ask}
-use Rattle.scan.specs.declared.Hit.{Hit}
+use Rattle.scan.specs.declared.Find.{Find}
 
--- a hit is taken off what is to be skipped
-drop-hit : (h : Hit) (left : ℕ) (q : List ℕ) → h .count ≤ 1 → h .count ≤ left → drop left (listOf h ++ q) ≡ drop (left - h .count) q
-drop-hit h left q = go (h .count) left
+-- a find is taken off what is to be skipped
+drop-find : (h : Find) (left : ℕ) (q : List ℕ) → h .count ≤ 1 → h .count ≤ left → drop left (listOf h ++ q) ≡ drop (left - h .count) q
+drop-find h left q = go (h .count) left
   where
     go : (n left : ℕ) → n ≤ 1 → n ≤ left → drop left (replicate n (h .place) ++ q) ≡ drop (left - n) q
     go zero left w k = let e : left ≡ left - 0 = omega arith in ap (λ (m : ℕ). drop m q) e
@@ -27,8 +27,8 @@ drop-hit h left q = go (h .count) left
     go (suc zero) (suc left) w k = let e : left ≡ suc left - 1 = omega arith in ap (λ (m : ℕ). drop m q) e
     go (suc (suc n)) left w k = absurd (omega arith)
 
-take-hit : (h : Hit) (left : ℕ) (q : List ℕ) → h .count ≤ 1 → left < h .count → listOf h ≡ take 1 (drop left (listOf h ++ q))
-take-hit h left q = go (h .count) left
+take-find : (h : Find) (left : ℕ) (q : List ℕ) → h .count ≤ 1 → left < h .count → listOf h ≡ take 1 (drop left (listOf h ++ q))
+take-find h left q = go (h .count) left
   where
     go : (n left : ℕ) → n ≤ 1 → left < n → replicate n (h .place) ≡ take 1 (drop left (replicate n (h .place) ++ q))
     go zero left w k = absurd (omega arith)
@@ -57,15 +57,15 @@ module _ (t : List ℕ) (a : Ask) (skip : ℕ) where
   left-begun = record { within = omega arith; same = refl }
 
   module _ (left i : ℕ) (w : Left left i) where
-    module _ (h : Hit) (k : i < length t) (e : listOf h ≡ answersAt a t (getD t i 0) i) (c : h .count ≤ 1) where
+    module _ (h : Find) (k : i < length t) (e : listOf h ≡ answersAt a t (getD t i 0) i) (c : h .count ≤ 1) where
       scan-step : scan (answersAt a t) (drop i t) i ≡ listOf h ++ scan (answersAt a t) (drop (i + 1) t) (i + 1)
       scan-step = scan-at (answersAt a t) t i k ∙ ap (λ l. l ++ scan (answersAt a t) (drop (i + 1) t) (i + 1)) (sym e)
 
       pub left-on : h .count ≤ left → Left (left - h .count) (i + 1)
-      left-on l = record { within = omega arith; same = sym (drop-hit h left _ c l) ∙ ap (drop left) (sym scan-step) ∙ w .same }
+      left-on l = record { within = omega arith; same = sym (drop-find h left _ c l) ∙ ap (drop left) (sym scan-step) ∙ w .same }
 
       pub left-found : left < h .count → listOf h ≡ take 1 (drop skip (foundIn a t))
-      left-found l = take-hit h left _ c l ∙ ap (take 1) (ap (drop left) (sym scan-step) ∙ w .same)
+      left-found l = take-find h left _ c l ∙ ap (take 1) (ap (drop left) (sym scan-step) ∙ w .same)
 
     pub left-none : length t ≤ i → [] ≡ take 1 (drop skip (foundIn a t))
     left-none k = sym (ap (take 1) (sym (w .same) ∙ ap (drop left) (scan-end (answersAt a t) t i k) ∙ drop-nil left))
@@ -89,5 +89,5 @@ module _ (t : List ℕ) (i v : ℕ) where
   unfolding numberFrom
   number-end k = ap (numberFrom v) (drop-of-length-le t k)
 
-pub above-hit : (t l : List ℕ) (i b p v : ℕ) → b ≡ 35 → p ≡ digitOf t i → v ≡ numberOf t i → l ≡ cond (ltb maxNumber v) (p ∷ []) [] → l ≡ aboveAt t b i
-above-hit t l i b p v e f g h = h ∙ rw (e, f, g)
+pub above-find : (t l : List ℕ) (i b p v : ℕ) → b ≡ 35 → p ≡ digitOf t i → v ≡ numberOf t i → l ≡ cond (ltb maxNumber v) (p ∷ []) [] → l ≡ aboveAt t b i
+above-find t l i b p v e f g h = h ∙ rw (e, f, g)

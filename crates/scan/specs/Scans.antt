@@ -10,7 +10,7 @@ use Rattle.reader.specs.Parts.{endOf}
 use Rattle.grammar.specs.Limits.{maxNumber}
 use Rattle.scan.specs.declared.Ask.{Ask}
 use Rattle.scan.specs.declared.Ask.the-variants.{Letters, Numbers, Nodes}
-use Rattle.scan.specs.declared.Hit.{Hit}
+use Rattle.scan.specs.declared.Find.{Find}
 
 -- what h answers at each byte and its place, joined
 unfoldable pub scan : (ℕ → ℕ → List ℕ) → List ℕ → ℕ → List ℕ
@@ -57,5 +57,5 @@ answersAt Nodes t = startAt
 unfoldable pub foundIn : Ask → List ℕ → List ℕ
 foundIn a t = scan (answersAt a t) t 0
 
-abbrev pub listOf : Hit → List ℕ
+abbrev pub listOf : Find → List ℕ
 listOf h = replicate (h .count) (h .place)

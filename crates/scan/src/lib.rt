@@ -24,7 +24,7 @@ pub enum Ask {
 }
 
 // A place, or none: the count is 1 or 0.
-pub struct Hit {
+pub struct Find {
     pub count: usize,
     pub place: usize,
 }
@@ -87,52 +87,52 @@ pub fn number_of(text: &[u8], at: usize) -> Number
     Number { place, value: 0 }
 }
 
-fn hit_if(yes: bool, place: usize) -> Hit
+fn find_if(yes: bool, place: usize) -> Find
     ensures { λ r. ⌜ (listOf r ≡ cond yes (place ∷ []) []) × (r .count ≤ 1) × (r .place ≤ place) ⌝ }
 {
     if yes {
-        return Hit { count: 1, place };
+        return Find { count: 1, place };
     }
-    Hit { count: 0, place: 0 }
+    Find { count: 0, place: 0 }
 }
 
-fn number_hit(text: &[u8], i: usize) -> Hit
+fn number_find(text: &[u8], i: usize) -> Find
     requires { ⌜ (length (now text) ≤ maxLength) × (i < length (now text)) ⌝ }
     ensures { λ r. ⌜ (listOf r ≡ aboveAt (now (text .entry)) (getD (now (text .entry)) i 0) i) × (r .count ≤ 1) × (r .place ≤ maxLength + 2) ⌝ }
 {
     if text[i] != b'#' {
-        return Hit { count: 0, place: 0 };
+        return Find { count: 0, place: 0 };
     }
     let n = number_of(text, i);
-    hit_if(n.value > MAX_NUMBER, n.place)
+    find_if(n.value > MAX_NUMBER, n.place)
 }
 
 // What a question finds at the byte at i.
-fn hit_at(text: &[u8], a: Ask, i: usize) -> Hit
+fn find_at(text: &[u8], a: Ask, i: usize) -> Find
     requires { ⌜ (length (now text) ≤ maxLength) × (i < length (now text)) ⌝ }
     ensures { λ r. ⌜ (listOf r ≡ answersAt a (now (text .entry)) (getD (now (text .entry)) i 0) i) × (r .count ≤ 1) × (r .place ≤ maxLength + 2) ⌝ }
 {
     match a {
-        Ask::Letters(c) => hit_if(is_outside(c, text[i]), i),
-        Ask::Numbers => number_hit(text, i),
-        Ask::Nodes => hit_if(grammar::is_start(text[i]), i),
+        Ask::Letters(c) => find_if(is_outside(c, text[i]), i),
+        Ask::Numbers => number_find(text, i),
+        Ask::Nodes => find_if(grammar::is_start(text[i]), i),
     }
 }
 
 // What a question finds first, after a number of finds.
-pub fn first_hit(text: &[u8], a: Ask, skip: usize) -> Hit
+pub fn first_find(text: &[u8], a: Ask, skip: usize) -> Find
     requires { ⌜ length (now text) ≤ maxLength ⌝ }
     ensures { λ r. ⌜ (listOf r ≡ take 1 (drop skip (foundIn a (now (text .entry))))) × (r .place ≤ maxLength + 2) ⌝ }
 {
     let mut left = skip;
     let mut i = 0;
     while i < text.len() {
-        let h = hit_at(text, a, i);
+        let h = find_at(text, a, i);
         if h.count > left {
             return h;
         }
         left -= h.count;
         i += 1;
     }
-    Hit { count: 0, place: 0 }
+    Find { count: 0, place: 0 }
 }

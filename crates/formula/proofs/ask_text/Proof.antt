@@ -19,8 +19,8 @@ returns c = simp (sym (c .before .before .before .ask-grammar .ensures) ∙ c .b
 enum-told : tie.Need-enum-told
 enum-told c = search needs
 
-ask-all-requires : tie.Need-ask-all-requires
-ask-all-requires c κs = search needs
+ask-first-requires : tie.Need-ask-first-requires
+ask-first-requires c κs = search needs
 
 enum-known-r-2 : tie.Need-enum-known-r-2
 enum-known-r-2 c = search needs
@@ -28,13 +28,13 @@ enum-known-r-2 c = search needs
 returns-2 : tie.Need-returns-2
 returns-2 c =
     let g = sym (c .before .before .before .before .before .before .ask-grammar .ensures) ∙ c .before .before .before .before .enum-told .given .1 in
-    simp (g, letters-asked _ _ g ∙ sym (c .before .before .before .ask-all .ensures) ∙ c .before .r2 .given .1)
+    simp (g, letters-asked _ _ g ∙ sym (c .before .before .before .ask-first .ensures) ∙ c .before .r2 .given .1)
 
 enum-told-2 : tie.Need-enum-told-2
 enum-told-2 c = search needs
 
-ask-all-requires-2 : tie.Need-ask-all-requires-2
-ask-all-requires-2 c κs = search needs
+ask-first-requires-2 : tie.Need-ask-first-requires-2
+ask-first-requires-2 c κs = search needs
 
 enum-known-r-3 : tie.Need-enum-known-r-3
 enum-known-r-3 c = search needs
@@ -42,18 +42,18 @@ enum-known-r-3 c = search needs
 returns-3 : tie.Need-returns-3
 returns-3 c =
     let g = sym (c .before .before .before .before .before .before .before .before .before .ask-grammar .ensures) ∙ c .before .before .before .before .before .before .before .enum-told .given .1 in
-    simp (g, letters-asked _ _ g ∙ sym (c .before .before .before .before .before .before .ask-all .ensures) ∙ c .before .before .before .before .enum-told2 .given .1, numbers-asked _ g ∙ sym (c .before .before .before .ask-all2 .ensures) ∙ c .before .r3 .given .1)
+    simp (g, letters-asked _ _ g ∙ sym (c .before .before .before .before .before .before .ask-first .ensures) ∙ c .before .before .before .before .enum-told2 .given .1, numbers-asked _ g ∙ sym (c .before .before .before .ask-first2 .ensures) ∙ c .before .r3 .given .1)
 
 enum-told-3 : tie.Need-enum-told-3
 enum-told-3 c = search needs
 
-ask-all-requires-3 : tie.Need-ask-all-requires-3
-ask-all-requires-3 c κs = search needs
+ask-first-requires-3 : tie.Need-ask-first-requires-3
+ask-first-requires-3 c κs = search needs
 
 returns-4 : tie.Need-returns-4
 returns-4 c =
     let g = sym (c .before .before .before .before .before .before .before .before .before .ask-grammar .ensures) ∙ c .before .before .before .before .before .before .before .enum-told .given .1 in
-    simp (g, letters-asked _ _ g ∙ sym (c .before .before .before .before .before .before .ask-all .ensures) ∙ c .before .before .before .before .enum-told2 .given .1, numbers-asked _ g ∙ sym (c .before .before .before .ask-all2 .ensures) ∙ c .before .enum-told3 .given .1, nodes-asked _ g) (c .ask-all3 .ensures ∙ sym (asked-one _))
+    simp (g, letters-asked _ _ g ∙ sym (c .before .before .before .before .before .before .ask-first .ensures) ∙ c .before .before .before .before .enum-told2 .given .1, numbers-asked _ g ∙ sym (c .before .before .before .ask-first2 .ensures) ∙ c .before .enum-told3 .given .1, nodes-asked _ g) (c .ask-first3 .ensures ∙ sym (asked-one _))
 
 pub ask-text-spec : {M : Type 1} → statement M
 ask-text-spec =
@@ -63,13 +63,13 @@ ask-text-spec =
     enum-known-r
     returns
     enum-told
-    ask-all-requires
+    ask-first-requires
     enum-known-r-2
     returns-2
     enum-told-2
-    ask-all-requires-2
+    ask-first-requires-2
     enum-known-r-3
     returns-3
     enum-told-3
-    ask-all-requires-3
+    ask-first-requires-3
     returns-4)

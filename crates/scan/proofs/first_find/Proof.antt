@@ -1,11 +1,11 @@
--- `first_hit` skips finds until none is left to skip: at each turn the finds from the place so far on,
+-- `first_find` skips finds until none is left to skip: at each turn the finds from the place so far on,
 -- less those still to skip, are those of the whole text, less all to skip.
 use borrow.Author.Needs.{needs}
 use Prim.Native.Nat.{_-_}
 use lib.ListN.{length}
 use Rattle.scan.proofs.Loops.{Left, left-begun, left-on, left-found, left-none}
-use Rattle.scan.proofs.first_hit.Statement.{statement}
-use Rattle.scan.proofs.first_hit.Tie as tie
+use Rattle.scan.proofs.first_find.Statement.{statement}
+use Rattle.scan.proofs.first_find.Tie as tie
 
 abbrev Inv-loop : tie.InvT-loop
 Inv-loop text a skip left₀ i₀ left i = Left text a skip left i
@@ -16,11 +16,11 @@ abbrev μ-loop : tie.MeasureT-loop
 loop-holds : tie.Need-loop-holds Inv-loop μ-loop
 loop-holds c = left-begun _ _ _
 
-hit-at-requires : tie.Need-hit-at-requires Inv-loop μ-loop
-hit-at-requires c κs = search needs
+find-at-requires : tie.Need-find-at-requires Inv-loop μ-loop
+find-at-requires c κs = search needs
 
 returns : tie.Need-returns Inv-loop μ-loop
-returns c = (left-found _ _ _ _ _ (c .before .before .before .before .loop .inv) _ (c .before .before .before .loop-test .taken) (c .before .before .hit-at .ensures .0) (c .before .before .hit-at .ensures .1) (c .if1 .taken), search needs)
+returns c = (left-found _ _ _ _ _ (c .before .before .before .before .loop .inv) _ (c .before .before .before .loop-test .taken) (c .before .before .find-at .ensures .0) (c .before .before .find-at .ensures .1) (c .if1 .taken), search needs)
 
 add-i : tie.Need-add-i Inv-loop μ-loop
 add-i c = search needs
@@ -29,19 +29,19 @@ loop-less : tie.Need-loop-less Inv-loop μ-loop
 loop-less c = search needs
 
 loop-again : tie.Need-loop-again Inv-loop μ-loop
-loop-again c = left-on _ _ _ _ _ (c .before .before .before .before .before .loop .inv) _ (c .before .before .before .before .loop-test .taken) (c .before .before .before .hit-at .ensures .0) (c .before .before .before .hit-at .ensures .1) (c .before .if1 .left)
+loop-again c = left-on _ _ _ _ _ (c .before .before .before .before .before .loop .inv) _ (c .before .before .before .before .loop-test .taken) (c .before .before .before .find-at .ensures .0) (c .before .before .before .find-at .ensures .1) (c .before .if1 .left)
 
 returns-2 : tie.Need-returns-2 Inv-loop μ-loop
 returns-2 c = (left-none _ _ _ _ _ (c .before .loop .inv) (c .loop-test .left), search needs)
 
-pub first-hit-spec : {M : Type 1} → statement M
-first-hit-spec =
+pub first-find-spec : {M : Type 1} → statement M
+first-find-spec =
     tie.close
     (tie.spec
     Inv-loop
     μ-loop
     loop-holds
-    hit-at-requires
+    find-at-requires
     returns
     add-i
     loop-less
