@@ -84,13 +84,13 @@ abbrev valueFrom : ℕ → List ℕ → ℕ
 valueFrom v [] = v
 valueFrom v (b ∷ q) = cond (isDigit b) (valueFrom (v * 10 + (b - 48)) q) v
 
-abbrev numberFrom : List ℕ → ℕ
-numberFrom [] = 0
-numberFrom (b ∷ q) = cond (eqb b 48) 0 (valueFrom (b - 48) q)
+abbrev valueOf : List ℕ → ℕ
+valueOf [] = 0
+valueOf (b ∷ q) = cond (eqb b 48) 0 (valueFrom (b - 48) q)
 
-abbrev numberOf : List ℕ → Got → ℕ
-numberOf t (Good n) = numberFrom (drop n t)
-numberOf t (Bad p) = 0
+abbrev valueAt : List ℕ → Got → ℕ
+valueAt t (Good n) = valueOf (drop n t)
+valueAt t (Bad p) = 0
 
 module _ {r : Sort} (x : Tree State) (K : Around r Formula) where
   digits-run : (q : List ℕ) (v : ℕ) → run (digits x v K) q ≡ run (after (duration x (valueFrom v q)) K) (drop (digitCount q) q)
@@ -110,13 +110,13 @@ module _ {r : Sort} (x : Tree State) (K : Around r Formula) where
   number-step t n b false true = digits-run (drop (n + 1) t) (b - 48) ∙ ap (run _) (drop-drop (digitCount (drop (n + 1) t)) (n + 1) t)
   number-step t n b false false = refl
 
-  number-run : (t : List ℕ) (g : Got) → resume t (equals x K) g ≡ resume t (after (duration x (numberOf t g)) K) (onGood t numberAt g)
+  number-run : (t : List ℕ) (g : Got) → resume t (equals x K) g ≡ resume t (after (duration x (valueAt t g)) K) (onGood t numberAt g)
   number-run t (Good n) = by (decLt n (length t))
     where
-      by : Dec (n < length t) → run (equals x K) (drop n t) ≡ resume t (after (duration x (numberFrom (drop n t))) K) (numberAt n (drop n t))
+      by : Dec (n < length t) → run (equals x K) (drop n t) ≡ resume t (after (duration x (valueOf (drop n t))) K) (numberAt n (drop n t))
       by (yes h) =
           step t n (equals x K) h ∙ number-step t n (getD t n 0) (eqb (getD t n 0) 48) (isDigit (getD t n 0))
-          ∙ ap (λ (q : List ℕ). resume t (after (duration x (numberFrom q)) K) (numberAt n q)) (sym (at-byte t n h))
+          ∙ ap (λ (q : List ℕ). resume t (after (duration x (valueOf q)) K) (numberAt n q)) (sym (at-byte t n h))
       by (no h) = let l : length t ≤ n = omega arith in stuck t n (equals x K) refl l ∙ ap (resume t _) (sym (at-end t n numberAt refl l))
   number-run t (Bad p) = refl
 
@@ -128,9 +128,9 @@ linkOf State Chop = and
 linkOf Formula Chop = chop
 linkOf s Nothing = and
 
-abbrev linkAt : List ℕ → (s : Sort) → Got → Link s
-linkAt t s (Good n) = linkOf s (jointOf s (getD t n 0))
-linkAt t s (Bad p) = and
+abbrev linkRead : List ℕ → (s : Sort) → Got → Link s
+linkRead t s (Good n) = linkOf s (jointOf s (getD t n 0))
+linkRead t s (Bad p) = and
 
 module _ {r : Sort} (s : Sort) (x : Tree s) (K : Around r s) where
   join-tests : (b : ℕ) → join s x K (jointOf s b) ≡ cond (isJoint s b) (go (part s (right (linkOf s (jointOf s b)) x K))) stop
@@ -143,9 +143,9 @@ module _ {r : Sort} (s : Sort) (x : Tree s) (K : Around r s) where
       own State x K = refl
       own Formula x K = cond-elim (λ j. join Formula x K j ≡ cond (joins j) (go (part Formula (right (linkOf Formula j) x K))) stop) (eqb b 59) (λ e. refl) (λ e. refl)
 
-  joint-run : (t : List ℕ) (g : Got) → resume t (after x (left K)) g ≡ resume t (part s (right (linkAt t s g) x K)) (onGood t (testAt (isJoint s)) g)
+  joint-run : (t : List ℕ) (g : Got) → resume t (after x (left K)) g ≡ resume t (part s (right (linkRead t s g) x K)) (onGood t (testAt (isJoint s)) g)
   unfolding follow endAfter
-  joint-run t (Good n) = test-run t n (after x (left K)) (part s (right (linkAt t s (Good n)) x K)) (isJoint s) refl (join-tests (getD t n 0))
+  joint-run t (Good n) = test-run t n (after x (left K)) (part s (right (linkRead t s (Good n)) x K)) (isJoint s) refl (join-tests (getD t n 0))
   joint-run t (Bad p) = refl
 
 -- a read stays within the text
@@ -207,7 +207,7 @@ module _ (t : List ℕ) (s : Sort) (at : ℕ) where
         out r K (Good n) = after-negated (w .tree) K (drop n t)
         out r K (Bad p) = refl
 
-    first-run : {r : Sort} (g : Got) (K : Around r s) → Open ≡ leadOf s (getD t at 0) → (w : PartAt t s (at + 1) g) → run (part s K) (drop at t) ≡ resume t (part s (right (linkAt t s g) (w .tree) K)) (onGood t (testAt (isJoint s)) g)
+    first-run : {r : Sort} (g : Got) (K : Around r s) → Open ≡ leadOf s (getD t at 0) → (w : PartAt t s (at + 1) g) → run (part s K) (drop at t) ≡ resume t (part s (right (linkRead t s g) (w .tree) K)) (onGood t (testAt (isJoint s)) g)
     first-run g K e w = lead K Open e ∙ w .same _ (left K) ∙ joint-run s (w .tree) K t g
 
     pub part-open : (g : Got) (n : ℕ) (g′ : Got) → Open ≡ leadOf s (getD t at 0) → PartAt t s (at + 1) g → onGood t (testAt (isJoint s)) g ≡ Good n → PartAt t s n g′ → PartAt t s at (onGood t (testAt (isSign 41)) g′)
@@ -216,16 +216,16 @@ module _ (t : List ℕ) (s : Sort) (at : ℕ) where
         let k : Within t (at + 1) (Good n) = subst (Within t (at + 1)) j (tested-within t g (at + 1) (isJoint s) (w .within)) in
         record {
           within = tested-within t g′ at (isSign 41) (later t at n g′ (omega (arith, k .0)) (v .within));
-          tree = pair (linkAt t s g) (w .tree) (v .tree);
-          same = λ r K. first-run g K e w ∙ ap (resume t (part s (right (linkAt t s g) (w .tree) K))) j ∙ v .same r (right (linkAt t s g) (w .tree) K)
-              ∙ sign-run t g′ (after (v .tree) (right (linkAt t s g) (w .tree) K)) (after (pair (linkAt t s g) (w .tree) (v .tree)) K) 41 refl (λ b. refl);
+          tree = pair (linkRead t s g) (w .tree) (v .tree);
+          same = λ r K. first-run g K e w ∙ ap (resume t (part s (right (linkRead t s g) (w .tree) K))) j ∙ v .same r (right (linkRead t s g) (w .tree) K)
+              ∙ sign-run t g′ (after (v .tree) (right (linkRead t s g) (w .tree) K)) (after (pair (linkRead t s g) (w .tree) (v .tree)) K) 41 refl (λ b. refl);
         }
 
     pub part-open-bad : (g : Got) (p : ℕ) → Open ≡ leadOf s (getD t at 0) → PartAt t s (at + 1) g → onGood t (testAt (isJoint s)) g ≡ Bad p → PartAt t s at (Bad p)
     part-open-bad g p e w j = record {
       within = subst (Within t (at + 1)) j (tested-within t g (at + 1) (isJoint s) (w .within));
       tree = constant true;
-      same = λ r K. first-run g K e w ∙ ap (resume t (part s (right (linkAt t s g) (w .tree) K))) j;
+      same = λ r K. first-run g K e w ∙ ap (resume t (part s (right (linkRead t s g) (w .tree) K))) j;
     }
 
 pub open-within : (t : List ℕ) (s : Sort) (at n : ℕ) (g : Got) → PartAt t s at g → onGood t (testAt (isJoint s)) g ≡ Good n → (at < n) × (n ≤ length t)
@@ -262,7 +262,7 @@ module _ (t : List ℕ) (at : ℕ) (h : at < length t) (g : Got) (w : PartAt t S
       let g₂ : Got = onGood t (testAt (isSign 61)) g₁ in
       record {
         within = number-within t g₂ at (tested-within t g₁ at (isSign 61) (tested-within t g at (isSign 62) (later t at (at + 1) g (omega arith) (w .within))));
-        tree = duration (w .tree) (numberOf t g₂);
+        tree = duration (w .tree) (valueAt t g₂);
         same = λ r K. lead t Formula at h K Measure e ∙ w .same r (measured K) ∙ sign-run t g (after (w .tree) (measured K)) (above (w .tree) K) 62 refl (λ b. refl)
             ∙ sign-run t g₁ (above (w .tree) K) (equals (w .tree) K) 61 refl (λ b. refl) ∙ number-run (w .tree) K t g₂;
       }

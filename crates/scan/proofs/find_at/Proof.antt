@@ -38,13 +38,17 @@ find-if-requires-2 : tie.Need-find-if-requires-2
 find-if-requires-2 c κs = search needs
 
 returns : tie.Need-returns
-returns c = (rw (c .before .before .before .before .a .given .1) (c .find-if .ensures .0 ∙ ap (λ (v : Bool). cond v (c .before .before .before .before .before .before .before .args .i ∷ []) []) (c .before .is-outside .ensures)), search needs, search needs)
+returns c =
+    let e = ap (λ (v : Bool). cond v (c .before .before .before .before .before .before .before .args .i ∷ []) []) (c .before .is-outside .ensures) in
+    (rw (c .before .before .before .before .a .given .1) (c .find-if .ensures .0 ∙ e), search needs, search needs)
 
 returns-2 : tie.Need-returns-2
 returns-2 c = (rw (c .before .enum-told .given .1) (c .number-find .ensures .0), search needs, search needs)
 
 returns-3 : tie.Need-returns-3
-returns-3 c = (rw (c .before .before .before .enum-told2 .given .1) (c .find-if2 .ensures .0 ∙ ap (λ (v : Bool). cond v (c .before .before .before .before .before .before .args .i ∷ []) []) (c .before .is-start .ensures)), search needs, search needs)
+returns-3 c =
+    let e = ap (λ (v : Bool). cond v (c .before .before .before .before .before .before .args .i ∷ []) []) (c .before .is-start .ensures) in
+    (rw (c .before .before .before .enum-told2 .given .1) (c .find-if2 .ensures .0 ∙ e), search needs, search needs)
 
 pub find-at-spec : {M : Type 1} → statement M
 find-at-spec =

@@ -20,7 +20,9 @@ find-at-requires : tie.Need-find-at-requires Inv-loop μ-loop
 find-at-requires c κs = search needs
 
 returns : tie.Need-returns Inv-loop μ-loop
-returns c = (left-found _ _ _ _ _ (c .before .before .before .before .loop .inv) _ (c .before .before .before .loop-test .taken) (c .before .before .find-at .ensures .0) (c .before .before .find-at .ensures .1) (c .if1 .taken), search needs)
+returns c =
+    let f = c .before .before .find-at .ensures in
+    (left-found _ _ _ _ _ (c .before .before .before .before .loop .inv) _ (c .before .before .before .loop-test .taken) (f .0) (f .1) (c .if1 .taken), search needs)
 
 add-i : tie.Need-add-i Inv-loop μ-loop
 add-i c = search needs
@@ -29,7 +31,9 @@ loop-less : tie.Need-loop-less Inv-loop μ-loop
 loop-less c = search needs
 
 loop-again : tie.Need-loop-again Inv-loop μ-loop
-loop-again c = left-on _ _ _ _ _ (c .before .before .before .before .before .loop .inv) _ (c .before .before .before .before .loop-test .taken) (c .before .before .before .find-at .ensures .0) (c .before .before .before .find-at .ensures .1) (c .before .if1 .left)
+loop-again c =
+    let f = c .before .before .before .find-at .ensures in
+    left-on _ _ _ _ _ (c .before .before .before .before .before .loop .inv) _ (c .before .before .before .before .loop-test .taken) (f .0) (f .1) (c .before .if1 .left)
 
 returns-2 : tie.Need-returns-2 Inv-loop μ-loop
 returns-2 c = (left-none _ _ _ _ _ (c .before .loop .inv) (c .loop-test .left), search needs)
