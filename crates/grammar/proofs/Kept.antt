@@ -83,7 +83,7 @@ own-led : (s : Sort) (b : ℕ) → Led s b (ownLead s b)
 unfolding write
 own-led State b = cond-elim (Led State b) (isLetter b)
     (λ h.
-    let w = ranged 97 104 b h in
+    let w = ranged 97 _ b h in
     let e : b ≡ 97 + (b - 97) = omega arith in
     rw h (omega arith, λ q. ap (λ (c : ℕ). c ∷ q) e))
     (λ h. tt)
