@@ -1,17 +1,18 @@
 -- `number_at` takes digit after digit: at each turn the value so far and the digits from there on
 -- make the same number as from the beginning, and at the end none are left.
 use mathlib.Core.Path.{_≡_, refl, sym, ap, _∙_}
-use Prim.Native.Nat.{ℕ, _+_, _-_, _≤_}
+use Prim.Native.Nat.{ℕ, suc, _+_, _-_, _≤_}
 use borrow.Author.Needs.{needs}
 use lib.ListN.{length, drop}
 use borrow.Author.Tests.{not-true, not-false}
+use Rattle.grammar.specs.Limits.{maxNumber}
 use Rattle.scan.specs.Scans.{numberFrom}
 use Rattle.scan.proofs.Loops.{number-more, number-none, number-end}
 use Rattle.scan.proofs.number_at.Statement.{statement}
 use Rattle.scan.proofs.number_at.Tie as tie
 
 abbrev Inv-loop : tie.InvT-loop
-Inv-loop text at v₀ i₀ v i = (i ≤ length text) × (v ≤ 33) × (numberFrom v (drop i text) ≡ numberFrom 0 (drop at text))
+Inv-loop text at v₀ i₀ v i = (i ≤ length text) × (v ≤ suc maxNumber) × (numberFrom v (drop i text) ≡ numberFrom 0 (drop at text))
 
 abbrev μ-loop : tie.MeasureT-loop
 μ-loop text at v₀ i₀ v i = length text - i
