@@ -1,7 +1,7 @@
 -- What the code asks is what document 01 asks: a check of the grammar tells question 4, and the first find after so many tells 5 to 7.
 -- Each is a case of its question's definition.
 use mathlib.Core.Path.{_≡_, refl, ap}
-use mathlib.Core.Bool.{Bool, true, false, _&&_}
+use mathlib.Core.Bool.{Bool, true, false, _&&_, false≢true}
 use mathlib.Core.List.{List, [], _∷_}
 use Prim.Native.Nat.{ℕ, zero, suc, _≤_, _<_}
 use native.Mathlib.Omega.{arith}
@@ -29,14 +29,14 @@ module _ (t : List ℕ) where
     where
       go : (o : Read Formula) → checked o ≡ Reads → onRead o ≡ Yes
       go (tree f) e = refl
-      go (stopped p) e = absurd (let z : _≡_ {A = ℕ} 0 1 = cc in omega arith)
+      go (stopped p) e = absurd (false≢true cc)
 
   pub grammar-stops : (p : ℕ) → checkedOf t ≡ Stops p → askGrammar t ≡ No (record { number = 4; place = p })
   unfolding checkedOf askGrammar
   grammar-stops p = go (read t)
     where
       go : (o : Read Formula) → checked o ≡ Stops p → onRead o ≡ No (record { number = 4; place = p })
-      go (tree f) e = absurd (let z : _≡_ {A = ℕ} 0 1 = cc in omega arith)
+      go (tree f) e = absurd (false≢true cc)
       go (stopped q) e = let h : q ≡ p = cc in ap (λ (q : ℕ). No (record { number = 4; place = q })) h
 
   pub stop-within : (p : ℕ) → checkedOf t ≡ Stops p → p ≤ length t
@@ -44,7 +44,7 @@ module _ (t : List ℕ) where
   stop-within p e = stops-at-place t p (go (read t) e) .within
     where
       go : (o : Read Formula) → checked o ≡ Stops p → o ≡ stopped p
-      go (tree f) e = absurd (let z : _≡_ {A = ℕ} 0 1 = cc in omega arith)
+      go (tree f) e = absurd (false≢true cc)
       go (stopped q) e = let h : q ≡ p = cc in ap stopped h
 
 -- the first of some places
@@ -54,7 +54,7 @@ module _ (number : ℕ) where
     where
       go : (n : ℕ) (l : List ℕ) → replicate n (h .place) ≡ take 1 l → 0 < n → No (record { number = number; place = h .place }) ≡ atFirst number l
       go zero l e k = absurd (omega arith)
-      go (suc n) [] e k = absurd (let z : _≡_ {A = ℕ} 0 1 = cc in omega arith)
+      go (suc n) [] e k = absurd (false≢true cc)
       go (suc n) (p ∷ l) e k = let f : h .place ≡ p = cc in ap (λ (q : ℕ). No (record { number = number; place = q })) f
 
   pub none-is : (h : Find) (l : List ℕ) → listOf h ≡ take 1 l → h .count ≤ 0 → Yes ≡ atFirst number l
@@ -63,7 +63,7 @@ module _ (number : ℕ) where
       go : (n : ℕ) (l : List ℕ) → replicate n (h .place) ≡ take 1 l → n ≤ 0 → Yes ≡ atFirst number l
       go (suc n) l e k = absurd (omega arith)
       go zero [] e k = refl
-      go zero (p ∷ l) e k = absurd (let z : _≡_ {A = ℕ} 0 1 = cc in omega arith)
+      go zero (p ∷ l) e k = absurd (false≢true cc)
 
 pub asked-one : (r : Reply) → asked (r ∷ []) No Yes ≡ r
 asked-one Yes = refl
@@ -75,4 +75,4 @@ length-most t e = go (leb 1 (length t) && leb (length t) maxLength) refl e
   where
     go : (c : Bool) → leb 1 (length t) && leb (length t) maxLength ≡ c → question 3 0 c ≡ Yes → length t ≤ maxLength
     go true h e = ranged 1 maxLength (length t) h .1
-    go false h e = absurd (let z : _≡_ {A = ℕ} 0 1 = cc in omega arith)
+    go false h e = absurd (false≢true cc)

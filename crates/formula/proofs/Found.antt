@@ -1,7 +1,7 @@
 -- What questions 5 to 7 find in the bytes of a text that reads is what its tree has: a scan meets the nodes in their order, and at
 -- each node its first byte, and for a duration the number after it, tell what the tree's question asks.
 use mathlib.Core.Path.{_≡_, refl, sym, ap, _∙_}
-use mathlib.Core.Bool.{Bool, true, false, cond, _||_, true≢false}
+use mathlib.Core.Bool.{Bool, true, false, cond, _||_, true≢false, false≢true}
 use mathlib.Core.List.{List, [], _∷_, append-nil, map, flatMap}
 use Prim.Native.Nat.{ℕ, zero, suc, _+_, _-_, _<_}
 use native.Mathlib.Decide.{decLt}
@@ -143,7 +143,7 @@ module _ (t : List ℕ) where
     where
       go : (o : Read Formula) → onRead o ≡ Yes → (f : Tree Formula) × (o ≡ tree f)
       go (tree f) e = (f, refl)
-      go (stopped p) e = absurd (let z : _≡_ {A = ℕ} 0 1 = cc in omega arith)
+      go (stopped p) e = absurd (false≢true cc)
 
   pub root-stands : (f : Tree Formula) → read t ≡ tree f → Stands t f 0
   root-stands f r = let w = prints-as-text t f r in record { rest = []; here = sym (w .1); clear = tt; letters = w .0 }

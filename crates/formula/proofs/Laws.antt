@@ -1,22 +1,22 @@
 -- What acceptance says of the tree: each question was answered with yes, so the text reads, and the questions about letters, numbers
 -- and nodes found nothing in it.
 use mathlib.Core.Path.{_≡_, refl, sym, ap, _∙_, subst}
-use mathlib.Core.Bool.{Bool, true, false, cond}
+use mathlib.Core.Bool.{Bool, true, false, cond, false≢true}
 use mathlib.Core.List.{List, [], _∷_, _++_, map, flatMap}
 use Prim.Native.Nat.{ℕ, suc, _+_, _≤_, _<_}
-use native.Mathlib.Decide.{decLt}
 use native.Mathlib.Omega.{arith}
+use lib.Dec.{leb, ltb}
 use lib.ListN.{length, drop, length-drop, length-map}
-use borrow.Author.Tests.{leb-true, le-leb, lt-ltb}
+use borrow.Author.Tests.{leb-true, leb-false, ltb-false}
 use Rattle.refusal.specs.Asked.{question, asked}
 use Rattle.refusal.specs.declared.Reply.{Reply}
 use Rattle.refusal.specs.declared.Reply.the-variants.{Yes, No}
 use Rattle.interval.specs.Limits.{maxSteps, askSteps}
 use Rattle.grammar.specs.Limits.{maxLength, maxNodes, maxNumber, maxChannels}
-use Rattle.grammar.specs.Trees.{Tree, constant, letter, negation, pair, duration, throughout, Letters, Numbers, textOf}
+use Rattle.grammar.specs.Trees.{Link, Tree, constant, letter, negation, pair, duration, throughout, Letters, Numbers, textOf}
 use Rattle.grammar.specs.Reader.{isStart, tree, read}
 use Rattle.grammar.specs.declared.Sort.{Sort}
-use Rattle.grammar.specs.declared.Sort.the-variants.{Formula}
+use Rattle.grammar.specs.declared.Sort.the-variants.{State, Formula}
 use Rattle.grammar.proofs.Bytes.{ranged}
 use Rattle.scan.specs.Scans.{scan, startAt, foundIn}
 use Rattle.scan.specs.declared.Ask.the-variants.{Nodes}
@@ -41,53 +41,80 @@ pub record Accepted (C k : ℕ) (t : List ℕ) : Type 0 where
 all-yes : (q : List Reply) → asked q No Yes ≡ Yes → All (λ r. r ≡ Yes) q
 all-yes [] e = tt
 all-yes (Yes ∷ q) e = (refl, all-yes q e)
-all-yes (No p ∷ q) e = absurd (let z : _≡_ {A = ℕ} 0 1 = cc in omega arith)
+all-yes (No p ∷ q) e = absurd (false≢true cc)
 
 pub test-yes : (n p : ℕ) (c : Bool) → question n p c ≡ Yes → c ≡ true
 test-yes n p true e = refl
-test-yes n p false e = absurd (let z : _≡_ {A = ℕ} 0 1 = cc in omega arith)
+test-yes n p false e = absurd (false≢true cc)
 
 none-first : (n : ℕ) (l : List ℕ) → atFirst n l ≡ Yes → l ≡ []
 none-first n [] e = refl
-none-first n (p ∷ l) e = absurd (let z : _≡_ {A = ℕ} 0 1 = cc in omega arith)
+none-first n (p ∷ l) e = absurd (false≢true cc)
 
 both-empty : (l m : List ℕ) → l ++ m ≡ [] → (l ≡ []) × (m ≡ [])
 both-empty [] m e = (refl, e)
-both-empty (p ∷ l) m e = absurd (let z : _≡_ {A = ℕ} 0 1 = cc in omega arith)
+both-empty (p ∷ l) m e = absurd (false≢true cc)
 
 none-append : (f : Node → List ℕ) (l m : List Node) → flatMap f (l ++ m) ≡ [] → (flatMap f l ≡ []) × (flatMap f m ≡ [])
 none-append f l m e = both-empty (flatMap f l) (flatMap f m) (sym (flat-append f l m) ∙ e)
 
--- where a question finds nothing in a tree's nodes
-letters-in : (C : ℕ) {s : Sort} (x : Tree s) (at : ℕ) → flatMap (λ (w : Node). outside C (w .part) (w .first)) (nodesOf x at) ≡ [] → Letters C x
-unfolding nodesOf flatMap
-letters-in C (constant v) at e = tt
-letters-in C (letter c) at e = go (decLt c C)
-  where
-    go : Dec (c < C) → c < C
-    go (yes h) = h
-    go (no h) = absurd (let g = le-leb C c (omega arith) in let z : _≡_ {A = ℕ} 0 1 = cc in omega arith)
-letters-in C (negation x) at e = letters-in C x (suc at) e
-letters-in C (pair l x y) at e =
-    let w = none-append (λ (w : Node). outside C (w .part) (w .first)) (nodesOf x (suc at)) (nodesOf y (suc (suc at + length (textOf x)))) e in
-    (letters-in C x (suc at) (w .0), letters-in C y (suc (suc at + length (textOf x))) (w .1))
-letters-in C (duration x n) at e = letters-in C x (suc at) e
-letters-in C (throughout x) at e = letters-in C x (suc at) e
+-- what a question that finds nothing at a node says of it, its parts being so
+record Says (f : (s : Sort) → Tree s → ℕ → List ℕ) (P : (s : Sort) → Tree s → Type 0) : Type 0 where
+  constants : (s : Sort) (v : Bool) → P s (constant v)
+  letters : (c at : ℕ) → f State (letter c) at ≡ [] → P State (letter c)
+  negations : (s : Sort) (x : Tree s) → P s x → P s (negation x)
+  pairs : (s : Sort) (l : Link s) (x y : Tree s) → P s x → P s y → P s (pair l x y)
+  durations : (x : Tree State) (n at : ℕ) → f Formula (duration x n) at ≡ [] → P State x → P Formula (duration x n)
+  throughouts : (x : Tree State) → P State x → P Formula (throughout x)
 
-numbers-in : {s : Sort} (x : Tree s) (at : ℕ) → flatMap (λ (w : Node). above (w .part) (w .first)) (nodesOf x at) ≡ [] → Numbers maxNumber x
-unfolding nodesOf flatMap
-numbers-in (constant v) at e = tt
-numbers-in (letter c) at e = tt
-numbers-in (negation x) at e = numbers-in x (suc at) e
-numbers-in (pair l x y) at e =
-    let w = none-append (λ (w : Node). above (w .part) (w .first)) (nodesOf x (suc at)) (nodesOf y (suc (suc at + length (textOf x)))) e in
-    (numbers-in x (suc at) (w .0), numbers-in y (suc (suc at + length (textOf x))) (w .1))
-numbers-in (duration x n) at e = go (decLt maxNumber n)
+module _ (f : (s : Sort) → Tree s → ℕ → List ℕ) (P : (s : Sort) → Tree s → Type 0) (q : Says f P) where
+  abbrev finds : List Node → List ℕ
+  finds = flatMap (λ (w : Node). f (w .sort) (w .part) (w .first))
+
+  own-none : (w : Node) (l : List Node) → finds (w ∷ l) ≡ [] → (f (w .sort) (w .part) (w .first) ≡ []) × (finds l ≡ [])
+  unfolding flatMap
+  own-none w l e = both-empty (f (w .sort) (w .part) (w .first)) (finds l) e
+
+  none-says : {s : Sort} (x : Tree s) (at : ℕ) → finds (nodesOf x at) ≡ [] → P s x
+  unfolding nodesOf
+  none-says {s} (constant v) at e = q .constants s v
+  none-says (letter c) at e = q .letters c at (own-none _ _ e .0)
+  none-says {s} (negation x) at e = q .negations s x (none-says x (suc at) (own-none _ _ e .1))
+  none-says {s} (pair l x y) at e =
+      let w = none-append (λ (w : Node). f (w .sort) (w .part) (w .first)) (nodesOf x (suc at)) (nodesOf y (suc (suc at + length (textOf x)))) (own-none _ _ e .1) in
+      q .pairs s l x y (none-says x (suc at) (w .0)) (none-says y (suc (suc at + length (textOf x))) (w .1))
+  none-says (duration x n) at e = let w = own-none _ _ e in q .durations x n at (w .0) (none-says x (suc at) (w .1))
+  none-says (throughout x) at e = q .throughouts x (none-says x (suc at) (own-none _ _ e .1))
+
+test-empty : (c : Bool) (p : ℕ) → cond c (p ∷ []) [] ≡ [] → c ≡ false
+test-empty true p e = absurd (false≢true cc)
+test-empty false p e = refl
+
+letters-say : (C : ℕ) → Says (λ s. outside C) (λ s. Letters C)
+letters-say C = record {
+  constants = λ s v. tt;
+  letters = own;
+  negations = λ s x w. w;
+  pairs = λ s l x y u w. (u, w);
+  durations = λ x n at e w. w;
+  throughouts = λ x w. w;
+}
   where
-    go : Dec (maxNumber < n) → n ≤ maxNumber
-    go (yes h) = absurd (let g = lt-ltb maxNumber n h in let z : _≡_ {A = ℕ} 0 1 = cc in omega arith)
-    go (no h) = omega arith
-numbers-in (throughout x) at e = tt
+    own : (c at : ℕ) → cond (leb C c) (at ∷ []) [] ≡ [] → c < C
+    own c at e = leb-false C c (test-empty (leb C c) at e)
+
+numbers-say : Says (λ s. above) (λ s. Numbers maxNumber)
+numbers-say = record {
+  constants = λ s v. tt;
+  letters = λ c at e. tt;
+  negations = λ s x w. w;
+  pairs = λ s l x y u w. (u, w);
+  durations = own;
+  throughouts = λ x w. tt;
+}
+  where
+    own : (x : Tree State) (n at : ℕ) → cond (ltb maxNumber n) ((at + 1 + length (textOf x) + 2) ∷ []) [] ≡ [] → Numbers maxNumber x → n ≤ maxNumber
+    own x n at e w = ltb-false maxNumber n (test-empty (ltb maxNumber n) (at + 1 + length (textOf x) + 2) e)
 
 pub nodes-read : (t : List ℕ) (f : Tree Formula) → read t ≡ tree f → nodesIn t ≡ nodesOf f 0
 unfolding nodesIn
@@ -108,8 +135,8 @@ accepted C k t e =
       grammar = q .1 .1 .1 .0;
       root = f;
       reads = r;
-      letters = letters-in C f 0 (ap (flatMap (λ (w : Node). outside C (w .part) (w .first))) (sym n) ∙ none-first 5 _ (q .1 .1 .1 .1 .0));
-      numbers = numbers-in f 0 (ap (flatMap (λ (w : Node). above (w .part) (w .first))) (sym n) ∙ none-first 6 _ (q .1 .1 .1 .1 .1 .0));
+      letters = none-says _ _ (letters-say C) f 0 (ap (flatMap (λ (w : Node). outside C (w .part) (w .first))) (sym n) ∙ none-first 5 _ (q .1 .1 .1 .1 .0));
+      numbers = none-says _ _ numbers-say f 0 (ap (flatMap (λ (w : Node). above (w .part) (w .first))) (sym n) ∙ none-first 6 _ (q .1 .1 .1 .1 .1 .0));
       nodes = omega (arith, ap length n, ap length (none-first 7 (drop maxNodes firsts) (q .1 .1 .1 .1 .1 .1 .0)), length-drop maxNodes firsts, length-map (nodesIn t) (λ (w : Node). w .first));
     }
 

@@ -1,7 +1,7 @@
 -- A reading says which bytes it has taken, and each step adds its byte to them: so what it reads prints as the text. Every reading
 -- can be completed, and where it stops at a byte it stops there whatever follows: so no grammatical text goes on with that byte.
 use mathlib.Core.Path.{_≡_, refl, sym, ap, _∙_}
-use mathlib.Core.Bool.{Bool, true, false, cond}
+use mathlib.Core.Bool.{Bool, true, false, cond, false≢true}
 use mathlib.Core.List.{List, [], _∷_, _++_, append-assoc}
 use Prim.Native.Nat.{ℕ, _+_, _-_, _<_}
 use native.Mathlib.Omega.{arith}
@@ -216,7 +216,7 @@ module _ {r : Sort} where
   end-meant m w (reads x) h = h
   end-meant m w (stops q) h =
       let (f, v, on, e) = complete m w in
-      record { before = []; is = sym h; on = on; can = (f, v, e); never = λ b q′ p g. absurd (let z : _≡_ {A = ℕ} 0 1 = cc in omega arith) }
+      record { before = []; is = sym h; on = on; can = (f, v, e); never = λ b q′ p g. absurd (false≢true cc) }
 
   step-meant : (m n : Reading r) (b : ℕ) (t : List ℕ) → next m b ≡ go n → ((q : List ℕ) → wrote m (b ∷ q) ≡ wrote n q) → (o : Outcome r) → Meant n t o → Meant m (b ∷ t) o
   step-meant m n b t e k (reads x) h = (h .0, k t ∙ h .1)

@@ -1,6 +1,7 @@
 -- What the reader is: it reads back what is printed, what it reads prints as the text, and its stopping place is question 4's. The
 -- three follow from reading a printed part (Printed) and from what each outcome says (Kept).
 use mathlib.Core.Path.{_≡_, refl, sym, ap, _∙_, subst}
+use mathlib.Core.Bool.{false≢true}
 use mathlib.Core.List.{List, [], _∷_, _++_, append-assoc}
 use Prim.Native.Nat.{ℕ, suc, _+_, _-_, _<_}
 use native.Mathlib.Omega.{arith}
@@ -19,7 +20,7 @@ prints-as-text t f e = go (run (part Formula whole) t) (meant t (part Formula wh
   where
     go : (o : Outcome Formula) → Meant (part Formula whole) t o → placed t o ≡ tree f → Letters 8 f × (textOf f ≡ t)
     go (reads x) m g = let h : x ≡ f = cc in subst (λ (y : Tree Formula). Letters 8 y × (textOf y ≡ t)) h (m .0, sym (m .1))
-    go (stops q) m g = absurd (let z : _≡_ {A = ℕ} 0 1 = cc in omega arith)
+    go (stops q) m g = absurd (false≢true cc)
 
 -- no text has two readings
 pub one-reading : (f g : Tree Formula) → Letters 8 f → Letters 8 g → textOf f ≡ textOf g → f ≡ g
@@ -33,7 +34,7 @@ begins-shorter n t (f, w, q, e) = (f, w, drop n t ++ q, e ∙ ap (λ (u : List �
 
 -- a text that reads does not stop
 no-stop : {A : Type 0} (f : Tree Formula) (p : ℕ) → Letters 8 f → read (textOf f) ≡ stopped p → A
-no-stop f p w e = absurd (let g = reads-back f w in let z : _≡_ {A = ℕ} 0 1 = cc in omega arith)
+no-stop f p w e = absurd (let g = reads-back f w in false≢true cc)
 
 -- where reading stops is question 4's place
 module _ (t q : List ℕ) (s : Stopped (part Formula whole) t q) where
@@ -89,5 +90,5 @@ unfolding read
 stops-at-place t p e = go (run (part Formula whole) t) (meant t (part Formula whole) tt) e
   where
     go : (o : Outcome Formula) → Meant (part Formula whole) t o → placed t o ≡ stopped p → Place t p
-    go (reads x) m g = absurd (let z : _≡_ {A = ℕ} 0 1 = cc in omega arith)
+    go (reads x) m g = absurd (false≢true cc)
     go (stops q) m g = let h : length t - length q ≡ p = cc in subst (Place t) h (at-stop t q m)

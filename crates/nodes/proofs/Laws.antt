@@ -1,7 +1,7 @@
 -- An accepted text fits the table, and the rows found are its nodes'. The node of a number from 1 to the count stands in the text at its
 -- row's first byte, so its own text is that part, and it is what the node prints.
 use mathlib.Core.Path.{_≡_, refl, sym, ap, ap₂, _∙_, subst}
-use mathlib.Core.Bool.{Bool, _&&_}
+use mathlib.Core.Bool.{Bool, _&&_, false≢true}
 use mathlib.Core.List.{List, [], _∷_, map}
 use Prim.Native.Nat.{ℕ, zero, suc, _+_, _-_, _≤_, _<_}
 use native.Mathlib.Omega.{arith}
@@ -61,7 +61,7 @@ module _ (C k : ℕ) (t : List ℕ) where
 yes-both : (q : List Reply) (z : Reply) → asked q No z ≡ Yes → (asked q No Yes ≡ Yes) × (z ≡ Yes)
 yes-both [] z e = (refl, e)
 yes-both (Yes ∷ q) z e = yes-both q z e
-yes-both (No r ∷ q) z e = absurd (let z : _≡_ {A = ℕ} 0 1 = cc in omega arith)
+yes-both (No r ∷ q) z e = absurd (false≢true cc)
 
 module _ (C k x : ℕ) (t : List ℕ) where
   refusal-is : nodeRefusalOf C k x t ≡ asked (formulaQuestions C k t) No (askNode x t)
@@ -88,8 +88,8 @@ node-after t (w ∷ l) zero a h = (w, a .0, l, refl)
 node-after t (w ∷ l) (suc i) a h = node-after t l i (a .1) (omega arith)
 
 entry-after : (f : Node → ℕ) (l m : List Node) (i : ℕ) (w : Node) → drop i l ≡ w ∷ m → (i < length (map f l)) × (getD (map f l) i 0 ≡ f w)
-entry-after f [] m zero w e = absurd (let z : _≡_ {A = ℕ} 0 1 = cc in omega arith)
-entry-after f [] m (suc i) w e = absurd (let z : _≡_ {A = ℕ} 0 1 = cc in omega arith)
+entry-after f [] m zero w e = absurd (false≢true cc)
+entry-after f [] m (suc i) w e = absurd (false≢true cc)
 entry-after f (v ∷ l) m zero w e = let h : v ≡ w = cc in (omega arith, ap f h)
 entry-after f (v ∷ l) m (suc i) w e = let g = entry-after f l m i w e in (omega (arith, g .0), g .1)
 

@@ -1,10 +1,9 @@
 -- The first no answers: a list of questions either has no no, and then the call gives its answer, or it is some yeses, a no
 -- and the rest, and then the call is refused by that no, whatever the rest would say. Both by induction on the list.
 use mathlib.Core.Path.{_≡_, refl, ap}
+use mathlib.Core.Bool.{false≢true}
 use mathlib.Core.List.{List, [], _∷_, _++_}
 use mathlib.Core.Logic.{_⊎_, inl, inr, ⊎-elim}
-use Prim.Native.Nat.{ℕ}
-use native.Mathlib.Omega.{arith}
 use Rattle.refusal.specs.Asked.{asked}
 use Rattle.refusal.specs.declared.Refusal.{Refusal}
 use Rattle.refusal.specs.declared.Reply.{Reply}
@@ -45,9 +44,9 @@ module _ {A : Type 0} (refused : Refusal → A) (answer : A) where
   pub replied-yes : (questions : List Reply) → asked questions No Yes ≡ Yes → asked questions refused answer ≡ answer
   replied-yes [] e = refl
   replied-yes (Yes ∷ q) e = replied-yes q e
-  replied-yes (No r ∷ q) e = absurd (let z : _≡_ {A = ℕ} 0 1 = cc in omega arith)
+  replied-yes (No r ∷ q) e = absurd (false≢true cc)
 
   pub replied-no : (questions : List Reply) (r : Refusal) → asked questions No Yes ≡ No r → asked questions refused answer ≡ refused r
-  replied-no [] r e = absurd (let z : _≡_ {A = ℕ} 0 1 = cc in omega arith)
+  replied-no [] r e = absurd (false≢true cc)
   replied-no (Yes ∷ q) r e = replied-no q r e
   replied-no (No p ∷ q) r e = let h : p ≡ r = cc in ap refused h
