@@ -1,11 +1,10 @@
 -- What the code asks is what document 01 asks: a check of the grammar tells question 4, and the first find after so many tells 5 to 7.
 -- Each is a case of its question's definition.
 use mathlib.Core.Path.{_≡_, refl, ap}
-use mathlib.Core.Bool.{Bool, true, false, _&&_, false≢true}
+use mathlib.Core.Bool.{Bool, true, false, false≢true}
 use mathlib.Core.List.{List, [], _∷_}
 use Prim.Native.Nat.{ℕ, zero, suc, _≤_, _<_}
 use native.Mathlib.Omega.{arith}
-use lib.Dec.{leb}
 use lib.ListN.{length, take, replicate}
 use Rattle.refusal.specs.Asked.{question, asked}
 use Rattle.refusal.specs.declared.Reply.{Reply}
@@ -69,10 +68,11 @@ pub asked-one : (r : Reply) → asked (r ∷ []) No Yes ≡ r
 asked-one Yes = refl
 asked-one (No r) = refl
 
+-- a question that its test answers with yes
+pub test-yes : (n p : ℕ) (c : Bool) → question n p c ≡ Yes → c ≡ true
+test-yes n p true e = refl
+test-yes n p false e = absurd (false≢true cc)
+
 pub length-most : (t : List ℕ) → askLength t ≡ Yes → length t ≤ maxLength
 unfolding askLength
-length-most t e = go (leb 1 (length t) && leb (length t) maxLength) refl e
-  where
-    go : (c : Bool) → leb 1 (length t) && leb (length t) maxLength ≡ c → question 3 0 c ≡ Yes → length t ≤ maxLength
-    go true h e = ranged 1 maxLength (length t) h .1
-    go false h e = absurd (false≢true cc)
+length-most t e = ranged 1 maxLength (length t) (test-yes 3 0 _ e) .1

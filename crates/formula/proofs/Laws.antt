@@ -8,7 +8,7 @@ use native.Mathlib.Omega.{arith}
 use lib.Dec.{leb, ltb}
 use lib.ListN.{length, drop, length-drop, length-map}
 use borrow.Author.Tests.{leb-true, leb-false, ltb-false}
-use Rattle.refusal.specs.Asked.{question, asked}
+use Rattle.refusal.specs.Asked.{asked}
 use Rattle.refusal.specs.declared.Reply.{Reply}
 use Rattle.refusal.specs.declared.Reply.the-variants.{Yes, No}
 use Rattle.interval.specs.Limits.{maxSteps, askSteps}
@@ -24,6 +24,7 @@ use Rattle.formula.specs.Nodes.{Node, nodesOf, nodesRead, nodesIn}
 use Rattle.formula.specs.Questions.{atFirst, askChannels, askLength, askGrammar, outside, above, askLetters, askNumbers, askNodes, formulaQuestions, acceptOf}
 use Rattle.formula.proofs.Lists.{All, flat-append, flat-map}
 use Rattle.formula.proofs.Found.{read-tree, found-in}
+use Rattle.formula.proofs.Asked.{test-yes}
 
 -- a formula accepted for C and k
 pub record Accepted (C k : ℕ) (t : List ℕ) : Type 0 where
@@ -42,10 +43,6 @@ all-yes : (q : List Reply) → asked q No Yes ≡ Yes → All (λ r. r ≡ Yes) 
 all-yes [] e = tt
 all-yes (Yes ∷ q) e = (refl, all-yes q e)
 all-yes (No p ∷ q) e = absurd (false≢true cc)
-
-pub test-yes : (n p : ℕ) (c : Bool) → question n p c ≡ Yes → c ≡ true
-test-yes n p true e = refl
-test-yes n p false e = absurd (false≢true cc)
 
 none-first : (n : ℕ) (l : List ℕ) → atFirst n l ≡ Yes → l ≡ []
 none-first n [] e = refl

@@ -15,6 +15,7 @@ ghost use Rattle.grammar.specs.Limits.{maxLength};
 ghost use Rattle.scan.specs.Scans.{foundIn};
 ghost use Rattle.formula.specs.Questions.{atFirst, askChannels, askLength, askGrammar, textQuestions, acceptOf};
 
+// A no with a place of the text.
 fn no(number: u32, place: usize) -> Reply
     requires { ⌜ place ≤ maxLength + 2 ⌝ }
     ensures { λ r. ⌜ r ≡ Reply.No (record { number = number; place = place }) ⌝ }
@@ -29,14 +30,14 @@ fn no(number: u32, place: usize) -> Reply
 fn ask_channels(c: u32) -> Reply
     ensures { λ r. ⌜ r ≡ askChannels c ⌝ }
 {
-    refusal::by_test(1, refusal::within(c as usize, 1, MAX_CHANNELS))
+    refusal::ask_within(1, c as usize, 1, MAX_CHANNELS)
 }
 
 // Question 3.
 fn ask_length(text: &[u8]) -> Reply
     ensures { λ r. ⌜ r ≡ askLength (now (text .entry)) ⌝ }
 {
-    refusal::by_test(3, refusal::within(text.len(), 1, MAX_LENGTH))
+    refusal::ask_within(3, text.len(), 1, MAX_LENGTH)
 }
 
 // Question 4.

@@ -47,6 +47,7 @@ pub fn is_letter(b: u8) -> bool
     b >= b'a' && b <= b'h'
 }
 
+// What a byte begins in one sort alone.
 fn own_lead(s: Sort, b: u8) -> Lead
     ensures { λ r. ⌜ r ≡ ownLead s b ⌝ }
 {
@@ -66,6 +67,7 @@ fn own_lead(s: Sort, b: u8) -> Lead
     }
 }
 
+// What a byte begins.
 pub fn lead_of(s: Sort, b: u8) -> Lead
     ensures { λ r. ⌜ r ≡ leadOf s b ⌝ }
 {
@@ -78,6 +80,7 @@ pub fn lead_of(s: Sort, b: u8) -> Lead
     }
 }
 
+// Whether a lead begins a part.
 fn begins(l: Lead) -> bool
     ensures { λ r. ⌜ r ≡ begins l ⌝ }
 {
@@ -98,6 +101,7 @@ pub fn is_start(b: u8) -> bool
     begins(lead_of(Sort::State, b)) || begins(lead_of(Sort::Formula, b))
 }
 
+// What joins two parts of one sort alone.
 fn own_joint(s: Sort, b: u8) -> Joint
     ensures { λ r. ⌜ r ≡ ownJoint s b ⌝ }
 {
@@ -113,6 +117,7 @@ fn own_joint(s: Sort, b: u8) -> Joint
     }
 }
 
+// What joins two parts.
 pub fn joint_of(s: Sort, b: u8) -> Joint
     ensures { λ r. ⌜ r ≡ jointOf s b ⌝ }
 {

@@ -1,7 +1,7 @@
 -- An accepted text fits the table, and the rows found are its nodes'. The node of a number from 1 to the count stands in the text at its
 -- row's first byte, so its own text is that part, and it is what the node prints.
 use mathlib.Core.Path.{_≡_, refl, sym, ap, ap₂, _∙_, subst}
-use mathlib.Core.Bool.{Bool, _&&_, false≢true}
+use mathlib.Core.Bool.{_&&_, false≢true}
 use mathlib.Core.List.{List, [], _∷_, map}
 use Prim.Native.Nat.{ℕ, zero, suc, _+_, _-_, _≤_, _<_}
 use native.Mathlib.Omega.{arith}
@@ -23,8 +23,8 @@ use Rattle.formula.specs.Questions.{formulaQuestions, acceptOf}
 use Rattle.formula.proofs.Lists.{All, flat-map}
 use Rattle.formula.proofs.Standing.{StandsNode, all-stand, end-within, text-is}
 use Rattle.formula.proofs.Found.{root-stands, found-in}
-use Rattle.formula.proofs.Asked.{asked-one}
-use Rattle.formula.proofs.Laws.{accepted, nodes-read, test-yes}
+use Rattle.formula.proofs.Asked.{asked-one, test-yes}
+use Rattle.formula.proofs.Laws.{accepted, nodes-read}
 use Rattle.rows.specs.Table.{rowOf, padded, tableOf}
 use Rattle.rows.specs.Rows.{startsIn, rowsAt}
 use Rattle.rows.specs.declared.Row.{Row}
@@ -72,10 +72,10 @@ module _ (C k x : ℕ) (t : List ℕ) where
   unfolding acceptOf
   refused-early r e = sym (refusal-is ∙ replied-no No (askNode x t) (formulaQuestions C k t) r e)
 
-  pub refused-last : acceptOf C k t ≡ Yes → (n : ℕ) (c : Bool) (r : Reply) → n ≡ startsIn t 0 (length t) → c ≡ leb 1 x && leb x n → r ≡ question 8 0 c → r ≡ nodeRefusalOf C k x t
+  pub refused-last : acceptOf C k t ≡ Yes → (n : ℕ) (r : Reply) → n ≡ startsIn t 0 (length t) → r ≡ question 8 0 (leb 1 x && leb x n) → r ≡ nodeRefusalOf C k x t
   unfolding acceptOf askNode
-  refused-last e n c r p q u =
-      u ∙ ap (question 8 0) (q ∙ ap (λ (m : ℕ). leb 1 x && leb x m) (p ∙ count-is C k t e)) ∙ sym (refusal-is ∙ replied-yes No (askNode x t) (formulaQuestions C k t) e)
+  refused-last e n r p u =
+      u ∙ ap (λ (m : ℕ). question 8 0 (leb 1 x && leb x m)) (p ∙ count-is C k t e) ∙ sym (refusal-is ∙ replied-yes No (askNode x t) (formulaQuestions C k t) e)
 
   pub text-refused : (r : Refusal) → nodeRefusalOf C k x t ≡ No r → [] ≡ nodeTextOf C k x t
   unfolding nodeTextOf nodeRefusalOf

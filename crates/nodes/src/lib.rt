@@ -35,7 +35,7 @@ pub fn node_refusal(text: &[u8], c: u32, k: u32, x: u32) -> Reply
         return Reply::No(r);
     }
     let count = rows::starts_in(text, 0, text.len());
-    refusal::by_test(8, refusal::within(x as usize, 1, count))
+    refusal::ask_within(8, x as usize, 1, count)
 }
 
 // A node's own text as that part of the lent text, the empty part where refused.

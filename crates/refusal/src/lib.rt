@@ -18,19 +18,14 @@ pub enum Reply {
     No(Refusal),
 }
 
-// The reply to a question that names no place, by its test.
-pub fn by_test(number: u32, yes: bool) -> Reply
-    ensures { λ r. ⌜ r ≡ question number 0 yes ⌝ }
+// The reply to a question that names no place: is x from low to high?
+pub fn ask_within(number: u32, x: usize, low: usize, high: usize) -> Reply
+    ensures { λ r. ⌜ r ≡ question number 0 (leb low x && leb x high) ⌝ }
 {
-    if yes {
-        return Reply::Yes;
+    if x >= low {
+        if x <= high {
+            return Reply::Yes;
+        }
     }
     Reply::No(Refusal { number, place: 0 })
-}
-
-// Whether x is from low to high.
-pub fn within(x: usize, low: usize, high: usize) -> bool
-    ensures { λ r. ⌜ r ≡ leb low x && leb x high ⌝ }
-{
-    x >= low && x <= high
 }

@@ -13,7 +13,7 @@ ghost use Rattle.scan.specs.declared.Ask.the-variants.{Nodes};
 ghost use Rattle.rows.specs.Table.{sortCode, tableOf};
 ghost use Rattle.rows.specs.Rows.{jointCode, leafHead, linkAt, headAt, countIf, startsIn, rowAt, isInner, untilAt, sortAt, withRow, rowsAt};
 
-// What a node is: its kind and its number.
+// What a node is: its kind, numbered as in specs/Table.antt, and its number (a letter's channel, a duration's n).
 pub struct Head {
     pub kind: u8,
     pub number: u8,
@@ -37,6 +37,7 @@ pub struct NodeTable {
     pub lengths: [u8; MAX_NODES],
 }
 
+// The byte at a place, and 0 past the end.
 fn byte_at(text: &[u8], at: usize) -> u8
     ensures { λ r. ⌜ r ≡ getD (now (text .entry)) at 0 ⌝ }
 {
@@ -63,6 +64,7 @@ fn joint_code(j: Joint) -> u8
     }
 }
 
+// What a part of one byte is.
 fn leaf_head(s: Sort, b: u8) -> Head
     ensures { λ r. ⌜ r ≡ leafHead s b ⌝ }
 {
@@ -84,6 +86,7 @@ fn leaf_head(s: Sort, b: u8) -> Head
     }
 }
 
+// What joins the parts of the node at a place: the byte after its first part tells.
 fn link_at(text: &[u8], s: Sort, at: usize) -> u8
     requires { ⌜ at < length (now text) ⌝ }
     ensures { λ r. ⌜ (r ≡ linkAt (now (text .entry)) s at) × (r ≤ 5) ⌝ }
@@ -143,6 +146,7 @@ pub fn starts_in(text: &[u8], a: usize, e: usize) -> usize
     n
 }
 
+// a - b, and 0 where b is larger.
 fn less(a: usize, b: usize) -> usize
     ensures { λ r. ⌜ r ≡ a - b ⌝ }
 {
@@ -183,6 +187,7 @@ fn until_at(text: &[u8], until: usize, at: usize) -> usize
     until
 }
 
+// State assertions stand before `until`.
 fn sort_at(until: usize, at: usize) -> Sort
     ensures { λ r. ⌜ r ≡ sortAt until at ⌝ }
 {
@@ -193,6 +198,7 @@ fn sort_at(until: usize, at: usize) -> Sort
     }
 }
 
+// No rows.
 pub fn empty_table() -> NodeTable
     ensures { λ r. ⌜ r ≡ tableOf [] ⌝ }
 {

@@ -35,6 +35,7 @@ pub fn wide(b: u8) -> usize
     b as usize
 }
 
+// Whether a byte is a letter that is not among the first C.
 fn is_outside(c: u32, b: u8) -> bool
     ensures { λ r. ⌜ r ≡ isOutside c b ⌝ }
 {
@@ -87,6 +88,7 @@ pub fn number_of(text: &[u8], at: usize) -> Number
     Number { place, value: 0 }
 }
 
+// A place if a test says so.
 fn find_if(yes: bool, place: usize) -> Find
     ensures { λ r. ⌜ (listOf r ≡ cond yes (place ∷ []) []) × (r .count ≤ 1) × (r .place ≤ place) ⌝ }
 {
@@ -96,6 +98,7 @@ fn find_if(yes: bool, place: usize) -> Find
     Find { count: 0, place: 0 }
 }
 
+// The first digit of a number above the limit, at its duration's `#`.
 fn number_find(text: &[u8], i: usize) -> Find
     requires { ⌜ (length (now text) ≤ maxLength) × (i < length (now text)) ⌝ }
     ensures { λ r. ⌜ (listOf r ≡ aboveAt (now (text .entry)) (getD (now (text .entry)) i 0) i) × (r .count ≤ 1) × (r .place ≤ maxLength + 2) ⌝ }

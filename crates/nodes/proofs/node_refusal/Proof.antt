@@ -21,14 +21,11 @@ enum-told c = search needs
 starts-in-requires : tie.Need-starts-in-requires
 starts-in-requires c κs = search needs
 
-within-requires : tie.Need-within-requires
-within-requires c κs = search needs
-
-by-test-requires : tie.Need-by-test-requires
-by-test-requires c κs = search needs
+ask-within-requires : tie.Need-ask-within-requires
+ask-within-requires c κs = search needs
 
 returns-2 : tie.Need-returns-2
-returns-2 c = refused-last _ _ _ _ (sym (c .before .before .before .before .before .accept .ensures) ∙ c .before .before .before .enum-told .given .1) _ _ _ (c .before .before .starts-in .ensures .0) (c .before .within .ensures) (c .by-test .ensures)
+returns-2 c = refused-last _ _ _ _ (sym (c .before .before .before .before .accept .ensures) ∙ c .before .before .enum-told .given .1) _ _ (c .before .starts-in .ensures .0) (c .ask-within .ensures)
 
 pub node-refusal-spec : {M : Type 1} → statement M
 node-refusal-spec =
@@ -39,6 +36,5 @@ node-refusal-spec =
     returns
     enum-told
     starts-in-requires
-    within-requires
-    by-test-requires
+    ask-within-requires
     returns-2)
