@@ -1,0 +1,1 @@
+// Document 01's "Meaning" has definitions and laws, and no code of its own.
