@@ -1,7 +1,7 @@
 -- Document 01, "Formula text": "The limits belong to the interval: at most 32 steps". Which intervals there are, and the constructor.
 use mathlib.Core.Bool.{_&&_}
 use mathlib.Core.List.{[], _∷_}
-use Prim.Native.Nat.{ℕ, _≤_}
+use Prim.Native.Nat.{ℕ, _+_, _*_, _/_, _≤_}
 use lib.Dec.{leb}
 use Rattle.refusal.specs.Asked.{question, asked}
 use Rattle.refusal.specs.declared.Reply.{Reply}
@@ -13,6 +13,10 @@ use Rattle.interval.specs.declared.Made.the-variants.{Good, Refused}
 -- "at most 32 steps"
 abbrev pub maxSteps : ℕ
 maxSteps = 32
+
+-- "each of the 561 intervals": I of the most steps
+abbrev pub maxCount : ℕ
+maxCount = (maxSteps + 1) * (maxSteps + 2) / 2
 
 -- question 2: is k at most 32?
 unfoldable pub askSteps : ℕ → Reply

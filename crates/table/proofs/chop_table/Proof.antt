@@ -1,0 +1,95 @@
+-- `chop_table` fills one row a turn, each from the place where the last one ended,
+-- and after k + 1 rows every interval's place is in one of them (Rows.antt).
+use Rattle.interval.specs.Limits.{maxSteps, maxCount}
+use Prim.Native.Nat.{suc, _+_, _-_}
+use Rattle.table.proofs.Rows.{row-length, row-zeros, Filled, RowsOf, filled-begun, filled-turn, rows-turn, rows-done}
+use Rattle.table.specs.Table.{TableOf}
+use Rattle.meaning.specs.Meaning.{chops}
+use Rattle.interval.proofs.Counts.{count-le}
+use Rattle.interval.specs.declared.Interval.{Interval}
+use Rattle.interval.specs.Places.{countOf}
+use native.Mathlib.Omega.{arith}
+use borrow.Author.Needs.{needs}
+use mathlib.Core.Bool.{Bool}
+use mathlib.Core.Path.{_≡_}
+use Rattle.table.proofs.chop_table.Statement.{statement}
+use Rattle.table.proofs.chop_table.Tie as tie
+
+abbrev Inv-loop : tie.InvT-loop
+Inv-loop p q k t₀ start₀ i₀ i-end t start i = (i-end ≡ suc k) × Filled maxCount k i start t × ((f g : Interval → Bool) → TableOf k f p → TableOf k g q → RowsOf k (chops f g) i t)
+
+abbrev μ-loop : tie.MeasureT-loop
+μ-loop p q k t₀ start₀ i₀ i-end t start i = suc k - i
+
+no-table-requires : tie.Need-no-table-requires Inv-loop μ-loop
+no-table-requires c κs = search needs
+
+add-i-end : tie.Need-add-i-end Inv-loop μ-loop
+add-i-end c = search needs
+
+loop-holds : tie.Need-loop-holds Inv-loop μ-loop
+unfolding countOf
+loop-holds c = (omega arith, filled-begun maxCount _ _ (count-le maxSteps _ (c .before .pre)) (c .no-table .ensures), λ f g P Q. record { at = λ v o h. omega arith })
+
+add-end : tie.Need-add-end Inv-loop μ-loop
+add-end c = search needs
+
+sub-end : tie.Need-sub-end Inv-loop μ-loop
+sub-end c = search needs
+
+add-end-2 : tie.Need-add-end-2 Inv-loop μ-loop
+add-end-2 c = search needs
+
+sub-chop-row : tie.Need-sub-chop-row Inv-loop μ-loop
+sub-chop-row c = search needs
+
+part-t-start : tie.Need-part-t-start Inv-loop μ-loop
+part-t-start c = search needs
+
+part-t-end : tie.Need-part-t-end Inv-loop μ-loop
+part-t-end c = search needs
+
+chop-row-requires : tie.Need-chop-row-requires Inv-loop μ-loop
+chop-row-requires c κs = let l = c .before .before .before .before .loop in
+    let w = l .inv .1 in (
+      (search needs, omega arith, w .starts, row-length maxCount _ _ _ _ _ w (omega arith), row-zeros maxCount _ _ _ _ _ w),
+      (omega (arith, w .room, c .before .chop-row-arg .given .0), omega (arith, w .room, c .chop-row-arg2 .given .0)),
+    )
+
+add-i : tie.Need-add-i Inv-loop μ-loop
+add-i c = search needs
+
+loop-less : tie.Need-loop-less Inv-loop μ-loop
+loop-less c = search needs
+
+loop-again : tie.Need-loop-again Inv-loop μ-loop
+loop-again c = let a = c .before .before .before .before .before .before .before .before .args in
+    let l = c .before .before .before .before .before .before .loop in
+    let end = l .start + (a .k + 1 - l .i) in
+    let row = c .before .chop-row .last .0 in
+    let w = l .inv .1 in
+    (omega arith, filled-turn maxCount _ _ _ end _ row (omega arith) w (omega arith) (search needs), λ f g P Q. rows-turn maxCount _ _ _ end _ row (omega arith) w (omega arith) (search needs) (chops f g) (c .before .chop-row .ensures f g P Q) (l .inv .2 f g P Q))
+
+returns : tie.Need-returns Inv-loop μ-loop
+returns c = λ f g P Q. rows-done _ _ _ _ (omega (arith, c .before .loop .inv .0, c .loop-test .left)) (c .before .loop .inv .2 f g P Q)
+
+pub chop-table-spec : {M : Type 1} → statement M
+chop-table-spec =
+    tie.close
+    (tie.spec
+    Inv-loop
+    μ-loop
+    no-table-requires
+    add-i-end
+    loop-holds
+    add-end
+    sub-end
+    add-end-2
+    sub-chop-row
+    part-t-start
+    part-t-end
+    chop-row-requires
+    add-i
+    loop-less
+    loop-again
+    returns)

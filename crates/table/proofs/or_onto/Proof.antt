@@ -1,0 +1,66 @@
+-- `or_onto` changes nothing where told so by a 0; otherwise each turn changes the byte at its place,
+-- which no earlier turn has touched.
+use Rattle.table.proofs.Fill.{Upto, begun, turn}
+use borrow.Author.Needs.{needs}
+use borrow.Author.Tests.{eq-eqb, ne-eqb}
+use native.Mathlib.Omega.{arith}
+use lib.ListN.{length, getD}
+use lib.Bits.{bitOr, or-zero-r}
+use Prim.Native.Nat.{_-_, _≤_}
+use mathlib.Core.Path.{_≡_, refl, sym, ap₂}
+use Rattle.table.proofs.or_onto.Statement.{statement}
+use Rattle.table.proofs.or_onto.Tie as tie
+
+abbrev Inv-loop : tie.InvT-loop
+Inv-loop wanted row₀ from d₀ d-end row d = (d-end ≡ length row₀) × (d ≤ length row₀) × Upto (length row₀) (λ y. bitOr (getD row₀ y 0) (getD from y 0)) (λ y. getD row₀ y 0) d row
+
+abbrev μ-loop : tie.MeasureT-loop
+μ-loop wanted row₀ from d₀ d-end row d = length row₀ - d
+
+returns : tie.Need-returns Inv-loop μ-loop
+returns c = λ d h. simp (eq-eqb _ _ (c .if1 .taken)) (sym (or-zero-r _))
+
+loop-holds : tie.Need-loop-holds Inv-loop μ-loop
+loop-holds c = (refl, omega arith, begun _ _ _ _ refl (λ y. refl))
+
+shared-slice-read-row : tie.Need-shared-slice-read-row Inv-loop μ-loop
+shared-slice-read-row c = search needs
+
+slice-read-row : tie.Need-slice-read-row Inv-loop μ-loop
+slice-read-row c = search needs
+
+slice-write-row : tie.Need-slice-write-row Inv-loop μ-loop
+slice-write-row c = search needs
+
+add-d : tie.Need-add-d Inv-loop μ-loop
+add-d c = search needs
+
+loop-less : tie.Need-loop-less Inv-loop μ-loop
+loop-less c = search needs
+
+loop-again : tie.Need-loop-again Inv-loop μ-loop
+loop-again c = let l = c .before .before .before .loop in
+    (l .inv .0, omega arith, turn _ _ _ _ _ _ (l .inv .2) (search needs) (ap₂ bitOr (l .inv .2 .beyond _ (omega arith)) refl))
+
+same-length : tie.Need-same-length Inv-loop μ-loop
+same-length c = search needs
+
+returns-2 : tie.Need-returns-2 Inv-loop μ-loop
+returns-2 c = λ d h. simp (ne-eqb _ _ (c .before .before .if1 .left)) (c .before .loop .inv .2 .below d (omega (arith, c .before .loop .inv, c .loop-test .left)))
+
+pub or-onto-spec : {M : Type 1} → statement M
+or-onto-spec =
+    tie.close
+    (tie.spec
+    Inv-loop
+    μ-loop
+    returns
+    loop-holds
+    shared-slice-read-row
+    slice-read-row
+    slice-write-row
+    add-d
+    loop-less
+    loop-again
+    same-length
+    returns-2)

@@ -1,0 +1,92 @@
+// The truth of a formula on every interval of k steps: an array by value, a row for each start, filled from its parts.
+use interval::Interval;
+ghost use mathlib.Core.Path.{_≡_};
+ghost use mathlib.Core.Bool.{Bool};
+ghost use Prim.Native.Nat.{ℕ, suc, _-_, _≤_, _<_};
+ghost use lib.Bits.{bitOr};
+ghost use lib.ListN.{length, getD, replicate};
+ghost use Rattle.interval.specs.Places.{countOf};
+ghost use Rattle.interval.specs.Limits.{maxSteps, maxCount};
+ghost use Rattle.interval.specs.declared.Interval.{Interval};
+ghost use Rattle.meaning.specs.Meaning.{bit, chops};
+ghost use Rattle.table.specs.Table.{TableOf, RowOf, startOf, joined, joinedByte, unlessZero};
+
+// No, everywhere.
+fn no_table() -> [u8; Interval::MAX_COUNT]
+    ensures { λ r. ⌜ r ≡ replicate maxCount 0 ⌝ }
+{
+    [0; Interval::MAX_COUNT]
+}
+
+// What `!`, `&` or `|` makes of the truths of its parts.
+fn joined_byte(kind: u8, a: u8, b: u8) -> u8
+    ensures { λ r. ⌜ r ≡ joinedByte kind a b ⌝ }
+{
+    if kind == 2 {
+        return a ^ 1;
+    }
+    if kind == 3 { a & b } else { a | b }
+}
+
+// The table of `!`, `&` or `|`, from those of its parts.
+pub fn joined_table(
+    kind: u8,
+    p: &[u8; Interval::MAX_COUNT],
+    q: &[u8; Interval::MAX_COUNT],
+    k: usize,
+) -> [u8; Interval::MAX_COUNT]
+    requires { ⌜ k ≤ maxSteps ⌝ }
+    ensures { λ r. ⌜ ((f g : Interval → Bool) → TableOf k f (now (p .entry)) → TableOf k g (now (q .entry)) → TableOf k (λ v. joined kind (f v) (g v)) r) ⌝ }
+{
+    let mut t = no_table();
+    for x in 0..Interval::count(k) {
+        t[x] = joined_byte(kind, p[x], q[x]);
+    }
+    t
+}
+
+// Each byte of `from` onto that of `row`, unless `wanted` is 0.
+fn or_onto(wanted: u8, row: &mut [u8], from: &[u8])
+    requires { ⌜ length (now row) ≡ length (now from) ⌝ }
+    ensures { λ r. ⌜ ((d : ℕ) → d < length (now (row .entry)) → getD (now (row .exit)) d 0 ≡ bitOr (getD (now (row .entry)) d 0) (unlessZero wanted (getD (now (from .entry)) d 0))) ⌝ }
+{
+    if wanted == 0 {
+        return;
+    }
+    for d in 0..row.len() {
+        row[d] |= from[d];
+    }
+}
+
+// Row i of a chop, all 0 before: where P is true on [i, m], row m of Q tells for which j.
+fn chop_row(row: &mut [u8], p: &[u8], q: &[u8], k: usize, i: usize, start: usize)
+    requires { ⌜ (k ≤ maxSteps) × (i ≤ k) × (start ≡ startOf k i) × (length (now row) ≡ suc k - i) × ((y : ℕ) → y < length (now row) → getD (now row) y 0 ≡ 0) ⌝ }
+    requires { ⌜ (countOf k ≤ length (now p)) × (countOf k ≤ length (now q)) ⌝ }
+    ensures { λ r. ⌜ ((f g : Interval → Bool) → TableOf k f (now (p .entry)) → TableOf k g (now (q .entry)) → RowOf i (chops f g) (now (row .exit))) ⌝ }
+{
+    let mut at = start;
+    for d in 0..row.len() {
+        let end = at + (row.len() - d);
+        or_onto(p[start + d], &mut row[d..], &q[at..end]);
+        at = end;
+    }
+}
+
+// The table of a chop, from those of its parts.
+pub fn chop_table(
+    p: &[u8; Interval::MAX_COUNT],
+    q: &[u8; Interval::MAX_COUNT],
+    k: usize,
+) -> [u8; Interval::MAX_COUNT]
+    requires { ⌜ k ≤ maxSteps ⌝ }
+    ensures { λ r. ⌜ ((f g : Interval → Bool) → TableOf k f (now (p .entry)) → TableOf k g (now (q .entry)) → TableOf k (chops f g) r) ⌝ }
+{
+    let mut t = no_table();
+    let mut start = 0;
+    for i in 0..k + 1 {
+        let end = start + (k + 1 - i);
+        chop_row(&mut t[start..end], p, q, k, i, start);
+        start = end;
+    }
+    t
+}
