@@ -59,6 +59,13 @@ module _ (f : ℕ → Bool) (i : ℕ) where
   some-one zero = (λ e. absurd (false≢true e), λ w. absurd (omega (arith, w .1, w .2)))
   some-one (suc n) = or-one n (some f i n) (some-one n) (f (i + n)) refl
 
+-- only the instants counted matter
+pub highs-agree : (f g : ℕ → Bool) (i n : ℕ) → ((t : ℕ) → i ≤ t → t < i + n → f t ≡ g t) → highs f i n ≡ highs g i n
+unfolding highs
+highs-agree f g i zero h = refl
+highs-agree f g i (suc n) h =
+    ap₂ (λ (a : ℕ) (b : Bool). a + bit b) (highs-agree f g i n (λ t l m. h t l (omega arith))) (h (i + n) (omega arith) (omega arith))
+
 -- a chop is some m with i ≤ m ≤ j
 pub chop-some : (f g : Interval → Bool) (v : Interval) → v .i ≤ v .j
     → (chops f g v ≡ true) ↔ ((m : ℕ) × (v .i ≤ m) × (m ≤ v .j) × (f (record { i = v .i; j = m }) ≡ true) × (g (record { i = m; j = v .j }) ≡ true))

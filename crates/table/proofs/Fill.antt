@@ -14,7 +14,8 @@ use Rattle.meaning.specs.Meaning.{bit}
 use Rattle.interval.specs.Places.{countOf, placeOf}
 use Rattle.interval.specs.declared.Interval.{Interval}
 use Rattle.interval.proofs.Laws.{intervals-numbered}
-use Rattle.table.specs.Table.{TableOf, joined, joinedByte}
+use Rattle.table.specs.Table.{TableOf, joinedByte}
+use Rattle.word.specs.Word.{joined}
 
 pub record Upto (n : ℕ) (new old : ℕ → ℕ) (d : ℕ) (l : List ℕ) : Type 0 where
   pub whole : length l ≡ n

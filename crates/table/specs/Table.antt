@@ -1,7 +1,7 @@
 -- A formula's truth on each interval as the code keeps it: "a table with a yes or no for each of the 561 intervals".
 -- No call open to others cites these.
 use mathlib.Core.Path.{_≡_}
-use mathlib.Core.Bool.{Bool, not, _&&_, _||_, cond}
+use mathlib.Core.Bool.{Bool, cond}
 use mathlib.Core.List.{List}
 use Prim.Native.Nat.{ℕ, suc, _+_, _-_, _<_}
 use lib.Bits.{bitAnd, bitOr, bitXor}
@@ -11,7 +11,7 @@ use Rattle.interval.specs.Listing.{sum}
 use Rattle.interval.specs.Limits.{IntervalOf}
 use Rattle.interval.specs.Places.{placeOf}
 use Rattle.interval.specs.declared.Interval.{Interval}
-use Rattle.meaning.specs.Meaning.{bit}
+use Rattle.meaning.specs.Meaning.{bit, lasts, fills}
 
 -- t has, at the place of each interval of k steps, 1 where f is true and 0 where not
 pub record TableOf (k : ℕ) (f : Interval → Bool) (t : List ℕ) : Type 0 where
@@ -25,13 +25,14 @@ pub record RowOf (i : ℕ) (f : Interval → Bool) (row : List ℕ) : Type 0 whe
 abbrev pub startOf : ℕ → ℕ → ℕ
 startOf k i = sum (λ a. suc k - a) i
 
-abbrev pub joined : ℕ → Bool → Bool → Bool
-joined kind a b = cond (eqb kind 2) (not a) (cond (eqb kind 3) (a && b) (a || b))
-
--- the same of bytes, 1 for true
+-- what `!`, `&` and `|` make of bytes, 1 for true, as `joined` makes of truths
 abbrev pub joinedByte : ℕ → ℕ → ℕ → ℕ
 joinedByte kind a b = cond (eqb kind 2) (bitXor a 1) (cond (eqb kind 3) (bitAnd a b) (bitOr a b))
 
 -- b, and 0 where a is 0
 abbrev pub unlessZero : ℕ → ℕ → ℕ
 unlessZero a b = cond (eqb a 0) 0 b
+
+-- the truth of a duration (7) or of `[S]` (8) by the truth of S
+abbrev pub measured : ℕ → ℕ → (ℕ → Bool) → Interval → Bool
+measured kind n f v = cond (eqb kind 8) (fills f v) (lasts n f v)

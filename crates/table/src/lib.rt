@@ -2,20 +2,79 @@
 use interval::Interval;
 ghost use mathlib.Core.Path.{_≡_};
 ghost use mathlib.Core.Bool.{Bool};
-ghost use Prim.Native.Nat.{ℕ, suc, _-_, _≤_, _<_};
+ghost use Prim.Native.Nat.{ℕ, suc, _+_, _-_, _≤_, _<_};
 ghost use lib.Bits.{bitOr};
 ghost use lib.ListN.{length, getD, replicate};
 ghost use Rattle.interval.specs.Places.{countOf};
 ghost use Rattle.interval.specs.Limits.{maxSteps, maxCount};
 ghost use Rattle.interval.specs.declared.Interval.{Interval};
-ghost use Rattle.meaning.specs.Meaning.{bit, chops};
-ghost use Rattle.table.specs.Table.{TableOf, RowOf, startOf, joined, joinedByte, unlessZero};
+ghost use Rattle.meaning.specs.Meaning.{bit, bitAt, lasts, fills, chops};
+ghost use Rattle.word.specs.Word.{joined};
+ghost use Rattle.table.specs.Table.{TableOf, RowOf, startOf, joinedByte, unlessZero, measured};
 
 // No, everywhere.
 fn no_table() -> [u8; Interval::MAX_COUNT]
     ensures { λ r. ⌜ r ≡ replicate maxCount 0 ⌝ }
 {
     [0; Interval::MAX_COUNT]
+}
+
+fn byte_of(yes: bool) -> u8
+    ensures { λ r. ⌜ r ≡ bit yes ⌝ }
+{
+    if yes { 1 } else { 0 }
+}
+
+// `#S>=n` on [i, j], from the word of S.
+fn lasts_on(n: u8, word: u32, i: usize, j: usize) -> u8
+    requires { ⌜ (i ≤ j) × (j ≤ maxSteps) ⌝ }
+    ensures { λ r. ⌜ r ≡ bit (lasts n (bitAt word) (record { i = i; j = j })) ⌝ }
+{
+    byte_of(word::count_high(word, i, j) >= n as usize)
+}
+
+// `[S]` on [i, j], from the word of S: as many of its instants are high as it has.
+fn fills_on(word: u32, i: usize, j: usize) -> u8
+    requires { ⌜ (i ≤ j) × (j ≤ maxSteps) ⌝ }
+    ensures { λ r. ⌜ r ≡ bit (fills (bitAt word) (record { i = i; j = j })) ⌝ }
+{
+    byte_of(word::count_high(word, i, j) >= j - i)
+}
+
+fn measured_on(kind: u8, n: u8, word: u32, i: usize, j: usize) -> u8
+    requires { ⌜ (i ≤ j) × (j ≤ maxSteps) ⌝ }
+    ensures { λ r. ⌜ r ≡ bit (measured kind n (bitAt word) (record { i = i; j = j })) ⌝ }
+{
+    if kind == 8 {
+        fills_on(word, i, j)
+    } else {
+        lasts_on(n, word, i, j)
+    }
+}
+
+// Row i of a duration or of `[S]`.
+fn measured_row(row: &mut [u8], kind: u8, n: u8, word: u32, i: usize)
+    requires { ⌜ i + length (now row) ≤ suc maxSteps ⌝ }
+    ensures { λ r. ⌜ RowOf i (measured kind n (bitAt word)) (now (row .exit)) ⌝ }
+{
+    for d in 0..row.len() {
+        row[d] = measured_on(kind, n, word, i, i + d);
+    }
+}
+
+// The table of a duration (kind 7) or of `[S]` (kind 8), from the word of S.
+pub fn measured_table(kind: u8, n: u8, word: u32, k: usize) -> [u8; Interval::MAX_COUNT]
+    requires { ⌜ k ≤ maxSteps ⌝ }
+    ensures { λ r. ⌜ TableOf k (measured kind n (bitAt word)) r ⌝ }
+{
+    let mut t = no_table();
+    let mut start = 0;
+    for i in 0..k + 1 {
+        let end = start + (k + 1 - i);
+        measured_row(&mut t[start..end], kind, n, word, i);
+        start = end;
+    }
+    t
 }
 
 // What `!`, `&` or `|` makes of the truths of its parts.

@@ -1,0 +1,46 @@
+-- Document 01, "Meaning" and "Questions in order", 9 to 11: what evaluation answers for any [i, j] of a recording.
+use mathlib.Core.Bool.{Bool, true, false, cond}
+use mathlib.Core.List.{List, [], _∷_, _++_}
+use Prim.Native.Nat.{ℕ, suc, _^_}
+use lib.Dec.{eqb, ltb}
+use lib.ListN.{length}
+use Rattle.refusal.specs.Asked.{question, asked}
+use Rattle.refusal.specs.declared.Reply.{Reply}
+use Rattle.interval.specs.Limits.{askInterval}
+use Rattle.interval.specs.declared.Interval.{Interval}
+use Rattle.grammar.specs.Reader.{Read, tree, stopped, read}
+use Rattle.grammar.specs.declared.Sort.the-variants.{Formula}
+use Rattle.formula.specs.Questions.{atFirst, formulaQuestions}
+use Rattle.meaning.specs.Meaning.{holds}
+use Rattle.evaluator.specs.declared.Verdict.{Verdict}
+use Rattle.evaluator.specs.declared.Verdict.the-variants.{No, Yes, Refused}
+
+-- question 10: has the recording k bytes?
+unfoldable pub askRecording : ℕ → List ℕ → Reply
+askRecording k recording = question 10 0 (eqb (length recording) k)
+
+-- question 11: is each below 2^C? Its place: first that isn't, the bytes being instant t and on.
+unfoldable pub notBelow : ℕ → ℕ → List ℕ → List ℕ
+notBelow C t [] = []
+notBelow C t (b ∷ r) = cond (ltb b (2 ^ C)) [] (t ∷ []) ++ notBelow C (suc t) r
+
+unfoldable pub askBytes : ℕ → List ℕ → Reply
+askBytes C recording = atFirst 11 (notBelow C 0 recording)
+
+-- "evaluation [asks] 1 to 7 and 9 to 11"
+abbrev pub recordingQuestions : ℕ → ℕ → ℕ → ℕ → List ℕ → List Reply
+recordingQuestions C k i j recording = askInterval i j k ∷ askRecording k recording ∷ askBytes C recording ∷ []
+
+-- the truth of a text that reads; one that does not is refused before
+abbrev pub readHolds : List ℕ → Read Formula → Interval → Bool
+readHolds recording (tree f) v = holds recording f v
+readHolds recording (stopped p) v = false
+
+abbrev pub verdictOf : Bool → Verdict
+verdictOf true = Yes
+verdictOf false = No
+
+-- "The evaluator answers for any [i, j] of a recording."
+unfoldable pub evaluated : ℕ → ℕ → ℕ → ℕ → List ℕ → List ℕ → Verdict
+evaluated C k i j t recording =
+    asked (formulaQuestions C k t ++ recordingQuestions C k i j recording) Refused (verdictOf (readHolds recording (read t) (record { i = i; j = j })))

@@ -1,0 +1,63 @@
+-- `measured_row` fills one place a turn, the interval of d steps from i on;
+-- the row ends at the most steps, so that every window fits the word.
+use Rattle.table.proofs.Fill.{Upto, begun, turn}
+use Rattle.table.specs.Table.{measured}
+use Rattle.meaning.specs.Meaning.{bit, bitAt}
+use borrow.Author.Needs.{needs}
+use native.Mathlib.Omega.{arith}
+use lib.ListN.{length, getD}
+use Prim.Native.Nat.{_+_, _-_, _≤_}
+use mathlib.Core.Path.{_≡_, refl}
+use Rattle.table.proofs.measured_row.Statement.{statement}
+use Rattle.table.proofs.measured_row.Tie as tie
+
+abbrev Inv-loop : tie.InvT-loop
+Inv-loop row₀ kind n word i d₀ d-end row d = (d-end ≡ length row₀) × (d ≤ length row₀) × Upto (length row₀) (λ y. bit (measured kind n (bitAt word) (record { i = i; j = i + y }))) (λ y. getD row₀ y 0) d row
+
+abbrev μ-loop : tie.MeasureT-loop
+μ-loop row₀ kind n word i d₀ d-end row d = length row₀ - d
+
+loop-holds : tie.Need-loop-holds Inv-loop μ-loop
+loop-holds c = (refl, omega arith, begun _ _ _ _ refl (λ y. refl))
+
+add-measured-on : tie.Need-add-measured-on Inv-loop μ-loop
+add-measured-on c = search needs
+
+measured-on-requires : tie.Need-measured-on-requires Inv-loop μ-loop
+measured-on-requires c κs = search needs
+
+slice-write-row : tie.Need-slice-write-row Inv-loop μ-loop
+slice-write-row c = search needs
+
+add-d : tie.Need-add-d Inv-loop μ-loop
+add-d c = search needs
+
+loop-less : tie.Need-loop-less Inv-loop μ-loop
+loop-less c = search needs
+
+loop-again : tie.Need-loop-again Inv-loop μ-loop
+loop-again c = let l = c .before .before .loop in
+    (refl, omega arith, turn _ _ _ _ _ _ (l .inv .2) (search needs) (c .measured-on .ensures))
+
+same-length : tie.Need-same-length Inv-loop μ-loop
+same-length c = search needs
+
+returns : tie.Need-returns Inv-loop μ-loop
+returns c = let l = c .before .loop in
+    record { at = λ d h. l .inv .2 .below d (omega (arith, l .inv .0, l .inv .2 .whole, c .loop-test .left)) }
+
+pub measured-row-spec : {M : Type 1} → statement M
+measured-row-spec =
+    tie.close
+    (tie.spec
+    Inv-loop
+    μ-loop
+    loop-holds
+    add-measured-on
+    measured-on-requires
+    slice-write-row
+    add-d
+    loop-less
+    loop-again
+    same-length
+    returns)
