@@ -30,7 +30,8 @@ use Rattle.rows.specs.Rows.{startsIn, rowsAt}
 use Rattle.rows.specs.declared.Row.{Row}
 use Rattle.rows.specs.declared.NodeTable.{NodeTable}
 use Rattle.rows.proofs.Rows.{rows-found}
-use Rattle.nodes.specs.Calls.{tabledOf, askNode, nodeQuestions, partOf, nodeTextOf, nodeRefusalOf}
+use Rattle.nodes.specs.Calls.{tabledOf, askNode, nodeQuestions, nodeRefusalOf, partPlace, nodePlaceOf, partOf, nodeTextOf}
+use Rattle.nodes.specs.declared.Located.the-variants.{Part, Refused}
 
 module _ (C k : ℕ) (t : List ℕ) where
   pub table-refused : (n : NodeTable) (r : Refusal) → acceptOf C k t ≡ No r → n ≡ tableOf [] → record { reply = No r; table = n } ≡ tabledOf C k t
@@ -77,9 +78,9 @@ module _ (C k x : ℕ) (t : List ℕ) where
   refused-last e n r p u =
       u ∙ ap (λ (m : ℕ). question 8 0 (leb 1 x && leb x m)) (p ∙ count-is C k t e) ∙ sym (refusal-is ∙ replied-yes No (askNode x t) (formulaQuestions C k t) e)
 
-  pub text-refused : (r : Refusal) → nodeRefusalOf C k x t ≡ No r → [] ≡ nodeTextOf C k x t
-  unfolding nodeTextOf nodeRefusalOf
-  text-refused r e = sym (replied-no (λ r. []) _ (nodeQuestions C k x t) r e)
+  pub place-refused : (r : Refusal) → nodeRefusalOf C k x t ≡ No r → nodePlaceOf C k x t ≡ Refused r
+  unfolding nodePlaceOf nodeRefusalOf
+  place-refused r e = replied-no Refused _ (nodeQuestions C k x t) r e
 
 -- the node of a number
 node-after : (t : List ℕ) (l : List Node) (i : ℕ) → All (StandsNode t) l → i < length l → (w : Node) × StandsNode t w × (m : List Node) × (drop i l ≡ w ∷ m)
@@ -131,30 +132,34 @@ module _ (C k x : ℕ) (t : List ℕ) (e : nodeRefusalOf C k x t ≡ Yes) where
   pub index-fits : x - 1 < maxNodes
   index-fits = omega (arith, numbered, fits C k t (both-yes .0), count-found C k t (both-yes .0))
 
-  text-made : take (length (textOf (chosen .chosen .part))) (drop (chosen .chosen .first) t) ≡ nodeTextOf C k x t
-  unfolding nodeTextOf nodeRefusalOf
-  text-made = sym (replied-yes (λ r. []) _ (nodeQuestions C k x t) e ∙ ap (partOf t) (chosen .is))
+  place-is : nodePlaceOf C k x t ≡ Part (chosen .chosen .first) (length (textOf (chosen .chosen .part)))
+  unfolding nodePlaceOf nodeRefusalOf
+  place-is = replied-yes Refused _ (nodeQuestions C k x t) e ∙ ap partPlace (chosen .is)
 
   -- what the table has of it
-  module _ (n : NodeTable) (f : n ≡ tableOf (rowsAt t 0 (foundIn Nodes t))) where
-    table-rows : n ≡ tableOf (map rowOf (nodesIn t))
-    table-rows = f ∙ ap tableOf (rows-found C k t (accepted C k t (both-yes .0)))
+  field-is : (g : Row → ℕ) → getD (padded (map g (map rowOf (nodesIn t)))) (x - 1) 0 ≡ g (rowOf (chosen .chosen))
+  field-is g = field-after g (nodesIn t) (chosen .later) (x - 1) (chosen .chosen) (chosen .is)
 
-    first-field : getD (n .firsts) (x - 1) 0 ≡ chosen .chosen .first
-    unfolding tableOf
-    first-field = ap (λ (n : NodeTable). getD (n .firsts) (x - 1) 0) table-rows ∙ field-after (λ (r : Row). r .first) (nodesIn t) (chosen .later) (x - 1) (chosen .chosen) (chosen .is)
-
-    length-field : getD (n .lengths) (x - 1) 0 ≡ length (textOf (chosen .chosen .part))
-    unfolding tableOf
-    length-field = ap (λ (n : NodeTable). getD (n .lengths) (x - 1) 0) table-rows ∙ field-after (λ (r : Row). r .length) (nodesIn t) (chosen .later) (x - 1) (chosen .chosen) (chosen .is)
-
-    pub text-cut : (a b : ℕ) → a ≡ getD (n .firsts) (x - 1) 0 → b ≡ getD (n .lengths) (x - 1) 0 → (a + b ≤ length t) × (take (a + b - a) (drop a t) ≡ nodeTextOf C k x t)
-    text-cut a b p q =
-        let u : a ≡ chosen .chosen .first = p ∙ first-field in
-        let v : b ≡ length (textOf (chosen .chosen .part)) = q ∙ length-field in
-        let w : a + b - a ≡ length (textOf (chosen .chosen .part)) = omega arith in
-        (omega (arith, end-within t (chosen .chosen .part) (chosen .chosen .first) (chosen .stands)), ap₂ (λ (m i : ℕ). take m (drop i t)) w u ∙ text-made)
+  pub place-made : (n : NodeTable) → n ≡ tableOf (rowsAt t 0 (foundIn Nodes t)) → Part (getD (n .firsts) (x - 1) 0) (getD (n .lengths) (x - 1) 0) ≡ nodePlaceOf C k x t
+  unfolding tableOf
+  place-made n f =
+      ap (λ (n : NodeTable). Part (getD (n .firsts) (x - 1) 0) (getD (n .lengths) (x - 1) 0)) (f ∙ ap tableOf (rows-found C k t (accepted C k t (both-yes .0))))
+      ∙ ap₂ Part (field-is (λ (r : Row). r .first)) (field-is (λ (r : Row). r .length)) ∙ sym place-is
 
   -- a node's own text is what its subtree prints
   pub own-text : nodeTextOf C k x t ≡ textOf (chosen .chosen .part)
-  own-text = sym text-made ∙ text-is t (chosen .chosen .part) (chosen .chosen .first) (chosen .stands)
+  unfolding nodeTextOf
+  own-text = ap (partOf t) place-is ∙ text-is t (chosen .chosen .part) (chosen .chosen .first) (chosen .stands)
+
+-- a node's own text is within the lent one
+pub part-within : (C k x : ℕ) (t : List ℕ) (a b : ℕ) → nodePlaceOf C k x t ≡ Part a b → a + b ≤ length t
+part-within C k x t a b p = go (nodeRefusalOf C k x t) refl
+  where
+    go : (r : Reply) → nodeRefusalOf C k x t ≡ r → a + b ≤ length t
+    go Yes e =
+        let w = chosen C k x t e in
+        let q = sym (place-is C k x t e) ∙ p in
+        let f : w .chosen .first ≡ a = cc in
+        let l : length (textOf (w .chosen .part)) ≡ b = cc in
+        omega (arith, end-within t (w .chosen .part) (w .chosen .first) (w .stands))
+    go (No r) e = let q = sym (place-refused C k x t r e) ∙ p in absurd (false≢true cc)

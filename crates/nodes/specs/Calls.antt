@@ -13,6 +13,8 @@ use Rattle.formula.specs.Nodes.{Node, nodesIn}
 use Rattle.formula.specs.Questions.{formulaQuestions}
 use Rattle.rows.specs.Table.{rowOf, tableOf}
 use Rattle.nodes.specs.declared.Tabled.{Tabled}
+use Rattle.nodes.specs.declared.Located.{Located}
+use Rattle.nodes.specs.declared.Located.the-variants.{Part, Refused}
 
 -- the table of an accepted text; no nodes where refused
 unfoldable pub tabledOf : ℕ → ℕ → List ℕ → Tabled
@@ -28,15 +30,23 @@ askNode x t = question 8 0 (leb 1 x && leb x (length (nodesIn t)))
 abbrev pub nodeQuestions : ℕ → ℕ → ℕ → List ℕ → List Reply
 nodeQuestions C k x t = formulaQuestions C k t ++ askNode x t ∷ []
 
--- "a node's own text is handed back as that part of the lent text, the empty part where refused": from its first byte, as
--- many bytes as its subtree prints; the law `own-text` says that they are what it prints
-abbrev pub partOf : List ℕ → List Node → List ℕ
-partOf t [] = []
-partOf t (w ∷ l) = take (length (textOf (w .part))) (drop (w .first) t)
-
-unfoldable pub nodeTextOf : ℕ → ℕ → ℕ → List ℕ → List ℕ
-nodeTextOf C k x t = asked (nodeQuestions C k x t) (λ (r : Refusal). []) (partOf t (drop (x - 1) (nodesIn t)))
-
 -- "a second call on the same values gives the number and place"
 unfoldable pub nodeRefusalOf : ℕ → ℕ → ℕ → List ℕ → Reply
 nodeRefusalOf C k x t = asked (nodeQuestions C k x t) No Yes
+
+-- where a node's own text is, the first node's of a list: from its first byte, as many bytes as its subtree prints
+abbrev pub partPlace : List Node → Located
+partPlace [] = Part 0 0
+partPlace (w ∷ l) = Part (w .first) (length (textOf (w .part)))
+
+unfoldable pub nodePlaceOf : ℕ → ℕ → ℕ → List ℕ → Located
+nodePlaceOf C k x t = asked (nodeQuestions C k x t) Refused (partPlace (drop (x - 1) (nodesIn t)))
+
+-- "a node's own text is handed back as that part of the lent text, the empty part where refused"; the law `own-text` says that
+-- this part is what the node prints
+abbrev pub partOf : List ℕ → Located → List ℕ
+partOf t (Part first length) = take length (drop first t)
+partOf t (Refused r) = []
+
+unfoldable pub nodeTextOf : ℕ → ℕ → ℕ → List ℕ → List ℕ
+nodeTextOf C k x t = partOf t (nodePlaceOf C k x t)

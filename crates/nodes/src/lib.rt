@@ -1,13 +1,20 @@
 // The calls on an accepted formula's nodes: the node table, and a node's own text.
+use refusal::Refusal;
 use refusal::Reply;
 use rows::NodeTable;
 ghost use mathlib.Core.Path.{_≡_};
-ghost use Rattle.nodes.specs.Calls.{tabledOf, nodeTextOf, nodeRefusalOf};
+ghost use Rattle.nodes.specs.Calls.{tabledOf, nodeRefusalOf, nodePlaceOf, nodeTextOf};
 
 // The answer to questions 1 to 7, and the table: no nodes where refused.
 pub struct Tabled {
     pub reply: Reply,
     pub table: NodeTable,
+}
+
+// Where a node's own text is: its first byte in the lent text and how many bytes, a byte each as in a row.
+pub enum Located {
+    Part { first: u8, length: u8 },
+    Refused(Refusal),
 }
 
 // The answer to questions 1 to 7, and the node table of an accepted text.
@@ -38,16 +45,31 @@ pub fn node_refusal(text: &[u8], c: u32, k: u32, x: u32) -> Reply
     refusal::ask_within(8, x as usize, 1, count)
 }
 
+// Where a node's own text is, as numbers, or the refusal: questions 1 to 8.
+pub fn node_place(text: &[u8], c: u32, k: u32, x: u32) -> Located
+    ensures { λ r. ⌜ r ≡ nodePlaceOf c k x (now (text .entry)) ⌝ }
+{
+    if let Reply::No(r) = node_refusal(text, c, k, x) {
+        return Located::Refused(r);
+    }
+    let table = rows::rows_of(text);
+    let i = x as usize - 1;
+    let first = table.firsts[i];
+    let length = table.lengths[i];
+    Located::Part { first, length }
+}
+
 // A node's own text as that part of the lent text, the empty part where refused.
 pub fn node_text(text: &[u8], c: u32, k: u32, x: u32) -> &[u8]
     ensures { λ r. ⌜ now r ≡ nodeTextOf c k x (now (text .entry)) ⌝ }
 {
-    if let Reply::No(r) = node_refusal(text, c, k, x) {
-        return &text[0..0];
+    let place = node_place(text, c, k, x);
+    match place {
+        Located::Part { first, length } => {
+            let start = first as usize;
+            let end = start + length as usize;
+            &text[start..end]
+        }
+        Located::Refused(_) => &text[0..0],
     }
-    let table = rows::rows_of(text);
-    let i = x as usize - 1;
-    let first = scan::wide(table.firsts[i]);
-    let end = first + scan::wide(table.lengths[i]);
-    &text[first..end]
 }

@@ -1,0 +1,89 @@
+/* Tuvenikar, the engine behind the Exercise key: the calls for C.
+ *
+ * An array is lent: a pointer to its first element, then how many elements, a size_t; NULL is fine where that is 0.
+ * A call reads what it is lent, writes only where it says so, and keeps nothing: there is no global state, no heap, and
+ * nothing to open or close. Threads may call at the same time, as long as nobody writes what is lent.
+ * Whatever the numbers and bytes are, a call has an answer to them; nothing needs to be checked before it.
+ *
+ * A formula's text is its bytes alone, with no 0 at the end. c is the number of channels, k the number of steps.
+ *
+ * An answer is one number: its low half says what (tuv_code), its high half the place or the value (tuv_value).
+ *
+ *     // "channel a is high for two samples or more, and after that channel b for one or more"
+ *     static const uint8_t text[] = {'(', '#', 'a', '>', '=', '2', ';', '#', 'b', '>', '=', '1', ')'};
+ *     uint64_t answer = tuv_evaluate(text, sizeof text, 2, 8, 0, 8, recording, 8);
+ *     switch (tuv_code(answer)) {
+ *     case TUV_YES: lamp(1); break;
+ *     case TUV_NO:  lamp(0); break;
+ *     default:      refused(tuv_code(answer), tuv_value(answer));   // without the second '=': 4 at 10
+ *     }
+ *
+ * Link libtuvenikar.a; of the firmware it needs memcpy and memset, and nothing else.
+ */
+#ifndef TUVENIKAR_H
+#define TUVENIKAR_H
+
+#include <stddef.h>
+#include <stdint.h>
+
+#ifdef __cplusplus
+extern "C" {
+#endif
+
+/* What an answer says: a tuv_refusal or a tuv_answer. */
+static inline uint32_t tuv_code(uint64_t answer) { return (uint32_t)(answer & 0xffffffffu); }
+
+/* Its place or value. */
+static inline uint32_t tuv_value(uint64_t answer) { return (uint32_t)(answer >> 32); }
+
+/* A refusal. A call asks its questions in this order, and the first that is answered with no gives its number and a place:
+ * a byte of the text or of the recording, counted from 0; 0 where the question names none. */
+enum tuv_refusal {
+    TUV_CHANNELS = 1,          /* Is c from 1 to 8? */
+    TUV_STEPS = 2,             /* Is k at most 32? */
+    TUV_TEXT_LENGTH = 3,       /* Is the text 1 to 255 bytes? */
+    TUV_GRAMMAR = 4,           /* Does it read by the grammar, channels a to h, length, n and nodes unbounded? Place: the least p such
+                                  that no formula begins with its first p + 1 bytes, or its length if it only ends early. */
+    TUV_LETTER = 5,            /* Is each letter among the first c? Place: the first that isn't. */
+    TUV_NUMBER = 6,            /* Is each n at most 32? Place: the first digit of the first that isn't. */
+    TUV_NODES = 7,             /* At most 64 nodes? Place: the first byte of the 65th. */
+    TUV_NODE = 8,              /* Is the node number from 1 to the node count? */
+    TUV_INTERVAL = 9,          /* Is i <= j <= k? */
+    TUV_RECORDING_LENGTH = 10, /* Has the recording k bytes? */
+    TUV_RECORDING = 11         /* Is each of its bytes below 2 to the power c? Place: the first that isn't. */
+};
+
+/* Any other answer. */
+enum tuv_answer {
+    TUV_NO = 64,       /* the formula does not hold; value 0 */
+    TUV_YES = 65,      /* it holds; value 0 */
+    TUV_NODE_TEXT = 71 /* where a node's own text is; value first byte + 256 * length */
+};
+
+/* Does the formula hold of a recording, on its instants i to j - 1? (0 and k: on the whole of it.)
+ * Lent:    the text; the recording, k bytes: byte t is instant t, its lowest bit channel a, the next b, and so on; 1 is high.
+ * Written: nothing.
+ * Answers: TUV_NO, TUV_YES, a refusal 1 to 7 or 9 to 11.
+ * Stack:   STACK-TO-MEASURE
+ */
+uint64_t tuv_evaluate(const uint8_t *text, size_t text_length, uint32_t c, uint32_t k, uint32_t i, uint32_t j,
+                      const uint8_t *recording, size_t recording_length);
+
+/* Which part of the text is a node's own? Nodes are numbered from 1, in the order of their first bytes.
+ * Lent:    the text.
+ * Written: nothing.
+ * Answers: TUV_NODE_TEXT, a refusal 1 to 8. The part begins at text + tuv_node_first(answer) and has
+ *          tuv_node_length(answer) bytes: for `((T;F)|#a>=12)`, c 2, k 32, node 2, `(T;F)`, these are 1 and 5.
+ * Stack:   STACK-TO-MEASURE
+ */
+uint64_t tuv_node_text(const uint8_t *text, size_t text_length, uint32_t c, uint32_t k, uint32_t node);
+
+/* The two numbers in the value of TUV_NODE_TEXT. */
+static inline uint32_t tuv_node_first(uint64_t answer) { return tuv_value(answer) % 256u; }
+static inline uint32_t tuv_node_length(uint64_t answer) { return tuv_value(answer) / 256u; }
+
+#ifdef __cplusplus
+}
+#endif
+
+#endif
