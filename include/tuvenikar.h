@@ -42,8 +42,9 @@ enum tuv_refusal {
     TUV_CHANNELS = 1,          /* Is c from 1 to 8? */
     TUV_STEPS = 2,             /* Is k at most 32? */
     TUV_TEXT_LENGTH = 3,       /* Is the text 1 to 255 bytes? */
-    TUV_GRAMMAR = 4,           /* Does it read by the grammar, channels a to h, length, n and nodes unbounded? Place: the least p such
-                                  that no formula begins with its first p + 1 bytes, or its length if it only ends early. */
+    TUV_GRAMMAR = 4,           /* Does it read by the grammar, channels a to h, length, n and nodes unbounded?
+                                  Place: the least p such that no grammatical text begins with its first p + 1 bytes,
+                                  or its length if it only ends early. */
     TUV_LETTER = 5,            /* Is each letter among the first c? Place: the first that isn't. */
     TUV_NUMBER = 6,            /* Is each n at most 32? Place: the first digit of the first that isn't. */
     TUV_NODES = 7,             /* At most 64 nodes? Place: the first byte of the 65th. */

@@ -6,7 +6,7 @@ use mathlib.Core.List.{List, [], _∷_, map}
 use Prim.Native.Nat.{ℕ, zero, suc, _+_, _-_, _≤_, _<_}
 use native.Mathlib.Omega.{arith}
 use lib.Dec.{leb}
-use lib.ListN.{length, getD, take, drop, length-map, List·getD-append}
+use lib.ListN.{length, getD, drop, length-map, List·getD-append}
 use lib.Seq.{take-all}
 use Rattle.refusal.specs.Asked.{question, asked}
 use Rattle.refusal.specs.declared.Refusal.{Refusal}

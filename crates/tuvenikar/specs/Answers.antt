@@ -1,5 +1,5 @@
--- What a call for C answers. Document 01: "When an answer is an enum, a definition gives this paper's number and values for each of
--- its cases, and the promises use that definition." A refusal goes by its question's number, any other answer by a number from 64 on.
+-- What a call for C answers. Document 01: "When an answer is an enum, a definition gives this paper's number and values for each
+-- of its cases, and the promises use that definition." A refusal goes by its question's number, other answers by numbers from 64 on.
 use Prim.Native.Nat.{ℕ, _+_, _*_, _^_}
 use Rattle.refusal.specs.declared.Refusal.{Refusal}
 use Rattle.nodes.specs.declared.Located.{Located}
