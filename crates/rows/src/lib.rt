@@ -38,7 +38,7 @@ pub struct NodeTable {
 }
 
 // The byte at a place, and 0 past the end.
-fn byte_at(text: &[u8], at: usize) -> u8
+pub fn byte_at(text: &[u8], at: usize) -> u8
     ensures { λ r. ⌜ r ≡ getD (now (text .entry)) at 0 ⌝ }
 {
     if at < text.len() { text[at] } else { 0 }

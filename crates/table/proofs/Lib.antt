@@ -1,3 +1,4 @@
 pub mod Fill
 pub mod Rows
 pub mod Chop
+pub mod Measure

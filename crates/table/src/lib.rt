@@ -1,7 +1,8 @@
 // The truth of a formula on every interval of k steps: an array by value, a row for each start, filled from its parts.
 use interval::Interval;
 ghost use mathlib.Core.Path.{_≡_};
-ghost use mathlib.Core.Bool.{Bool};
+ghost use mathlib.Core.Bool.{Bool, not};
+ghost use lib.Dec.{eqb};
 ghost use Prim.Native.Nat.{ℕ, suc, _+_, _-_, _≤_, _<_};
 ghost use lib.Bits.{bitOr};
 ghost use lib.ListN.{length, getD, replicate};
@@ -12,17 +13,24 @@ ghost use Rattle.meaning.specs.Meaning.{bit, bitAt, lasts, fills, chops};
 ghost use Rattle.word.specs.Word.{joined};
 ghost use Rattle.table.specs.Table.{TableOf, RowOf, startOf, joinedByte, unlessZero, measured};
 
-// No, everywhere.
-fn no_table() -> [u8; Interval::MAX_COUNT]
-    ensures { λ r. ⌜ r ≡ replicate maxCount 0 ⌝ }
+// The same byte at every place.
+fn all_of(b: u8) -> [u8; Interval::MAX_COUNT]
+    ensures { λ r. ⌜ r ≡ replicate maxCount b ⌝ }
 {
-    [0; Interval::MAX_COUNT]
+    [b; Interval::MAX_COUNT]
 }
 
 fn byte_of(yes: bool) -> u8
     ensures { λ r. ⌜ r ≡ bit yes ⌝ }
 {
     if yes { 1 } else { 0 }
+}
+
+// The table of `F`, of kind 0, or of `T`.
+pub fn constant_table(kind: u8) -> [u8; Interval::MAX_COUNT]
+    ensures { λ r. ⌜ ((k : ℕ) → k ≤ maxSteps → TableOf k (λ v. not (eqb kind 0)) r) ⌝ }
+{
+    all_of(byte_of(kind != 0))
 }
 
 // `#S>=n` on [i, j], from the word of S.
@@ -67,7 +75,7 @@ pub fn measured_table(kind: u8, n: u8, word: u32, k: usize) -> [u8; Interval::MA
     requires { ⌜ k ≤ maxSteps ⌝ }
     ensures { λ r. ⌜ TableOf k (measured kind n (bitAt word)) r ⌝ }
 {
-    let mut t = no_table();
+    let mut t = all_of(0);
     let mut start = 0;
     for i in 0..k + 1 {
         let end = start + (k + 1 - i);
@@ -97,7 +105,7 @@ pub fn joined_table(
     requires { ⌜ k ≤ maxSteps ⌝ }
     ensures { λ r. ⌜ ((f g : Interval → Bool) → TableOf k f (now (p .entry)) → TableOf k g (now (q .entry)) → TableOf k (λ v. joined kind (f v) (g v)) r) ⌝ }
 {
-    let mut t = no_table();
+    let mut t = all_of(0);
     for x in 0..Interval::count(k) {
         t[x] = joined_byte(kind, p[x], q[x]);
     }
@@ -140,7 +148,7 @@ pub fn chop_table(
     requires { ⌜ k ≤ maxSteps ⌝ }
     ensures { λ r. ⌜ ((f g : Interval → Bool) → TableOf k f (now (p .entry)) → TableOf k g (now (q .entry)) → TableOf k (chops f g) r) ⌝ }
 {
-    let mut t = no_table();
+    let mut t = all_of(0);
     let mut start = 0;
     for i in 0..k + 1 {
         let end = start + (k + 1 - i);

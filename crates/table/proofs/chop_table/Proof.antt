@@ -21,15 +21,15 @@ Inv-loop p q k t₀ start₀ i₀ i-end t start i = (i-end ≡ suc k) × Filled 
 abbrev μ-loop : tie.MeasureT-loop
 μ-loop p q k t₀ start₀ i₀ i-end t start i = suc k - i
 
-no-table-requires : tie.Need-no-table-requires Inv-loop μ-loop
-no-table-requires c κs = search needs
+all-of-requires : tie.Need-all-of-requires Inv-loop μ-loop
+all-of-requires c κs = search needs
 
 add-i-end : tie.Need-add-i-end Inv-loop μ-loop
 add-i-end c = search needs
 
 loop-holds : tie.Need-loop-holds Inv-loop μ-loop
 unfolding countOf
-loop-holds c = (omega arith, filled-begun maxCount _ _ (count-le maxSteps _ (c .before .pre)) (c .no-table .ensures), λ f g P Q. record { at = λ v o h. omega arith })
+loop-holds c = (omega arith, filled-begun maxCount _ _ (count-le maxSteps _ (c .before .pre)) (c .all-of .ensures), λ f g P Q. record { at = λ v o h. omega arith })
 
 add-end : tie.Need-add-end Inv-loop μ-loop
 add-end c = search needs
@@ -79,7 +79,7 @@ chop-table-spec =
     (tie.spec
     Inv-loop
     μ-loop
-    no-table-requires
+    all-of-requires
     add-i-end
     loop-holds
     add-end

@@ -18,15 +18,15 @@ Inv-loop kind p q k t₀ x₀ x-end t x = (x-end ≡ countOf k) × (x ≤ countO
 abbrev μ-loop : tie.MeasureT-loop
 μ-loop kind p q k t₀ x₀ x-end t x = countOf k - x
 
-no-table-requires : tie.Need-no-table-requires Inv-loop μ-loop
-no-table-requires c κs = search needs
+all-of-requires : tie.Need-all-of-requires Inv-loop μ-loop
+all-of-requires c κs = search needs
 
 count-requires : tie.Need-count-requires Inv-loop μ-loop
 count-requires c κs = search needs
 
 loop-holds : tie.Need-loop-holds Inv-loop μ-loop
 unfolding countOf
-loop-holds c = (c .count .ensures .0, omega arith, omega (arith, c .count .ensures), begun _ _ _ _ (ap length (c .before .no-table .ensures)) (λ y. refl))
+loop-holds c = (c .count .ensures .0, omega arith, omega (arith, c .count .ensures), begun _ _ _ _ (ap length (c .before .all-of .ensures)) (λ y. refl))
 
 element-copy-out-joined-byte : tie.Need-element-copy-out-joined-byte Inv-loop μ-loop
 element-copy-out-joined-byte c = search needs
@@ -59,7 +59,7 @@ joined-table-spec =
     (tie.spec
     Inv-loop
     μ-loop
-    no-table-requires
+    all-of-requires
     count-requires
     loop-holds
     element-copy-out-joined-byte

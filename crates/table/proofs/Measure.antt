@@ -1,0 +1,39 @@
+-- A duration and `[S]` look at no instant beyond the interval, so a word of S measures as S does:
+-- the count of its ones under the window is how many instants are high.
+use mathlib.Core.Path.{_≡_, sym, ap, ap₂, _∙_}
+use mathlib.Core.Bool.{Bool, cond}
+use mathlib.Core.List.{List}
+use Prim.Native.Nat.{ℕ, _-_, _≤_}
+use native.Mathlib.Omega.{arith}
+use lib.Dec.{eqb, leb}
+use lib.ListN.{getD, replicate, getD-replicate}
+use Rattle.interval.specs.Limits.{maxSteps, maxCount, IntervalOf}
+use Rattle.interval.specs.Places.{countOf, placeOf}
+use Rattle.interval.specs.declared.Interval.{Interval}
+use Rattle.interval.proofs.Counts.{count-le}
+use Rattle.interval.proofs.Laws.{intervals-numbered}
+use Rattle.meaning.specs.Meaning.{bit, bitAt, lasts, fills}
+use Rattle.meaning.proofs.Laws.{every-highs}
+use Rattle.word.specs.Word.{WordOf}
+use Rattle.word.proofs.Words.{word-highs}
+use Rattle.table.specs.Table.{TableOf, measured}
+
+module _ (k w : ℕ) (f : ℕ → Bool) (W : WordOf k f w) (v : Interval) (o : IntervalOf k v) where
+  lasts-word : (n : ℕ) → lasts n (bitAt w) v ≡ lasts n f v
+  unfolding lasts
+  lasts-word n = ap (leb n) (word-highs (v .i) (v .j - v .i) W (omega arith))
+
+  fills-word : fills (bitAt w) v ≡ fills f v
+  unfolding fills
+  fills-word =
+      every-highs (bitAt w) (v .i) (v .j - v .i) ∙ ap (leb (v .j - v .i)) (word-highs (v .i) (v .j - v .i) W (omega arith)) ∙ sym (every-highs f (v .i) (v .j - v .i))
+
+pub measured-word : (k kind n w : ℕ) (f : ℕ → Bool) (t : List ℕ) → WordOf k f w → TableOf k (measured kind n (bitAt w)) t → TableOf k (measured kind n f) t
+measured-word k kind n w f t W T = record { at = λ v o. T .at v o ∙ ap bit (ap₂ (cond (eqb kind 8)) (fills-word k w f W v o) (lasts-word k w f W v o n)) }
+
+-- the same truth at every place
+pub constant-places : (k b : ℕ) (v : Bool) (t : List ℕ) → k ≤ maxSteps → b ≡ bit v → t ≡ replicate maxCount b → TableOf k (λ i. v) t
+unfolding countOf
+constant-places k b v t h e r = record {
+  at = λ i o. ap (λ (t : List ℕ). getD t (placeOf k i) 0) r ∙ getD-replicate maxCount (placeOf k i) b 0 (omega (arith, intervals-numbered k .below i o, count-le maxSteps k h)) ∙ e;
+}
