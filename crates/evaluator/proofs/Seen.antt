@@ -1,6 +1,6 @@
 -- A node's kind tells which tree stands at its row, where the tree's parts stand, and how its truth comes from theirs:
 -- each kind belongs to one form of tree, and its row says the kind of the tree that stands there.
-use mathlib.Core.Path.{_≡_, refl, sym, ap, ap₂, _∙_, subst}
+use mathlib.Core.Path.{_≡_, refl, sym, ap, ap₂, subst}
 use mathlib.Core.Bool.{Bool, true, false, not}
 use mathlib.Core.List.{List}
 use Prim.Native.Nat.{ℕ, _+_, _-_, _≤_, _<_}
@@ -11,10 +11,10 @@ use Rattle.grammar.specs.Trees.{Link, and, or, chop, Tree, constant, letter, ne
 use Rattle.grammar.specs.declared.Sort.{Sort}
 use Rattle.grammar.specs.declared.Sort.the-variants.{State, Formula}
 use Rattle.rows.specs.Table.{sortCode, constantCode, linkCode}
-use Rattle.meaning.specs.Meaning.{channelAt, chops, Point, truth}
+use Rattle.meaning.specs.Meaning.{channelAt, Point, truth}
 use Rattle.word.specs.Word.{joined}
 use Rattle.table.specs.Table.{measured}
-use Rattle.evaluator.specs.Parts.{sizeOf, Stands}
+use Rattle.evaluator.specs.Parts.{Stands}
 
 constant-most : (v : Bool) → constantCode v ≤ 1
 constant-most true = omega arith

@@ -1,15 +1,13 @@
 -- One step of evaluating, whatever the depth that is left: what the code makes of a row is the truth of the tree that stands there,
 -- the parts' words and tables being theirs.
-use mathlib.Core.Path.{_≡_, refl, sym, ap, ap₂, _∙_, subst}
-use mathlib.Core.Path.{fun-ext}
-use mathlib.Core.Bool.{Bool, true, false, not}
+use mathlib.Core.Path.{_≡_, refl, sym, ap, ap₂, _∙_, subst, fun-ext}
+use mathlib.Core.Bool.{Bool, not}
 use mathlib.Core.List.{List}
 use Prim.Native.Nat.{ℕ, _+_, _-_, _%_, _≤_, _<_}
 use native.Mathlib.Nat.{mod-eq-of-lt, lt-of-not-le}
 use native.Mathlib.Omega.{arith}
 use lib.Dec.{eqb}
 use lib.ListN.{length, getD, List·getD-eq-default}
-use Rattle.interval.specs.Limits.{maxSteps}
 use Rattle.interval.specs.declared.Interval.{Interval}
 use Rattle.grammar.specs.Limits.{maxChannels}
 use Rattle.grammar.specs.Trees.{Link, and, or, chop, Tree, pair, Letters}
@@ -17,10 +15,10 @@ use Rattle.grammar.specs.declared.Sort.{Sort}
 use Rattle.grammar.specs.declared.Sort.the-variants.{State, Formula}
 use Rattle.rows.specs.Table.{sortCode, linkCode}
 use Rattle.meaning.specs.Meaning.{channelAt, chops, Point, truth}
-use Rattle.word.specs.Word.{WordOf, joined}
-use Rattle.table.specs.Table.{TableOf, measured}
+use Rattle.word.specs.Word.{joined}
+use Rattle.table.specs.Table.{measured}
 use Rattle.evaluator.specs.Parts.{Stands}
-use Rattle.evaluator.proofs.Seen.{PartAt, truthOf, constant-seen, negation-seen, PairSeen, Joins, pair-seen, letter-seen, measured-seen}
+use Rattle.evaluator.proofs.Seen.{constant-seen, negation-seen, Joins, pair-seen, letter-seen, measured-seen}
 
 joined-link : (recording : List ℕ) {s : Sort} (l : Link s) (x y : Tree s) → linkCode l < 5 → (p : Point s)
     → joined (linkCode l) (truth recording x p) (truth recording y p) ≡ truth recording (pair l x y) p

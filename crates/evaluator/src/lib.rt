@@ -4,6 +4,7 @@ use grammar::MAX_NODES;
 use interval::Interval;
 use refusal::Refusal;
 use refusal::Reply;
+use rows::NodeTable;
 ghost use mathlib.Core.Path.{_≡_};
 ghost use Prim.Native.Nat.{_+_, _≤_, _<_};
 ghost use lib.ListN.{length, getD};
@@ -15,7 +16,8 @@ ghost use Rattle.meaning.specs.Meaning.{stateAt, holds};
 ghost use Rattle.word.specs.Word.{WordOf};
 ghost use Rattle.table.specs.Table.{TableOf};
 ghost use Rattle.evaluator.specs.Parts.{Stands};
-ghost use Rattle.evaluator.specs.Evaluation.{askRecording, askBytes, evaluated};
+ghost use Rattle.evaluator.specs.Evaluation.{askRecording, askBytes, recordingQuestions, verdictOf, evaluated};
+ghost use Rattle.refusal.specs.Asked.{asked};
 
 // What evaluation answers.
 pub enum Verdict {
@@ -88,4 +90,78 @@ fn table_at<'a>(
         return table::chop_table(&p, &q, k);
     }
     table::joined_table(kind - 16, &p, &q, k)
+}
+
+// The formula's truth on [i, j], from its node table.
+fn holds_on(table: NodeTable, recording: &[u8], i: usize, j: usize) -> bool
+    requires { ⌜ (length (now recording) ≤ maxSteps) × (i ≤ j) × (j ≤ length (now recording)) ⌝ }
+    ensures { λ r. ⌜ ((f : Tree Formula) → Letters maxChannels f → Stands (table .kinds) (table .numbers) (table .sizes) 0 f → r ≡ holds (now (recording .entry)) f (record { i = i; j = j })) ⌝ }
+{
+    let t = table_at(&table.kinds, &table.numbers, &table.sizes, recording, 0);
+    let v = Interval { i, j };
+    t[v.place(recording.len())] == 1
+}
+
+// Question 10.
+fn ask_recording(k: u32, recording: &[u8]) -> Reply
+    ensures { λ r. ⌜ r ≡ askRecording k (now (recording .entry)) ⌝ }
+{
+    if recording.len() == k as usize {
+        return Reply::Yes;
+    }
+    Reply::No(Refusal {
+        number: 10,
+        place: 0,
+    })
+}
+
+// Question 11.
+fn ask_bytes(c: u32, recording: &[u8]) -> Reply
+    requires { ⌜ (c ≤ maxChannels) × (length (now recording) ≤ maxSteps) ⌝ }
+    ensures { λ r. ⌜ r ≡ askBytes c (now (recording .entry)) ⌝ }
+{
+    let above = 1usize << c;
+    for t in 0..recording.len() {
+        if scan::wide(recording[t]) >= above {
+            let place = t as u32;
+            return Reply::No(Refusal { number: 11, place });
+        }
+    }
+    Reply::Yes
+}
+
+// Questions 9 to 11.
+fn ask_recorded(c: u32, k: u32, i: u32, j: u32, recording: &[u8]) -> Reply
+    requires { ⌜ (c ≤ maxChannels) × (k ≤ maxSteps) ⌝ }
+    ensures { λ r. ⌜ r ≡ asked (recordingQuestions c k i j (now (recording .entry))) Reply.No Reply.Yes ⌝ }
+{
+    if let Reply::No(r) = Interval::ask_interval(i as usize, j as usize, k as usize) {
+        return Reply::No(r);
+    }
+    if let Reply::No(r) = ask_recording(k, recording) {
+        return Reply::No(r);
+    }
+    ask_bytes(c, recording)
+}
+
+fn verdict_of(yes: bool) -> Verdict
+    ensures { λ r. ⌜ r ≡ verdictOf yes ⌝ }
+{
+    if yes { Verdict::Yes } else { Verdict::No }
+}
+
+// Whether the recording satisfies the formula on [i, j].
+pub fn evaluate(text: &[u8], c: u32, k: u32, i: u32, j: u32, recording: &[u8]) -> Verdict
+    ensures { λ r. ⌜ r ≡ evaluated c k i j (now (text .entry)) (now (recording .entry)) ⌝ }
+{
+    let tabled = nodes::node_table(text, c, k);
+    let reply = tabled.reply;
+    if let Reply::No(r) = reply {
+        return Verdict::Refused(r);
+    }
+    if let Reply::No(r) = ask_recorded(c, k, i, j, recording) {
+        return Verdict::Refused(r);
+    }
+    let table = tabled.table;
+    verdict_of(holds_on(table, recording, i as usize, j as usize))
 }

@@ -39,7 +39,7 @@ pub record Accepted (C k : ℕ) (t : List ℕ) : Type 0 where
   pub nodes : length (nodesOf root 0) ≤ maxNodes
 
 -- each was answered with yes
-all-yes : (q : List Reply) → asked q No Yes ≡ Yes → All (λ r. r ≡ Yes) q
+pub all-yes : (q : List Reply) → asked q No Yes ≡ Yes → All (λ r. r ≡ Yes) q
 all-yes [] e = tt
 all-yes (Yes ∷ q) e = (refl, all-yes q e)
 all-yes (No p ∷ q) e = absurd (false≢true cc)

@@ -41,7 +41,7 @@ pub cond-elim : {A : Type 0} (P : A → Type 0) (c : Bool) {a b : A} → (c ≡ 
 cond-elim P true f g = f refl
 cond-elim P false f g = g refl
 
-both : (a b : Bool) → a && b ≡ true → (a ≡ true) × (b ≡ true)
+pub both : (a b : Bool) → a && b ≡ true → (a ≡ true) × (b ≡ true)
 both true b h = (refl, h)
 both false b h = absurd (false≢true h)
 

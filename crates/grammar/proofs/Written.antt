@@ -27,12 +27,12 @@ module _ {s : Sort} (x : Tree s) (q : List ℕ) where
   pub length-write : length (write x q) ≡ length (textOf x) + length q
   length-write = ap length write-text ∙ length-append (textOf x) q
 
-module _ (t : List ℕ) (at : ℕ) where
-  drop-front : (a q : List ℕ) → drop at t ≡ a ++ q → drop (at + length a) t ≡ q
-  drop-front a q e = sym (drop-drop (length a) at t) ∙ ap (drop (length a)) e ∙ drop-append-seam a q
+pub drop-front : {A : Type 0} (t : List A) (at : ℕ) (a q : List A) → drop at t ≡ a ++ q → drop (at + length a) t ≡ q
+drop-front t at a q e = sym (drop-drop (length a) at t) ∙ ap (drop (length a)) e ∙ drop-append-seam a q
 
+module _ (t : List ℕ) (at : ℕ) where
   pub drop-byte : (b : ℕ) (q : List ℕ) → drop at t ≡ b ∷ q → drop (suc at) t ≡ q
-  drop-byte b q e = rw (sym (add-one at)) (drop-front (b ∷ []) q e)
+  drop-byte b q e = rw (sym (add-one at)) (drop-front t at (b ∷ []) q e)
 
   pub drop-part : {s : Sort} (x : Tree s) (q : List ℕ) → drop at t ≡ write x q → drop (at + length (textOf x)) t ≡ q
-  drop-part x q e = drop-front (textOf x) q (e ∙ write-text x q)
+  drop-part x q e = drop-front t at (textOf x) q (e ∙ write-text x q)

@@ -1,14 +1,15 @@
 -- What the meanings say of instants and of m: each goes by induction on how many there are, and n of n instants are true exactly
 -- where every one is.
-use mathlib.Core.Path.{_≡_, refl, sym, ap, ap₂, _∙_, subst}
+use mathlib.Core.Path.{_≡_, refl, sym, ap, ap₂, _∙_}
 use mathlib.Core.Logic.{_↔_}
 use mathlib.Core.Bool.{Bool, true, false, _&&_, _||_, false≢true}
 use Prim.Native.Nat.{ℕ, zero, suc, _+_, _-_, _≤_, _<_}
 use native.Mathlib.Omega.{arith}
 use lib.Dec.{leb, ltb}
 use borrow.Author.Tests.{le-leb, lt-leb, leb-true, leb-false, ltb-true, ltb-false}
+use Rattle.grammar.proofs.Bytes.{both}
 use Rattle.interval.specs.declared.Interval.{Interval}
-use Rattle.meaning.specs.Meaning.{bit, highs, every, some, fills, chops}
+use Rattle.meaning.specs.Meaning.{bit, highs, every, some, chops}
 
 module _ (f : ℕ → Bool) (i : ℕ) where
   pub highs-le : (n : ℕ) → highs f i n ≤ n
@@ -71,12 +72,8 @@ pub chop-some : (f g : Interval → Bool) (v : Interval) → v .i ≤ v .j
     → (chops f g v ≡ true) ↔ ((m : ℕ) × (v .i ≤ m) × (m ≤ v .j) × (f (record { i = v .i; j = m }) ≡ true) × (g (record { i = m; j = v .j }) ≡ true))
 unfolding chops
 chop-some f g v h =
-    let both : ℕ → Bool = λ m. f (record { i = v .i; j = m }) && g (record { i = m; j = v .j }) in
-    let w = some-one both (v .i) (suc (v .j) - v .i) in (
-      λ e. let o = w .0 e in let t = and-true (f (record { i = v .i; j = o .0 })) (g (record { i = o .0; j = v .j })) (o .3) in (o .0, o .1, omega (arith, o .2), t .0, t .1),
+    let serves : ℕ → Bool = λ m. f (record { i = v .i; j = m }) && g (record { i = m; j = v .j }) in
+    let w = some-one serves (v .i) (suc (v .j) - v .i) in (
+      λ e. let o = w .0 e in let t = both (f (record { i = v .i; j = o .0 })) (g (record { i = o .0; j = v .j })) (o .3) in (o .0, o .1, omega (arith, o .2), t .0, t .1),
       λ o. w .1 (o .0, o .1, omega (arith, o .2), ap₂ _&&_ (o .3) (o .4)),
     )
-  where
-    and-true : (a b : Bool) → (a && b) ≡ true → (a ≡ true) × (b ≡ true)
-    and-true true b e = (refl, e)
-    and-true false b e = absurd (false≢true e)

@@ -95,7 +95,7 @@ entry-after f (v ∷ l) m zero w e = let h : v ≡ w = cc in (omega arith, ap f 
 entry-after f (v ∷ l) m (suc i) w e = let g = entry-after f l m i w e in (omega (arith, g .0), g .1)
 
 -- a field of its row
-field-after : (g : Row → ℕ) (l m : List Node) (i : ℕ) (w : Node) → drop i l ≡ w ∷ m → getD (padded (map g (map rowOf l))) i 0 ≡ g (rowOf w)
+pub field-after : (g : Row → ℕ) (l m : List Node) (i : ℕ) (w : Node) → drop i l ≡ w ∷ m → getD (padded (map g (map rowOf l))) i 0 ≡ g (rowOf w)
 field-after g l m i w e =
     let h = entry-after (λ (w : Node). g (rowOf w)) l m i w e in
     let n : map g (map rowOf l) ≡ map (λ (w : Node). g (rowOf w)) l = map-map l in

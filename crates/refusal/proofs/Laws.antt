@@ -50,3 +50,10 @@ module _ {A : Type 0} (refused : Refusal → A) (answer : A) where
   replied-no [] r e = absurd (false≢true cc)
   replied-no (Yes ∷ q) r e = replied-no q r e
   replied-no (No p ∷ q) r e = let h : p ≡ r = cc in ap refused h
+
+-- what is made of a call's answer is made of each way that it ends
+pub asked-map : {A B : Type 0} (f : A → B) (refused : Refusal → A) (answer : A) (questions : List Reply)
+    → f (asked questions refused answer) ≡ asked questions (λ r. f (refused r)) (f answer)
+asked-map f refused answer [] = refl
+asked-map f refused answer (Yes ∷ q) = asked-map f refused answer q
+asked-map f refused answer (No r ∷ q) = refl

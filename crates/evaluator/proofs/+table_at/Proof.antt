@@ -1,5 +1,7 @@
+-- `table_at` gives, for every tree that stands at the row, the table of its truth: by kind, from the tables or the word of the parts
+-- (Steps.antt). It ends, since a node with parts stands in the table and its parts stand after it.
 use mathlib.Core.Path.{sym, refl, _∙_}
-use Prim.Native.Nat.{_-_, _%_}
+use Prim.Native.Nat.{_-_, _%_, ℕ, _<_}
 use lib.ListN.{length}
 use native.Mathlib.Numerals.{lt-of-le-of-ne}
 use Rattle.grammar.specs.Limits.{maxNodes, maxChannels}
@@ -11,7 +13,6 @@ use Rattle.evaluator.proofs.Seen.{link-most, formula-seen}
 use Rattle.evaluator.proofs.Steps.{constant-step, negation-step, pair-step, measured-step, chop-step, within}
 use borrow.Author.Needs.{needs}
 use native.Mathlib.Omega.{arith}
-use Prim.Native.Nat.{ℕ, _<_}
 use borrow.Fn.Kinds.{In}
 use borrow.Fn.PlainCycle.{Measures, is, falls, and}
 use Rattle.evaluator.proofs.table_at.Reads as table-at

@@ -1,5 +1,7 @@
+-- `word_at` gives, for every tree that stands at the row, the word of its truth: by kind, from the words of the parts (Steps.antt).
+-- It ends, since a node with parts stands in the table and its parts stand after it.
 use mathlib.Core.Path.{sym, _∙_}
-use Prim.Native.Nat.{_-_}
+use Prim.Native.Nat.{_-_, ℕ, _<_}
 use lib.ListN.{length}
 use native.Mathlib.Nat.{mod-lt}
 use native.Mathlib.Numerals.{lt-of-le-of-ne}
@@ -9,7 +11,6 @@ use Rattle.word.specs.Word.{WordOf}
 use Rattle.evaluator.proofs.Steps.{constant-step, negation-step, pair-step, letter-step, state-link, within}
 use borrow.Author.Needs.{needs}
 use native.Mathlib.Omega.{arith}
-use Prim.Native.Nat.{ℕ, _<_}
 use borrow.Fn.Kinds.{In}
 use borrow.Fn.PlainCycle.{Measures, is, falls, and}
 use Rattle.evaluator.proofs.word_at.Reads as word-at
