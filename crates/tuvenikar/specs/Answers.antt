@@ -2,8 +2,10 @@
 -- of its cases, and the promises use that definition." A refusal goes by its question's number, other answers by numbers from 64 on.
 use Prim.Native.Nat.{ℕ, _+_, _*_, _^_}
 use Rattle.refusal.specs.declared.Refusal.{Refusal}
+use Rattle.evaluator.specs.declared.Verdict.{Verdict}
+use Rattle.evaluator.specs.declared.Verdict.the-variants as verdict
 use Rattle.nodes.specs.declared.Located.{Located}
-use Rattle.nodes.specs.declared.Located.the-variants.{Part, Refused}
+use Rattle.nodes.specs.declared.Located.the-variants as located
 
 -- one number of 64 bits: its low half says what, its high half the place or the value
 abbrev pub packed : ℕ → ℕ → ℕ
@@ -13,7 +15,13 @@ packed code value = code + 2 ^ 32 * value
 abbrev pub packRefusal : Refusal → ℕ
 packRefusal r = packed (r .number) (r .place)
 
+-- evaluation: 64 for no and 65 for yes
+unfoldable pub packVerdict : Verdict → ℕ
+packVerdict verdict.No = packed 64 0
+packVerdict verdict.Yes = packed 65 0
+packVerdict (verdict.Refused r) = packRefusal r
+
 -- a node's own text: 71, and its first byte + 256 · its length
 unfoldable pub packLocated : Located → ℕ
-packLocated (Part first length) = packed 71 (first + 256 * length)
-packLocated (Refused r) = packRefusal r
+packLocated (located.Part first length) = packed 71 (first + 256 * length)
+packLocated (located.Refused r) = packRefusal r

@@ -1,9 +1,11 @@
 // The calls for C, on numbers and slices. Each answers with one number: its low half says what, its high half the place or the
 // value; include/tuvenikar.h has the same for C.
+use evaluator::Verdict;
 use nodes::Located;
 ghost use mathlib.Core.Path.{_≡_};
+ghost use Rattle.evaluator.specs.Evaluation.{evaluated};
 ghost use Rattle.nodes.specs.Calls.{nodePlaceOf};
-ghost use Rattle.tuvenikar.specs.Answers.{packed, packLocated};
+ghost use Rattle.tuvenikar.specs.Answers.{packed, packVerdict, packLocated};
 
 // What, and the place or the value above it.
 fn pack(code: u32, value: u32) -> u64
@@ -20,6 +22,25 @@ fn pack_located(a: Located) -> u64
         Located::Part { first, length } => pack(71, first as u32 + 256 * (length as u32)),
         Located::Refused(r) => pack(r.number, r.place),
     }
+}
+
+// No or yes, or the refusal's number and place.
+fn pack_verdict(a: Verdict) -> u64
+    ensures { λ r. ⌜ r ≡ packVerdict a ⌝ }
+{
+    match a {
+        Verdict::No => pack(64, 0),
+        Verdict::Yes => pack(65, 0),
+        Verdict::Refused(r) => pack(r.number, r.place),
+    }
+}
+
+// Whether the recording satisfies the formula on [i, j]: questions 1 to 7 and 9 to 11.
+#[no_mangle]
+pub extern "C" fn tuv_evaluate(text: &[u8], c: u32, k: u32, i: u32, j: u32, recording: &[u8]) -> u64
+    ensures { λ r. ⌜ r ≡ packVerdict (evaluated c k i j (now (text .entry)) (now (recording .entry))) ⌝ }
+{
+    pack_verdict(evaluator::evaluate(text, c, k, i, j, recording))
 }
 
 // Where a node's own text is in the lent text: questions 1 to 8.

@@ -1,0 +1,51 @@
+-- Each case packs the numbers that the definition gives it:
+-- the match tells which case it is.
+use Rattle.tuvenikar.specs.Answers.{packVerdict}
+use mathlib.Core.Path.{sym, ap, _∙_}
+use borrow.Author.Needs.{needs}
+use Rattle.tuvenikar.proofs.pack_verdict.Statement.{statement}
+use Rattle.tuvenikar.proofs.pack_verdict.Tie as tie
+
+enum-told : tie.Need-enum-told
+enum-told c = search needs
+
+pack-requires : tie.Need-pack-requires
+pack-requires c κs = search needs
+
+enum-told-2 : tie.Need-enum-told-2
+enum-told-2 c = search needs
+
+pack-requires-2 : tie.Need-pack-requires-2
+pack-requires-2 c κs = search needs
+
+enum-known-a : tie.Need-enum-known-a
+enum-known-a c = search needs
+
+pack-requires-3 : tie.Need-pack-requires-3
+pack-requires-3 c κs = search needs
+
+returns : tie.Need-returns
+unfolding packVerdict
+returns c = c .pack .ensures ∙ sym (ap packVerdict (c .before .enum-told .given .1))
+
+returns-2 : tie.Need-returns-2
+unfolding packVerdict
+returns-2 c = c .pack2 .ensures ∙ sym (ap packVerdict (c .before .enum-told2 .given .1))
+
+returns-3 : tie.Need-returns-3
+unfolding packVerdict
+returns-3 c = c .pack3 .ensures ∙ sym (ap packVerdict (c .before .before .a .given .1))
+
+pub pack-verdict-spec : {M : Type 1} → statement M
+pack-verdict-spec =
+    tie.close
+    (tie.spec
+    enum-told
+    pack-requires
+    enum-told-2
+    pack-requires-2
+    enum-known-a
+    pack-requires-3
+    returns
+    returns-2
+    returns-3)
