@@ -1,0 +1,383 @@
+//! Random cases, drawn from a seed: each family is a way to draw a few cases that belong together.
+
+use std::fmt;
+
+/// One call with all that is lent to it.
+pub struct Case {
+    pub text: Vec<u8>,
+    pub c: u32,
+    pub k: u32,
+    pub call: Call,
+}
+
+pub enum Call {
+    Evaluate { i: u32, j: u32, recording: Vec<u8> },
+    NodeText { node: u32 },
+}
+
+impl fmt::Display for Case {
+    fn fmt(&self, f: &mut fmt::Formatter) -> fmt::Result {
+        let Case { text, c, k, call } = self;
+        write!(f, "text '{}' ({} bytes), C {c}, k {k}, ", text.escape_ascii(), text.len())?;
+        match call {
+            Call::Evaluate { i, j, recording } => {
+                write!(f, "[{i}, {j}], recording {recording:02x?}")
+            }
+            Call::NodeText { node } => write!(f, "node {node}"),
+        }
+    }
+}
+
+pub struct Family {
+    pub name: &'static str,
+    pub cases: usize,
+    pub draw: fn(&mut Dice) -> Vec<Case>,
+}
+
+/// The family whose formulas have chops in both parts of a chop.
+pub const DEEP: &str = "chops within both parts of chops";
+
+pub const FAMILIES: [Family; 7] = [
+    Family { name: "every interval of short recordings", cases: 120_000, draw: every_interval },
+    Family { name: DEEP, cases: 40_000, draw: deep_chops },
+    Family { name: "every node's text", cases: 60_000, draw: every_node },
+    Family { name: "texts near the limits", cases: 40_000, draw: near_limits },
+    Family { name: "damaged texts", cases: 60_000, draw: damaged_texts },
+    Family { name: "random bytes as text", cases: 40_000, draw: random_bytes },
+    Family { name: "odd numbers and recordings", cases: 60_000, draw: odd_arguments },
+];
+
+/// splitmix64: a few lines, and the same on every machine.
+pub struct Dice(u64);
+
+impl Dice {
+    /// The dice of one draw, so that a draw does not depend on the ones before it.
+    pub fn new(seed: u64, family: usize, draw: u64) -> Self {
+        Dice(Dice(seed).next() ^ (family as u64) << 56 ^ draw)
+    }
+
+    fn next(&mut self) -> u64 {
+        self.0 = self.0.wrapping_add(0x9e37_79b9_7f4a_7c15);
+        let x = (self.0 ^ self.0 >> 30).wrapping_mul(0xbf58_476d_1ce4_e5b9);
+        let x = (x ^ x >> 27).wrapping_mul(0x94d0_49bb_1331_11eb);
+        x ^ x >> 31
+    }
+
+    /// From low to high, both included.
+    fn from(&mut self, low: usize, high: usize) -> usize {
+        low + (self.next() % (high - low + 1) as u64) as usize
+    }
+
+    fn one_in(&mut self, n: usize) -> bool {
+        self.from(1, n) == 1
+    }
+
+    fn pick<T: Copy>(&mut self, from: &[T]) -> T {
+        from[self.from(0, from.len() - 1)]
+    }
+}
+
+const SIGNS: &[u8] = b"abhiTF!((((&|;))))###>=[[]]0123 ";
+const ODD_NUMBERS: [u32; 18] = [0, 1, 2, 7, 8, 9, 31, 32, 33, 34, 63, 65, 255, 256, 257, 65_537, u32::MAX - 31, u32::MAX];
+/// Among them some that are small modulo 2^8, 2^32 or 2^64.
+#[rustfmt::skip]
+const ODD_DIGITS: [&str; 16] = [
+    "", "00", "01", "032", "31", "32", "33", "34", "99", "100", "256", "288",
+    "4294967296", "4294967328", "18446744073709551616", "18446744073709551648",
+];
+
+// Texts
+
+/// Writes formulas for C and k with a wished number of nodes; a bold one goes to the limits and over.
+struct Author<'a> {
+    dice: &'a mut Dice,
+    c: u32,
+    k: u32,
+    bold: bool,
+    text: Vec<u8>,
+}
+
+impl<'a> Author<'a> {
+    fn new(dice: &'a mut Dice, c: u32, k: u32) -> Self {
+        Author { dice, c, k, bold: false, text: Vec::new() }
+    }
+
+    fn put(&mut self, bytes: &[u8]) {
+        self.text.extend_from_slice(bytes);
+    }
+
+    /// `(P&P)` and the like, given how to write a part.
+    fn two(&mut self, nodes: usize, signs: &[u8], part: fn(&mut Self, usize)) {
+        let left = self.dice.from(1, nodes - 2);
+        self.put(b"(");
+        part(self, left);
+        let sign = self.dice.pick(signs);
+        self.put(&[sign]);
+        part(self, nodes - 1 - left);
+        self.put(b")");
+    }
+
+    fn state(&mut self, nodes: usize) {
+        match nodes {
+            1 if self.dice.one_in(10) => {
+                let constant = self.dice.pick(b"TF");
+                self.put(&[constant]);
+            }
+            1 => {
+                let channels = if self.bold && self.dice.one_in(50) { 9 } else { self.c as usize };
+                let letter = b'a' + self.dice.from(0, channels - 1) as u8;
+                self.put(&[letter]);
+            }
+            _ if nodes == 2 || self.dice.one_in(4) => {
+                self.put(b"!");
+                self.state(nodes - 1);
+            }
+            _ => self.two(nodes, b"&|", Self::state),
+        }
+    }
+
+    fn formula(&mut self, nodes: usize) {
+        // Large state assertions are rare, since chops are what is wanted.
+        let kind = match nodes {
+            1 => b'T',
+            2 => self.dice.pick(b"####[[!"),
+            3..=5 => self.dice.pick(b"##[!;;&|"),
+            _ if self.dice.one_in(40) => self.dice.pick(b"#["),
+            _ => self.dice.pick(b"!;;;;;&|"),
+        };
+        match kind {
+            b'T' => {
+                let constant = self.dice.pick(b"TF");
+                self.put(&[constant]);
+            }
+            b'!' => {
+                self.put(b"!");
+                self.formula(nodes - 1);
+            }
+            b'#' => {
+                self.put(b"#");
+                self.state(nodes - 1);
+                self.put(b">=");
+                self.number();
+            }
+            b'[' => {
+                self.put(b"[");
+                self.state(nodes - 1);
+                self.put(b"]");
+            }
+            sign => self.two(nodes, &[sign], Self::formula),
+        }
+    }
+
+    fn number(&mut self) {
+        if self.bold && self.dice.one_in(8) {
+            let digits = self.dice.pick(&ODD_DIGITS);
+            return self.put(digits.as_bytes());
+        }
+        // Small ones more often: they are met by some intervals and not by others.
+        let high = self.k.min(31) as usize + 1;
+        let high = self.dice.from(0, high);
+        let n = self.dice.from(0, high);
+        self.put(n.to_string().as_bytes());
+    }
+
+    /// Chops in both parts, to a depth, with something around or beside them now and then.
+    fn chops(&mut self, depth: usize) {
+        if depth == 0 {
+            let nodes = self.dice.from(2, 4);
+            return self.formula(nodes);
+        }
+        let beside = self.dice.one_in(5);
+        if self.dice.one_in(4) {
+            self.put(b"!");
+        }
+        if beside {
+            self.put(b"(");
+        }
+        self.put(b"(");
+        self.chops(depth - 1);
+        self.put(b";");
+        self.chops(depth - 1);
+        self.put(b")");
+        if beside {
+            let sign = self.dice.pick(b"&|");
+            self.put(&[sign]);
+            self.formula(2);
+            self.put(b")");
+        }
+    }
+}
+
+fn formula(dice: &mut Dice, c: u32, k: u32, nodes: usize) -> Vec<u8> {
+    let mut author = Author::new(dice, c, k);
+    author.formula(nodes);
+    author.text
+}
+
+fn damage(dice: &mut Dice, text: &mut Vec<u8>) {
+    if text.is_empty() {
+        return;
+    }
+    let at = dice.from(0, text.len() - 1);
+    let sign = dice.pick(SIGNS);
+    match dice.from(1, 7) {
+        1 => text[at] = sign,
+        2 => text[at] ^= 1 << dice.from(0, 7),
+        3 => text.insert(at, sign),
+        4 => text.push(sign),
+        5 => text.insert(at, text[at]),
+        6 => text.truncate(at),
+        _ => {
+            text.remove(at);
+        }
+    }
+}
+
+// What is lent beside the text
+
+fn channels(dice: &mut Dice) -> u32 {
+    dice.pick(&[1, 1, 2, 2, 3, 4, 5, 6, 7, 8])
+}
+
+/// Bytes below 2^C, seldom or often changing, so that `[S]` holds of long and of short intervals.
+fn recording(dice: &mut Dice, c: u32, k: u32) -> Vec<u8> {
+    let stay = dice.from(1, 4);
+    let mut byte = 0;
+    let mut draw = |_| {
+        if dice.one_in(stay) {
+            byte = dice.from(0, (1 << c) - 1) as u8;
+        }
+        byte
+    };
+    (0..k).map(&mut draw).collect()
+}
+
+fn interval(dice: &mut Dice, k: u32) -> (u32, u32) {
+    let j = dice.from(0, k as usize);
+    (dice.from(0, j) as u32, j as u32)
+}
+
+/// Both calls on a text that is more likely refused than not.
+fn both_calls(dice: &mut Dice, text: Vec<u8>, c: u32, k: u32) -> Vec<Case> {
+    let (i, j) = interval(dice, k);
+    let recording = recording(dice, c, k);
+    let node = dice.from(0, 5) as u32;
+    let node_text = Case { text: text.clone(), c, k, call: Call::NodeText { node } };
+    vec![node_text, Case { text, c, k, call: Call::Evaluate { i, j, recording } }]
+}
+
+// Families
+
+/// One formula on several intervals of one recording.
+fn evaluations(text: &[u8], c: u32, recording: &[u8], ends: impl IntoIterator<Item = (u32, u32)>) -> Vec<Case> {
+    let evaluation = |(i, j)| {
+        let call = Call::Evaluate { i, j, recording: recording.to_vec() };
+        Case { text: text.to_vec(), c, k: recording.len() as u32, call }
+    };
+    ends.into_iter().map(evaluation).collect()
+}
+
+fn every_interval(dice: &mut Dice) -> Vec<Case> {
+    let (c, k) = (channels(dice), dice.from(0, 6) as u32);
+    let nodes = dice.from(1, 24);
+    let text = formula(dice, c, k, nodes);
+    let ends = (0..=k).flat_map(|j| (0..=j).map(move |i| (i, j)));
+    let no_intervals = [(1, 0), (k + 1, k), (k + 1, k + 1)];
+    evaluations(&text, c, &recording(dice, c, k), ends.chain(no_intervals))
+}
+
+fn deep_chops(dice: &mut Dice) -> Vec<Case> {
+    let (c, most) = (channels(dice), dice.pick(&[4, 8, 16, 32]));
+    let k = dice.from(0, most) as u32;
+    // The numbers are drawn for a part of the recording, so that a chop of many can be met.
+    let mut author = Author::new(dice, c, k / 4 + 1);
+    let depth = author.dice.from(2, 3);
+    author.chops(depth);
+    let text = author.text;
+    let ends = [(0, k), interval(dice, k), interval(dice, k), interval(dice, k)];
+    evaluations(&text, c, &recording(dice, c, k), ends)
+}
+
+fn every_node(dice: &mut Dice) -> Vec<Case> {
+    let (c, k) = (channels(dice), dice.from(0, 32) as u32);
+    let nodes = dice.from(1, 64);
+    let text = formula(dice, c, k, nodes);
+    let odd = dice.pick(&ODD_NUMBERS);
+    (0..=nodes as u32 + 1)
+        .chain([odd, u32::MAX])
+        .map(|node| Case { text: text.clone(), c, k, call: Call::NodeText { node } })
+        .collect()
+}
+
+fn near_limits(dice: &mut Dice) -> Vec<Case> {
+    let (c, k) = (channels(dice), dice.from(0, 32) as u32);
+    let mut author = Author::new(dice, c, k);
+    author.bold = author.dice.one_in(2);
+    let nodes = if author.dice.one_in(3) { author.dice.from(1, 20) } else { author.dice.from(60, 68) };
+    author.formula(nodes);
+    let mut text = author.text;
+    // To an exact length, by a number or by nodes: no text of 64 nodes and small numbers is so long.
+    let more = dice.pick(&[100, 253, 254, 255, 256, 257, 300, 511, 512, 513]) - text.len() as isize;
+    if more > 8 && dice.one_in(2) {
+        let digits = "1".repeat(more as usize - 7);
+        text = [b"(", &text[..], b"&#a>=", digits.as_bytes(), b")"].concat();
+    } else if more > 0 && dice.one_in(2) {
+        text.splice(0..0, vec![b'!'; more as usize]);
+    }
+    both_calls(dice, text, c, k)
+}
+
+fn damaged_texts(dice: &mut Dice) -> Vec<Case> {
+    let (c, k) = (channels(dice), dice.from(0, 8) as u32);
+    let nodes = dice.from(1, 30);
+    let mut text = formula(dice, c, k, nodes);
+    for _ in 0..dice.from(1, 3) {
+        damage(dice, &mut text);
+    }
+    both_calls(dice, text, c, k)
+}
+
+fn random_bytes(dice: &mut Dice) -> Vec<Case> {
+    let (c, k) = (channels(dice), dice.from(0, 8) as u32);
+    let most = dice.pick(&[2, 4, 8, 300]);
+    let length = dice.from(0, most);
+    let any = dice.one_in(4);
+    let text = (0..length).map(|_| if any { dice.next() as u8 } else { dice.pick(SIGNS) }).collect();
+    both_calls(dice, text, c, k)
+}
+
+/// Up to three arguments that may be refused at once, so that the order of the questions shows.
+fn odd_arguments(dice: &mut Dice) -> Vec<Case> {
+    let (c, k) = (channels(dice), dice.from(0, 32) as u32);
+    let nodes = dice.from(1, 12);
+    let text = formula(dice, c, k, nodes);
+    let mut cases = both_calls(dice, text, c, k);
+    for case in &mut cases {
+        for _ in 0..dice.from(1, 3) {
+            make_odd(dice, case);
+        }
+    }
+    cases
+}
+
+fn make_odd(dice: &mut Dice, case: &mut Case) {
+    let number = dice.pick(&ODD_NUMBERS);
+    match (dice.from(1, 12), &mut case.call) {
+        (1, _) => case.c = number,
+        (2, _) => case.k = number,
+        (3, _) => damage(dice, &mut case.text),
+        (4, _) if dice.one_in(4) => case.text.clear(),
+        (_, Call::NodeText { node }) => *node = number,
+        (5, Call::Evaluate { i, .. }) => *i = number,
+        (6, Call::Evaluate { j, .. }) => *j = number,
+        (7, Call::Evaluate { recording, .. }) => drop(recording.pop()),
+        (8, Call::Evaluate { recording, .. }) => recording.push(0),
+        (9, Call::Evaluate { recording, .. }) => recording.resize(number.min(300) as usize, 0),
+        (_, Call::Evaluate { recording, .. }) => {
+            if !recording.is_empty() {
+                let t = dice.from(0, recording.len() - 1);
+                recording[t] |= 1 << dice.from(case.c.min(7) as usize, 7);
+            }
+        }
+    }
+}

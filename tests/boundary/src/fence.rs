@@ -1,0 +1,77 @@
+//! Memory to lend: read-only, and with a page on either side that no one may touch. What is lent ends
+//! right before the one or begins right after the other, so a byte read beyond it is a fault, and so is
+//! a byte written anywhere.
+
+use std::ffi::{c_char, c_int, c_uint, c_void};
+use std::ptr::null_mut;
+
+extern "C" {
+    fn memfd_create(name: *const c_char, flags: c_uint) -> c_int;
+    fn ftruncate(file: c_int, length: i64) -> c_int;
+    fn mmap(at: *mut c_void, length: usize, rights: c_int, flags: c_int, file: c_int, offset: i64) -> *mut c_void;
+}
+
+const NOTHING: c_int = 0;
+const READ: c_int = 1;
+const WRITE: c_int = 2;
+const SHARED: c_int = 1;
+const PRIVATE: c_int = 2;
+const FIXED: c_int = 0x10;
+const ANONYMOUS: c_int = 0x20;
+const NO_RESERVE: c_int = 0x4000;
+
+/// A multiple of every page size in use.
+const ROOM: usize = 1 << 16;
+
+#[derive(Clone, Copy)]
+pub enum Side {
+    Start,
+    End,
+}
+
+/// One memory seen twice: here it is filled, there it is lent.
+pub struct Fence {
+    filled: *mut u8,
+    lent: *const u8,
+}
+
+fn map(at: *mut u8, length: usize, rights: c_int, flags: c_int, file: c_int) -> *mut u8 {
+    // SAFETY: new memory, or (FIXED) a part of memory that this module has mapped and not yet used.
+    let memory = unsafe { mmap(at.cast(), length, rights, flags, file, 0) };
+    assert!(memory as isize != -1, "mmap of {length} bytes: {}", std::io::Error::last_os_error());
+    memory.cast()
+}
+
+impl Fence {
+    pub fn new() -> Self {
+        // SAFETY: a name that ends in 0, and a file of our own.
+        let file = unsafe { memfd_create(c"lent".as_ptr(), 0) };
+        let sized = unsafe { ftruncate(file, ROOM as i64) };
+        assert!(sized == 0, "memfd_create: {}", std::io::Error::last_os_error());
+        let filled = map(null_mut(), ROOM, READ | WRITE, SHARED, file);
+        let fenced = map(null_mut(), 3 * ROOM, NOTHING, PRIVATE | ANONYMOUS, -1);
+        let lent = map(fenced.wrapping_add(ROOM), ROOM, READ, SHARED | FIXED, file);
+        Fence { filled, lent }
+    }
+
+    /// Lends a copy of the bytes on a side. (Nothing, lent on a side, is an address in or beside the
+    /// fence, and not null.)
+    pub fn lend(&mut self, bytes: &[u8], side: Side) -> *const u8 {
+        assert!(bytes.len() <= ROOM);
+        let at = match side {
+            Side::Start => 0,
+            Side::End => ROOM - bytes.len(),
+        };
+        // SAFETY: within the room, which no reference points to.
+        unsafe { self.filled.add(at).copy_from_nonoverlapping(bytes.as_ptr(), bytes.len()) };
+        self.lent.wrapping_add(at)
+    }
+}
+
+/// Zeros, so many that their number does not fit 32 bits, after the given bytes.
+pub fn vast(bytes: &[u8], length: usize) -> *const u8 {
+    let memory = map(null_mut(), length, READ | WRITE, PRIVATE | ANONYMOUS | NO_RESERVE, -1);
+    // SAFETY: memory of that length and our own.
+    unsafe { memory.copy_from_nonoverlapping(bytes.as_ptr(), bytes.len()) };
+    memory
+}
