@@ -113,22 +113,23 @@ static void check(const struct line *line)
     }
 }
 
-static double now(void)
+static double seconds_by(clockid_t clock)
 {
     struct timespec t;
-    clock_gettime(CLOCK_MONOTONIC, &t);
+    clock_gettime(clock, &t);
     return (double)t.tv_sec + 1e-9 * (double)t.tv_nsec;
 }
 
-/* Seconds a question, over a batch in which each of the line's questions is asked `times` times. */
+/* Seconds a question, over a batch in which each of the line's questions is asked `times` times. The processor's seconds: turns
+ * that other programs take on it would fall on the slower of the two more often. */
 static double batch(const struct engine *e, const struct line *line, uint32_t times)
 {
     volatile uint64_t answers = 0; /* so that no call can be left out */
-    double start = now();
+    double start = seconds_by(CLOCK_THREAD_CPUTIME_ID);
     for (uint32_t n = 0; n < times; n++)
         for (uint32_t r = 0; r < ASKED; r++)
             answers += ask(e, line, r);
-    return (now() - start) / times / ASKED;
+    return (seconds_by(CLOCK_THREAD_CPUTIME_ID) - start) / times / ASKED;
 }
 
 static int compare(const void *x, const void *y)
@@ -141,15 +142,15 @@ struct result {
     double best[2], ratio;
 };
 
-/* Short batches in turn: the two of a round meet the same disturbances, so the median of the rounds' ratios stays when other
- * work slows the machine. */
+/* Short batches in turn: the two of a round run at much the same speed of the machine, so the median of the rounds' ratios holds
+ * on a busy one too. */
 static struct result measure(const struct line *line)
 {
     static double ratios[MOST_ROUNDS];
     struct result result = {.best = {1e9, 1e9}};
     uint32_t rounds = 0, times = 1 + (uint32_t)(BATCH_SECONDS / ASKED / batch(&ENGINES[1], line, 1));
-    double end = now() + LINE_SECONDS;
-    while (rounds < FEWEST_ROUNDS || (rounds < MOST_ROUNDS && now() < end)) {
+    double end = seconds_by(CLOCK_MONOTONIC) + LINE_SECONDS;
+    while (rounds < FEWEST_ROUNDS || (rounds < MOST_ROUNDS && seconds_by(CLOCK_MONOTONIC) < end)) {
         double seconds[2];
         for (uint32_t n = 0; n < 2; n++) {
             uint32_t e = (rounds + n) % 2; /* neither always goes first */
