@@ -142,8 +142,8 @@ struct result {
     double best[2], ratio;
 };
 
-/* Short batches in turn: the two of a round run at much the same speed of the machine, so the median of the rounds' ratios holds
- * on a busy one too. */
+/* Short batches in turn: the two of a round meet much the same machine, so the median of the rounds' ratios holds on a busy one
+ * too. */
 static struct result measure(const struct line *line)
 {
     static double ratios[MOST_ROUNDS];
@@ -191,8 +191,8 @@ int main(void)
     struct group others = {.name = "everywhere else", .goal = GOAL_ELSEWHERE};
     const struct group *groups[] = {&chop, &others};
     record();
-    puts("Questions a second, each in its best batch. Ratio: the engine's time to the plain evaluator's, the median over pairs of");
-    puts("batches timed in turn; * where it misses its goal.");
+    puts("Questions a second, each in its best batch. Ratio: the engine's time to the plain evaluator's, the median over");
+    puts("pairs of batches timed in turn; * where it misses its goal.");
     printf("%-18s  %2s  %10s  %10s  %5s\n", "formula", "k", "engine", "plain", "ratio");
     for (size_t x = 0; x < sizeof EXERCISES / sizeof *EXERCISES; x++)
         for (size_t w = 0; w < sizeof WIDTHS / sizeof *WIDTHS; w++) {
