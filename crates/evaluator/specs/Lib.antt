@@ -1,2 +1,3 @@
 pub mod Evaluation
 pub mod Parts
+pub mod Edges
