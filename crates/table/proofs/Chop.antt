@@ -1,10 +1,9 @@
--- Row i of a chop after d turns has, for each j, whether some of the first d m's serves; a turn adds the next m, for which P on [i, m]
--- is one truth and Q on [m, j] a row of Q's table.
+-- Row i of a chop after d turns has, for each j, whether some of the first d m's serves. An m where P is false on [i, m] adds nothing;
+-- where it is true, row m of Q's table is added, and the rows within that one add nothing after it.
 use mathlib.Core.Path.{_≡_, refl, sym, ap, ap₂, _∙_, subst}
-use mathlib.Core.Bool.{Bool, true, false, _&&_, _||_}
+use mathlib.Core.Bool.{Bool, true, false, _&&_, _||_, false≢true}
 use mathlib.Core.List.{List}
-use Prim.Native.Nat.{ℕ, suc, _+_, _-_, _≤_, _<_, min}
-use native.Mathlib.Nat.{add-zero}
+use Prim.Native.Nat.{ℕ, zero, suc, _+_, _-_, _≤_, _<_, min}
 use native.Mathlib.Omega.{arith}
 use lib.Bits.{bitOr}
 use lib.Dec.{ltb}
@@ -13,120 +12,174 @@ use borrow.Author.Tests.{ltb-true, ltb-false}
 use borrow.Rule.Slice.PartMut.{midOf, putMid, mid-len}
 use Rattle.interval.specs.Places.{countOf}
 use Rattle.interval.specs.declared.Interval.{Interval}
+use Rattle.grammar.proofs.Bytes.{both}
 use Rattle.meaning.specs.Meaning.{bit, some, chops}
-use Rattle.table.specs.Table.{TableOf, RowOf, startOf, unlessZero}
-use Rattle.table.proofs.Rows.{row-next, row-ends, row-entry, put-length, put-before, put-within, part-entry}
+use Rattle.meaning.proofs.Laws.{some-one}
+use Rattle.table.specs.Table.{TableOf, RowOf, startOf, NextRows, Within}
+use Rattle.table.proofs.Rows.{row-ends, row-entry, put-length, put-before, put-within, part-entry}
 
--- P on [i, m] and Q on [m, j]
-abbrev pub both : (Interval → Bool) → (Interval → Bool) → ℕ → ℕ → ℕ → Bool
-both f g i j m = f (record { i = i; j = m }) && g (record { i = m; j = j })
+or-bits : (a b : Bool) → bitOr (bit a) (bit b) ≡ bit (a || b)
+or-bits true true = refl
+or-bits true false = refl
+or-bits false true = refl
+or-bits false false = refl
 
-pub record ChoppedTo (f g : Interval → Bool) (i d : ℕ) (row : List ℕ) : Type 0 where
-  pub at : (y : ℕ) → y < length row → getD row y 0 ≡ bit (some (both f g i (i + y)) i (min d (suc y)))
+-- what adds nothing
+or-absorbs : (a b : Bool) → (b ≡ true → a ≡ true) → a ≡ (a || b)
+or-absorbs true b h = refl
+or-absorbs false true h = h refl
+or-absorbs false false h = refl
 
--- one m more
-added-bits : (s a b : Bool) → bitOr (bit s) (unlessZero (bit a) (bit b)) ≡ bit (s || (a && b))
-added-bits true true true = refl
-added-bits true true false = refl
-added-bits true false b = refl
-added-bits false true true = refl
-added-bits false true false = refl
-added-bits false false b = refl
+bit-zero : (b : Bool) → bit b ≡ 0 → b ≡ false
+bit-zero true e = absurd (omega arith)
+bit-zero false e = refl
+
+bit-nonzero : (b : Bool) → (bit b ≡ 0 → ⊥) → b ≡ true
+bit-nonzero true h = refl
+bit-nonzero false h = absurd (h refl)
 
 module _ (f g : Interval → Bool) (i : ℕ) where
-  chop-begun : (row : List ℕ) → ((y : ℕ) → y < length row → getD row y 0 ≡ 0) → ChoppedTo f g i 0 row
-  unfolding some
-  chop-begun row e = record { at = λ y h. e y h ∙ ap (λ (n : ℕ). bit (some (both f g i (i + y)) i n)) (zero-min y) }
-    where
-      zero-min : (y : ℕ) → 0 ≡ min 0 (suc y)
-      zero-min y = omega arith
+  -- P on [i, m] and Q on [m, i + y]
+  abbrev pub serves : ℕ → ℕ → Bool
+  serves y m = f (record { i = i; j = m }) && g (record { i = m; j = i + y })
 
-  chop-done : (d : ℕ) (row : List ℕ) → length row ≤ d → ChoppedTo f g i d row → RowOf i (chops f g) row
+  -- whether some of the first c m's serves for [i, i + y]
+  abbrev pub upto : ℕ → ℕ → ℕ
+  upto y c = bit (some (serves y) i c)
+
+  pub record ChoppedTo (d : ℕ) (row : List ℕ) : Type 0 where
+    pub at : (y : ℕ) → y < length row → getD row y 0 ≡ upto y (min d (suc y))
+
+  chop-begun : (row : List ℕ) → ((y : ℕ) → y < length row → getD row y 0 ≡ 0) → ChoppedTo 0 row
+  unfolding some
+  chop-begun row e = record { at = λ y h. e y h ∙ ap (upto y) (none y) }
+    where
+      none : (y : ℕ) → 0 ≡ min 0 (suc y)
+      none y = omega arith
+
+  chop-done : (d : ℕ) (row : List ℕ) → length row ≤ d → ChoppedTo d row → RowOf i (chops f g) row
   unfolding chops
-  chop-done d row h w = record { at = λ y l. w .at y l ∙ ap (λ (n : ℕ). bit (some (both f g i (i + y)) i n)) (all y l) }
+  chop-done d row h w = record { at = λ y l. w .at y l ∙ ap (upto y) (all y l) }
     where
       all : (y : ℕ) → y < length row → min d (suc y) ≡ suc (i + y) - i
       all y l = omega arith
 
-  -- the entries from d on get the next m
-  module _ (k start d at : ℕ) (p q row tail : List ℕ) (P : TableOf k f p) (Q : TableOf k g q) (n : length row ≡ suc k - i) (m : i + d ≤ k)
-      (o : start ≡ startOf k i) (a : at ≡ startOf k (i + d)) (l : length tail ≡ length row - d)
-      (t : (z : ℕ) → z < length row - d → getD tail z 0 ≡ bitOr (getD row (d + z) 0) (unlessZero (getD p (start + d) 0) (getD q (at + z) 0)))
-      (w : ChoppedTo f g i d row) where
-    abbrev after : List ℕ
-    after = putMid d (length row - d) row tail
+  -- the entries before d are done: no later m is theirs
+  still : (d : ℕ) (row : List ℕ) (b : ℕ) → ChoppedTo d row → (y : ℕ) → y < d → y < length row → b ≡ getD row y 0 → b ≡ upto y (min (d + 1) (suc y))
+  still d row b w y h l e = let m : min d (suc y) ≡ min (d + 1) (suc y) = omega arith in e ∙ w .at y l ∙ ap (upto y) m
 
-    -- by how many m's are looked at for [i, i + y]
-    abbrev upto : ℕ → ℕ → ℕ
-    upto y c = bit (some (both f g i (i + y)) i c)
+  one-more : (y d : ℕ) → d ≤ y → bit (some (serves y) i d || serves y (i + d)) ≡ upto y (min (d + 1) (suc y))
+  unfolding some
+  one-more y d h = let m : suc d ≡ min (d + 1) (suc y) = omega arith in ap (upto y) m
 
-    earlier : (y : ℕ) → y < d → getD after y 0 ≡ upto y (min (d + 1) (suc y))
-    earlier y h =
-        let e : min d (suc y) ≡ min (d + 1) (suc y) = omega arith in
-        put-before d (length row - d) row tail (omega arith) l y h ∙ w .at y (omega arith) ∙ ap (upto y) e
+  before-it : (y d : ℕ) → d ≤ y → min d (suc y) ≡ d
+  before-it y d h = omega arith
 
-    later : (z : ℕ) → z < length row - d → getD after (d + z) 0 ≡ upto (d + z) (min (d + 1) (suc (d + z)))
-    unfolding some
-    later z h =
-        let e : min d (suc (d + z)) ≡ d = omega arith in
-        let u : suc d ≡ min (d + 1) (suc (d + z)) = omega arith in
-        let v : i + d + z ≡ i + (d + z) = omega arith in
-        put-within d (length row - d) row tail (omega arith) l z h ∙ t z h
-        ∙ ap₂ bitOr (w .at (d + z) (omega arith) ∙ ap (upto (d + z)) e)
-        (ap₂ unlessZero (ap (λ (s : ℕ). getD p (s + d) 0) o ∙ row-entry k f p P i d m)
-        (ap (λ (s : ℕ). getD q (s + z) 0) a ∙ row-entry k g q Q (i + d) z (omega arith) ∙ ap (λ (j : ℕ). bit (g (record { i = i + d; j = j }))) v))
-        ∙ added-bits (some (both f g i (i + (d + z))) i d) (f (record { i = i; j = i + d })) (g (record { i = i + d; j = i + (d + z) })) ∙ ap (upto (d + z)) u
+  -- an m that serves only where an earlier one does
+  absorbed : (d : ℕ) (row : List ℕ) → ((y : ℕ) → d ≤ y → y < length row → serves y (i + d) ≡ true → some (serves y) i d ≡ true) → ChoppedTo d row → ChoppedTo (d + 1) row
+  absorbed d row h w = record { at = λ y l. go y l (ltb y d) refl }
+    where
+      go : (y : ℕ) → y < length row → (c : Bool) → ltb y d ≡ c → getD row y 0 ≡ upto y (min (d + 1) (suc y))
+      go y l true e = still d row (getD row y 0) w y (ltb-true y d e) l refl
+      go y l false e =
+          let m = ltb-false y d e in
+          w .at y l ∙ ap (upto y) (before-it y d m) ∙ ap bit (or-absorbs (some (serves y) i d) (serves y (i + d)) (h y m l)) ∙ one-more y d m
 
-    chop-turn : ChoppedTo f g i (d + 1) after
-    chop-turn = record { at = λ y h. go y (omega (arith, put-length d (length row - d) row tail (omega arith) l)) (ltb y d) refl }
-      where
-        go : (y : ℕ) → y < length row → (c : Bool) → ltb y d ≡ c → getD after y 0 ≡ upto y (min (d + 1) (suc y))
-        go y h true e = earlier y (ltb-true y d e)
-        go y h false e =
-            let u : d + (y - d) ≡ y = omega (arith, ltb-false y d e) in
-            subst (λ (y : ℕ). getD after y 0 ≡ upto y (min (d + 1) (suc y))) u (later (y - d) (omega (arith, ltb-false y d e)))
+  chop-no : (d : ℕ) (row : List ℕ) → f (record { i = i; j = i + d }) ≡ false → ChoppedTo d row → ChoppedTo (d + 1) row
+  chop-no d row e w = absorbed d row (λ y h l t. absurd (false≢true (sym e ∙ both _ _ t .0))) w
 
--- where the turns of row i stand: d of them done, row i + d of Q's table next, at its start
-pub record Chopping (k i start : ℕ) (p q : List ℕ) (d at : ℕ) (row : List ℕ) : Type 0 where
+  module _ (k d : ℕ) (q : List ℕ) (Q : TableOf k g q) (t : f (record { i = i; j = i + d }) ≡ true) (m : i + d ≤ k) where
+    -- row i + d of Q's table is added
+    module _ (row tail : List ℕ) (n : length row ≡ suc k - i) (l : length tail ≡ length row - d)
+        (o : (z : ℕ) → z < length row - d → getD tail z 0 ≡ bitOr (getD row (d + z) 0) (getD q (startOf k (i + d) + z) 0)) (w : ChoppedTo d row) where
+      abbrev after : List ℕ
+      after = putMid d (length row - d) row tail
+
+      later : (z : ℕ) → z < length row - d → getD after (d + z) 0 ≡ upto (d + z) (min (d + 1) (suc (d + z)))
+      later z h =
+          let v : i + d + z ≡ i + (d + z) = omega arith in
+          put-within d (length row - d) row tail (omega arith) l z h ∙ o z h
+          ∙ ap₂ bitOr (w .at (d + z) (omega arith) ∙ ap (upto (d + z)) (before-it (d + z) d (omega arith)))
+          (row-entry k g q Q (i + d) z (omega arith) ∙ ap (λ (j : ℕ). bit (g (record { i = i + d; j = j }))) v ∙ sym (ap (λ (b : Bool). bit (b && g (record { i = i + d; j = i + (d + z) }))) t))
+          ∙ or-bits (some (serves (d + z)) i d) (serves (d + z) (i + d)) ∙ one-more (d + z) d (omega arith)
+
+      chop-yes : ChoppedTo (d + 1) after
+      chop-yes = record { at = λ y h. go y (omega (arith, put-length d (length row - d) row tail (omega arith) l)) (ltb y d) refl }
+        where
+          go : (y : ℕ) → y < length row → (c : Bool) → ltb y d ≡ c → getD after y 0 ≡ upto y (min (d + 1) (suc y))
+          go y h true e = still d row (getD after y 0) w y (ltb-true y d e) h (put-before d (length row - d) row tail (omega arith) l y (ltb-true y d e))
+          go y h false e =
+              let u : d + (y - d) ≡ y = omega (arith, ltb-false y d e) in
+              subst (λ (y : ℕ). getD after y 0 ≡ upto y (min (d + 1) (suc y))) u (later (y - d) (omega (arith, ltb-false y d e)))
+
+    -- and the rows within it add nothing
+    module _ (nexts : List ℕ) (W : Within k g nexts) (row : List ℕ) (n : length row ≡ suc k - i) where
+      inside : (e : ℕ) → d < e → i + e < getD nexts (i + d) 0 → (y : ℕ) → e ≤ y → y < length row → serves y (i + e) ≡ true → some (serves y) i e ≡ true
+      inside e a b y h l s =
+          let r = W .within (i + d) (i + e) (i + y) (omega arith) b (omega arith) (omega arith) (both (f (record { i = i; j = i + e })) _ s .1) in
+          some-one (serves y) i e .1 (i + d, omega arith, omega arith, ap₂ _&&_ t r)
+
+      chop-skip : (c e : ℕ) → e ≡ d + 1 + c → i + e ≤ getD nexts (i + d) 0 → ChoppedTo (d + 1) row → ChoppedTo e row
+      chop-skip zero e u b w = let v : d + 1 ≡ e = omega arith in subst (λ (e : ℕ). ChoppedTo e row) v w
+      chop-skip (suc c) e u b w =
+          let v : d + 1 + c + 1 ≡ e = omega arith in
+          subst (λ (e : ℕ). ChoppedTo e row) v (absorbed (d + 1 + c) row (inside (d + 1 + c) (omega arith) (omega arith)) (chop-skip c (d + 1 + c) refl (omega arith) w))
+
+-- where the turns of row i stand: the first d m's are done
+pub record Chopping (k i start : ℕ) (p q nexts : List ℕ) (d : ℕ) (row : List ℕ) : Type 0 where
   pub turns : d ≤ suc k - i
   pub whole : length row ≡ suc k - i
   pub own-row : start + (suc k - i) ≤ countOf k
-  pub next-row : at + (suc k - i - d) ≤ countOf k
-  pub starts : (start ≡ startOf k i) × (at ≡ startOf k (i + d))
-  pub chopped : (f g : Interval → Bool) → TableOf k f p → TableOf k g q → ChoppedTo f g i d row
+  pub starts : start ≡ startOf k i
+  pub chopped : (f g : Interval → Bool) → TableOf k f p → TableOf k g q → Within k g nexts → ChoppedTo f g i d row
 
-module _ (k i start : ℕ) (p q : List ℕ) where
-  pub begun : (row : List ℕ) → i ≤ k → start ≡ startOf k i → length row ≡ suc k - i → ((y : ℕ) → y < length row → getD row y 0 ≡ 0) → Chopping k i start p q 0 start row
-  begun row h e n z =
-      let own = row-ends k i (omega arith) in
-      record {
-        turns = omega arith;
-        whole = n;
-        own-row = omega arith;
-        next-row = omega arith;
-        starts = (e, e ∙ ap (startOf k) (sym (add-zero i)));
-        chopped = λ f g P Q. chop-begun f g i row z;
-      }
+module _ (k i start : ℕ) (p q nexts : List ℕ) where
+  pub begun : (row : List ℕ) → i ≤ k → start ≡ startOf k i → length row ≡ suc k - i → ((y : ℕ) → y < length row → getD row y 0 ≡ 0) → Chopping k i start p q nexts 0 row
+  begun row h e n z = record {
+    turns = omega arith;
+    whole = n;
+    own-row = omega (arith, row-ends k i (omega arith));
+    starts = e;
+    chopped = λ f g P Q W. chop-begun f g i row z;
+  }
 
-  pub turn : (d at : ℕ) (row tail : List ℕ) → Chopping k i start p q d at row → d < suc k - i
-      → (length tail ≡ length (midOf d (length row - d) row))
-      → ((z : ℕ) → z < length (midOf d (length row - d) row)
-      → getD tail z 0 ≡ bitOr (getD (midOf d (length row - d) row) z 0) (unlessZero (getD p (start + d) 0) (getD (midOf at (at + (length row - d) - at) q) z 0)))
-      → Chopping k i start p q (d + 1) (at + (length row - d)) (putMid d (length row - d) row tail)
-  turn d at row tail w h n t =
+  own-truth : (d : ℕ) (f : Interval → Bool) → TableOf k f p → start ≡ startOf k i → i + d ≤ k → getD p (start + d) 0 ≡ bit (f (record { i = i; j = i + d }))
+  own-truth d f P e h = ap (λ (s : ℕ). getD p (s + d) 0) e ∙ row-entry k f p P i d h
+
+  pub turn-no : (d : ℕ) (row : List ℕ) → Chopping k i start p q nexts d row → d < suc k - i → getD p (start + d) 0 ≡ 0 → Chopping k i start p q nexts (d + 1) row
+  turn-no d row w h z = record {
+    turns = omega arith;
+    whole = w .whole;
+    own-row = w .own-row;
+    starts = w .starts;
+    chopped = λ f g P Q W. chop-no f g i d row (bit-zero _ (sym (own-truth d f P (w .starts) (omega arith)) ∙ z)) (w .chopped f g P Q W);
+  }
+
+  pub turn-yes : (d at end : ℕ) (row tail : List ℕ) → Chopping k i start p q nexts d row → d < suc k - i → (getD p (start + d) 0 ≡ 0 → ⊥) → NextRows k nexts
+      → at ≡ startOf k (i + d) → end ≡ at + (suc k - (i + d)) → length tail ≡ length (midOf d (length row - d) row)
+      → ((z : ℕ) → z < length (midOf d (length row - d) row) → getD tail z 0 ≡ bitOr (getD (midOf d (length row - d) row) z 0) (getD (midOf at (end - at) q) z 0))
+      → Chopping k i start p q nexts (getD nexts (i + d) 0 - i) (putMid d (length row - d) row tail)
+  turn-yes d at end row tail w h z N a b n t =
       let m : length (midOf d (length row - d) row) ≡ length row - d = mid-len d (length row) row (omega arith) in
-      let i-next : i + d + 1 ≡ i + (d + 1) = omega arith in
-      let s : at + (length row - d) ≡ startOf k (i + (d + 1)) = omega (arith, w .starts .1, w .whole, row-next k (i + d), ap (startOf k) i-next) in
+      let later = N .later (i + d) (omega arith) in
+      let most = N .most (i + d) (omega arith) in
+      let whole = put-length d (length row - d) row tail (omega (arith, w .whole)) (n ∙ m) ∙ w .whole in
+      let c : getD nexts (i + d) 0 - i ≡ d + 1 + (getD nexts (i + d) 0 - i - (d + 1)) = omega arith in
       record {
         turns = omega arith;
-        whole = put-length d (length row - d) row tail (omega (arith, w .whole)) (n ∙ m) ∙ w .whole;
+        whole = whole;
         own-row = w .own-row;
-        next-row = omega (arith, s, row-ends k (i + (d + 1)) (omega arith));
-        starts = (w .starts .0, s);
-        chopped = λ f g P Q. chop-turn f g i k start d at p q row tail P Q (w .whole) (omega arith) (w .starts .0) (w .starts .1) (n ∙ m)
-            (λ z l. t z (omega arith) ∙ ap₂ bitOr (part-entry d (length row - d) row z l) (ap (unlessZero (getD p (start + d) 0)) (part-entry at (at + (length row - d) - at) q z (omega arith))))
-            (w .chopped f g P Q);
+        starts = w .starts;
+        chopped = λ f g P Q W.
+            let yes = bit-nonzero _ (λ e. z (own-truth d f P (w .starts) (omega arith) ∙ e)) in
+            chop-skip f g i k d q Q yes (omega arith) nexts W (putMid d (length row - d) row tail) whole _ _ c (omega arith)
+            (chop-yes f g i k d q Q yes (omega arith) row tail (w .whole) (n ∙ m)
+            (λ y l. t y (omega arith) ∙ ap₂ bitOr (part-entry d (length row - d) row y l) (part-entry at (end - at) q y (omega arith) ∙ ap (λ (s : ℕ). getD q (s + y) 0) a)) (w .chopped f g P Q W));
       }
 
-  pub done : (d at : ℕ) (row : List ℕ) → Chopping k i start p q d at row → suc k - i ≤ d → (f g : Interval → Bool) → TableOf k f p → TableOf k g q → RowOf i (chops f g) row
-  done d at row w h f g P Q = chop-done f g i d row (omega (arith, w .whole)) (w .chopped f g P Q)
+  pub done : (d : ℕ) (row : List ℕ) → Chopping k i start p q nexts d row → suc k - i ≤ d → (f g : Interval → Bool) → TableOf k f p → TableOf k g q → Within k g nexts → RowOf i (chops f g) row
+  done d row w h f g P Q W = chop-done f g i d row (omega (arith, w .whole)) (w .chopped f g P Q W)
+
+-- fewer m's are left
+pub fewer : (n i d x : ℕ) → d < n → i + d < x → n - (x - i) < n - d
+fewer n i d x h l = omega arith

@@ -1,4 +1,5 @@
 pub mod Fill
 pub mod Rows
-pub mod Chop
 pub mod Measure
+pub mod Skip
+pub mod Chop

@@ -35,6 +35,12 @@ module _ (k : ℕ) where
   pub place-in-row : (v : Interval) → IntervalOf k v → placeOf k v ≡ startOf k (v .i) + (v .j - v .i)
   place-in-row v o = interval-place k v (omega arith)
 
+  -- where the interval without instants at m stands, row m starts
+  pub row-starts : (m at : ℕ) → m ≤ k → at ≡ placeOf k (record { i = m; j = m }) → (at ≡ startOf k m) × (at + (suc k - m) ≤ countOf k)
+  row-starts m at h e =
+      let s : at ≡ startOf k m = omega (arith, e, place-in-row (record { i = m; j = m }) (record { starts = omega arith; ends = h })) in
+      (s, omega (arith, s, row-ends m (omega arith)))
+
   pub row-entry : (f : Interval → Bool) (t : List ℕ) → TableOf k f t → (i d : ℕ) → i + d ≤ k → getD t (startOf k i + d) 0 ≡ bit (f (record { i = i; j = i + d }))
   row-entry f t T i d h =
       let o : IntervalOf k (record { i = i; j = i + d }) = record { starts = omega arith; ends = h } in

@@ -1,17 +1,20 @@
 // The truth of a formula on every interval of k steps: an array by value, a row for each start, filled from its parts.
 use interval::Interval;
 ghost use mathlib.Core.Path.{_≡_};
-ghost use mathlib.Core.Bool.{Bool, not};
+ghost use mathlib.Core.Bool.{Bool, not, cond};
 ghost use lib.Dec.{eqb};
 ghost use Prim.Native.Nat.{ℕ, suc, _+_, _-_, _≤_, _<_};
-ghost use lib.Bits.{bitOr};
+ghost use lib.Bits.{bitAnd, bitOr, bitXor};
 ghost use lib.ListN.{length, getD, replicate};
 ghost use Rattle.interval.specs.Places.{countOf};
 ghost use Rattle.interval.specs.Limits.{maxSteps, maxCount};
 ghost use Rattle.interval.specs.declared.Interval.{Interval};
 ghost use Rattle.meaning.specs.Meaning.{bit, bitAt, lasts, fills, chops};
 ghost use Rattle.word.specs.Word.{joined};
-ghost use Rattle.table.specs.Table.{TableOf, RowOf, startOf, joinedByte, unlessZero, measured};
+ghost use Rattle.table.specs.Table.{TableOf, RowOf, startOf, joinedByte, measured, NextRows, Within};
+
+// The most rows of a table.
+const ROWS: usize = Interval::MAX_STEPS + 1;
 
 // The same byte at every place.
 fn all_of(b: u8) -> [u8; Interval::MAX_COUNT]
@@ -112,30 +115,80 @@ pub fn joined_table(
     t
 }
 
-// Each byte of `from` onto that of `row`, unless `wanted` is 0.
-fn or_onto(wanted: u8, row: &mut [u8], from: &[u8])
+// Each byte of `from` onto that of `row`.
+fn or_onto(row: &mut [u8], from: &[u8])
     requires { ⌜ length (now row) ≡ length (now from) ⌝ }
-    ensures { λ r. ⌜ ((d : ℕ) → d < length (now (row .entry)) → getD (now (row .exit)) d 0 ≡ bitOr (getD (now (row .entry)) d 0) (unlessZero wanted (getD (now (from .entry)) d 0))) ⌝ }
+    ensures { λ r. ⌜ ((d : ℕ) → d < length (now (row .entry)) → getD (now (row .exit)) d 0 ≡ bitOr (getD (now (row .entry)) d 0) (getD (now (from .entry)) d 0)) ⌝ }
 {
-    if wanted == 0 {
-        return;
-    }
-    for d in 0..row.len() {
+    for d in 0..from.len() {
         row[d] |= from[d];
     }
 }
 
-// Row i of a chop, all 0 before: where P is true on [i, m], row m of Q tells for which j.
-fn chop_row(row: &mut [u8], p: &[u8], q: &[u8], k: usize, i: usize, start: usize)
-    requires { ⌜ (k ≤ maxSteps) × (i ≤ k) × (start ≡ startOf k i) × (length (now row) ≡ suc k - i) × ((y : ℕ) → y < length (now row) → getD (now row) y 0 ≡ 0) ⌝ }
-    requires { ⌜ (countOf k ≤ length (now p)) × (countOf k ≤ length (now q)) ⌝ }
-    ensures { λ r. ⌜ ((f g : Interval → Bool) → TableOf k f (now (p .entry)) → TableOf k g (now (q .entry)) → RowOf i (chops f g) (now (row .exit))) ⌝ }
+// What a row has that another lacks: 0 for nothing.
+fn beyond(row: &[u8], other: &[u8]) -> u8
+    requires { ⌜ length (now row) ≡ length (now other) ⌝ }
+    ensures { λ r. ⌜ (r ≡ 0 → (d : ℕ) → d < length (now (row .entry)) → bitAnd (getD (now (row .entry)) d 0) (bitXor (getD (now (other .entry)) d 0) 1) ≡ 0) ⌝ }
 {
-    let mut at = start;
+    let mut more: u8 = 0;
     for d in 0..row.len() {
-        let end = at + (row.len() - d);
-        or_onto(p[start + d], &mut row[d..], &q[at..end]);
-        at = end;
+        more |= row[d] & (other[d] ^ 1);
+    }
+    more
+}
+
+// The next row that is not within row m - 1: row m if it has more, otherwise the one next after it.
+fn next_row(more: u8, m: usize, later: usize) -> usize
+    ensures { λ r. ⌜ r ≡ cond (eqb more 0) later m ⌝ }
+{
+    if more == 0 { later } else { m }
+}
+
+// For each row of Q's table the next one that has something which it lacks: k + 1 where none has.
+fn next_rows(q: &[u8], k: usize) -> [usize; ROWS]
+    requires { ⌜ (k ≤ maxSteps) × (countOf k ≤ length (now q)) ⌝ }
+    ensures { λ r. ⌜ NextRows k r × ((g : Interval → Bool) → TableOf k g (now (q .entry)) → Within k g r) ⌝ }
+{
+    let mut nexts = [k + 1; ROWS];
+    let mut m = k;
+    let mut at = Interval { i: k, j: k }.place(k);
+    while m > 0 {
+        let l = m - 1;
+        let before = at - (k - l);
+        let end = at + (k - l);
+        let more = beyond(&q[at..end], &q[before..at]);
+        nexts[l] = next_row(more, m, nexts[m]);
+        at = before - 1;
+        m = l;
+    }
+    nexts
+}
+
+// Row i of a chop, all 0 before: where P is true on [i, m], row m of Q tells for which j; the rows within it add nothing.
+fn chop_row(
+    row: &mut [u8],
+    p: &[u8],
+    q: &[u8],
+    nexts: &[usize; ROWS],
+    k: usize,
+    i: usize,
+    start: usize,
+)
+    requires { ⌜ (k ≤ maxSteps) × (i ≤ k) × (start ≡ startOf k i) × (length (now row) ≡ suc k - i) × ((y : ℕ) → y < length (now row) → getD (now row) y 0 ≡ 0) ⌝ }
+    requires { ⌜ (countOf k ≤ length (now p)) × (countOf k ≤ length (now q)) × NextRows k (now nexts) ⌝ }
+    ensures { λ r. ⌜ ((f g : Interval → Bool) → TableOf k f (now (p .entry)) → TableOf k g (now (q .entry)) → Within k g (now (nexts .entry)) → RowOf i (chops f g) (now (row .exit))) ⌝ }
+{
+    let mut d = 0;
+    while d < row.len() {
+        let m = i + d;
+        if p[start + d] == 0 {
+            d += 1;
+            continue;
+        }
+        let at = Interval { i: m, j: m }.place(k);
+        let end = at + (k + 1 - m);
+        or_onto(&mut row[d..], &q[at..end]);
+        d = nexts[m] - i;
     }
 }
 
@@ -148,11 +201,12 @@ pub fn chop_table(
     requires { ⌜ k ≤ maxSteps ⌝ }
     ensures { λ r. ⌜ ((f g : Interval → Bool) → TableOf k f (now (p .entry)) → TableOf k g (now (q .entry)) → TableOf k (chops f g) r) ⌝ }
 {
+    let nexts = next_rows(q, k);
     let mut t = all_of(0);
     let mut start = 0;
     for i in 0..k + 1 {
         let end = start + (k + 1 - i);
-        chop_row(&mut t[start..end], p, q, k, i, start);
+        chop_row(&mut t[start..end], p, q, &nexts, k, i, start);
         start = end;
     }
     t

@@ -1,25 +1,29 @@
 -- `chop_table` fills one row a turn, each from the place where the last one ended,
 -- and after k + 1 rows every interval's place is in one of them (Rows.antt).
-use Rattle.interval.specs.Limits.{maxSteps, maxCount}
-use Prim.Native.Nat.{suc, _+_, _-_}
-use Rattle.table.proofs.Rows.{row-length, row-zeros, Filled, RowsOf, filled-begun, filled-turn, rows-turn, rows-done}
+use Rattle.table.proofs.Rows.{Filled, RowsOf, filled-begun, row-length, row-zeros, filled-turn, rows-turn, rows-done}
 use Rattle.table.specs.Table.{TableOf}
 use Rattle.meaning.specs.Meaning.{chops}
 use Rattle.interval.proofs.Counts.{count-le}
 use Rattle.interval.specs.declared.Interval.{Interval}
 use Rattle.interval.specs.Places.{countOf}
+use Rattle.interval.specs.Limits.{maxSteps, maxCount}
 use native.Mathlib.Omega.{arith}
 use borrow.Author.Needs.{needs}
+use Prim.Native.Nat.{suc, _+_, _-_}
 use mathlib.Core.Bool.{Bool}
 use mathlib.Core.Path.{_≡_}
 use Rattle.table.proofs.chop_table.Statement.{statement}
 use Rattle.table.proofs.chop_table.Tie as tie
 
 abbrev Inv-loop : tie.InvT-loop
-Inv-loop p q k t₀ start₀ i₀ i-end t start i = (i-end ≡ suc k) × Filled maxCount k i start t × ((f g : Interval → Bool) → TableOf k f p → TableOf k g q → RowsOf k (chops f g) i t)
+Inv-loop p q k nexts t₀ start₀ i₀ i-end t start i = (i-end ≡ suc k) × Filled maxCount k i start t × ((f g : Interval → Bool) → TableOf k f p → TableOf k g q → RowsOf k (chops f g) i t)
 
 abbrev μ-loop : tie.MeasureT-loop
-μ-loop p q k t₀ start₀ i₀ i-end t start i = suc k - i
+μ-loop p q k nexts t₀ start₀ i₀ i-end t start i = suc k - i
+
+next-rows-requires : tie.Need-next-rows-requires Inv-loop μ-loop
+unfolding countOf
+next-rows-requires c κs = (c .before .pre, omega (arith, count-le maxSteps _ (c .before .pre), c .next-rows-arg .given .0))
 
 all-of-requires : tie.Need-all-of-requires Inv-loop μ-loop
 all-of-requires c κs = search needs
@@ -29,7 +33,7 @@ add-i-end c = search needs
 
 loop-holds : tie.Need-loop-holds Inv-loop μ-loop
 unfolding countOf
-loop-holds c = (omega arith, filled-begun maxCount _ _ (count-le maxSteps _ (c .before .pre)) (c .all-of .ensures), λ f g P Q. record { at = λ v o h. omega arith })
+loop-holds c = (omega arith, filled-begun maxCount _ _ (count-le maxSteps _ (c .before .before .before .pre)) (c .all-of .ensures), λ f g P Q. record { at = λ v o h. omega arith })
 
 add-end : tie.Need-add-end Inv-loop μ-loop
 add-end c = search needs
@@ -50,10 +54,10 @@ part-t-end : tie.Need-part-t-end Inv-loop μ-loop
 part-t-end c = search needs
 
 chop-row-requires : tie.Need-chop-row-requires Inv-loop μ-loop
-chop-row-requires c κs = let l = c .before .before .before .before .loop in
+chop-row-requires c κs = let l = c .before .before .before .before .before .loop in
     let w = l .inv .1 in (
       (search needs, omega arith, w .starts, row-length maxCount _ _ _ _ _ w (omega arith), row-zeros maxCount _ _ _ _ _ w),
-      (omega (arith, w .room, c .before .chop-row-arg .given .0), omega (arith, w .room, c .chop-row-arg2 .given .0)),
+      (omega (arith, w .room, c .before .before .chop-row-arg .given .0), omega (arith, w .room, c .before .chop-row-arg2 .given .0), c .before .before .before .before .before .before .before .next-rows .ensures .0),
     )
 
 add-i : tie.Need-add-i Inv-loop μ-loop
@@ -63,12 +67,15 @@ loop-less : tie.Need-loop-less Inv-loop μ-loop
 loop-less c = search needs
 
 loop-again : tie.Need-loop-again Inv-loop μ-loop
-loop-again c = let a = c .before .before .before .before .before .before .before .before .args in
-    let l = c .before .before .before .before .before .before .loop in
+loop-again c = let a = c .before .before .before .before .before .before .before .before .before .before .before .args in
+    let l = c .before .before .before .before .before .before .before .loop in
     let end = l .start + (a .k + 1 - l .i) in
     let row = c .before .chop-row .last .0 in
-    let w = l .inv .1 in
-    (omega arith, filled-turn maxCount _ _ _ end _ row (omega arith) w (omega arith) (search needs), λ f g P Q. rows-turn maxCount _ _ _ end _ row (omega arith) w (omega arith) (search needs) (chops f g) (c .before .chop-row .ensures f g P Q) (l .inv .2 f g P Q))
+    let w = l .inv .1 in (
+      omega arith,
+      filled-turn maxCount _ _ _ end _ row (omega arith) w (omega arith) (search needs),
+      λ f g P Q. rows-turn maxCount _ _ _ end _ row (omega arith) w (omega arith) (search needs) (chops f g) (c .before .chop-row .ensures f g P Q (c .before .before .before .before .before .before .before .before .before .next-rows .ensures .1 g Q)) (l .inv .2 f g P Q),
+    )
 
 returns : tie.Need-returns Inv-loop μ-loop
 returns c = λ f g P Q. rows-done _ _ _ _ (omega (arith, c .before .loop .inv .0, c .loop-test .left)) (c .before .loop .inv .2 f g P Q)
@@ -79,6 +86,7 @@ chop-table-spec =
     (tie.spec
     Inv-loop
     μ-loop
+    next-rows-requires
     all-of-requires
     add-i-end
     loop-holds

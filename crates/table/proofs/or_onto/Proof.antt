@@ -1,27 +1,23 @@
--- `or_onto` changes nothing where told so by a 0; otherwise each turn changes the byte at its place,
+-- `or_onto` changes one byte a turn, at its own place,
 -- which no earlier turn has touched.
 use Rattle.table.proofs.Fill.{Upto, begun, turn}
 use borrow.Author.Needs.{needs}
-use borrow.Author.Tests.{eq-eqb, ne-eqb}
 use native.Mathlib.Omega.{arith}
 use lib.ListN.{length, getD}
-use lib.Bits.{bitOr, or-zero-r}
+use lib.Bits.{bitOr}
 use Prim.Native.Nat.{_-_, _≤_}
 use mathlib.Core.Path.{_≡_, refl, sym, ap₂}
 use Rattle.table.proofs.or_onto.Statement.{statement}
 use Rattle.table.proofs.or_onto.Tie as tie
 
 abbrev Inv-loop : tie.InvT-loop
-Inv-loop wanted row₀ from d₀ d-end row d = (d-end ≡ length row₀) × (d ≤ length row₀) × Upto (length row₀) (λ y. bitOr (getD row₀ y 0) (getD from y 0)) (λ y. getD row₀ y 0) d row
+Inv-loop row₀ from d₀ d-end row d = (d-end ≡ length row₀) × (d ≤ length row₀) × Upto (length row₀) (λ y. bitOr (getD row₀ y 0) (getD from y 0)) (λ y. getD row₀ y 0) d row
 
 abbrev μ-loop : tie.MeasureT-loop
-μ-loop wanted row₀ from d₀ d-end row d = length row₀ - d
-
-returns : tie.Need-returns Inv-loop μ-loop
-returns c = λ d h. simp (eq-eqb _ _ (c .if1 .taken)) (sym (or-zero-r _))
+μ-loop row₀ from d₀ d-end row d = length row₀ - d
 
 loop-holds : tie.Need-loop-holds Inv-loop μ-loop
-loop-holds c = (refl, omega arith, begun _ _ _ _ refl (λ y. refl))
+loop-holds c = (sym (c .pre), omega arith, begun _ _ _ _ refl (λ y. refl))
 
 shared-slice-read-row : tie.Need-shared-slice-read-row Inv-loop μ-loop
 shared-slice-read-row c = search needs
@@ -45,8 +41,8 @@ loop-again c = let l = c .before .before .before .loop in
 same-length : tie.Need-same-length Inv-loop μ-loop
 same-length c = search needs
 
-returns-2 : tie.Need-returns-2 Inv-loop μ-loop
-returns-2 c = λ d h. simp (ne-eqb _ _ (c .before .before .if1 .left)) (c .before .loop .inv .2 .below d (omega (arith, c .before .loop .inv, c .loop-test .left)))
+returns : tie.Need-returns Inv-loop μ-loop
+returns c = λ d h. c .before .loop .inv .2 .below d (omega (arith, c .before .loop .inv, c .loop-test .left))
 
 pub or-onto-spec : {M : Type 1} → statement M
 or-onto-spec =
@@ -54,7 +50,6 @@ or-onto-spec =
     (tie.spec
     Inv-loop
     μ-loop
-    returns
     loop-holds
     shared-slice-read-row
     slice-read-row
@@ -63,4 +58,4 @@ or-onto-spec =
     loop-less
     loop-again
     same-length
-    returns-2)
+    returns)
