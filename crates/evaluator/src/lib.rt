@@ -87,7 +87,7 @@ fn table_at<'a>(
     }
     let q = table_at(kinds, numbers, sizes, recording, second(sizes, x));
     if kind == 21 {
-        return table::chop_table(&p, &q, k);
+        return chop::chop_table(&p, &q, k);
     }
     table::joined_table(kind - 16, &p, &q, k)
 }

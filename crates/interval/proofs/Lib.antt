@@ -2,3 +2,4 @@ pub mod Listing
 pub mod Shape
 pub mod Counts
 pub mod Laws
+pub mod Fill

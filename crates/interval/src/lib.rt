@@ -22,6 +22,9 @@ impl Interval {
     // The most steps that a recording has.
     pub const MAX_STEPS: usize = 32;
 
+    // The ends that an interval can have: 0 to the most steps.
+    pub const MAX_ENDS: usize = Self::MAX_STEPS + 1;
+
     // The intervals of so many steps: 561.
     pub const MAX_COUNT: usize = (Self::MAX_STEPS + 1) * (Self::MAX_STEPS + 2) / 2;
 

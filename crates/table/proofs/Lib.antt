@@ -1,5 +1,3 @@
-pub mod Fill
+pub mod Joined
 pub mod Rows
 pub mod Measure
-pub mod Skip
-pub mod Chop

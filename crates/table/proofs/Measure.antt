@@ -1,7 +1,7 @@
 -- A duration and `[S]` look at no instant beyond the interval, so a word of S measures as S does:
 -- the count of its ones under the window is how many instants are high.
-use mathlib.Core.Path.{_≡_, sym, ap, ap₂, _∙_}
-use mathlib.Core.Bool.{Bool, cond}
+use mathlib.Core.Path.{_≡_, refl, sym, ap, ap₂, _∙_}
+use mathlib.Core.Bool.{Bool, true, false, cond}
 use mathlib.Core.List.{List}
 use Prim.Native.Nat.{ℕ, _-_, _≤_}
 use native.Mathlib.Omega.{arith}
@@ -12,7 +12,7 @@ use Rattle.interval.specs.Places.{countOf, placeOf}
 use Rattle.interval.specs.declared.Interval.{Interval}
 use Rattle.interval.proofs.Counts.{count-le}
 use Rattle.interval.proofs.Laws.{intervals-numbered}
-use Rattle.meaning.specs.Meaning.{bit, bitAt, lasts, fills}
+use Rattle.meaning.specs.Meaning.{bit, bitAt, highs, lasts, fills}
 use Rattle.meaning.proofs.Laws.{every-highs}
 use Rattle.word.specs.Word.{WordOf}
 use Rattle.word.proofs.Words.{word-highs}
@@ -37,3 +37,12 @@ unfolding countOf
 constant-places k b v t h e r = record {
   at = λ i o. ap (λ (t : List ℕ). getD t (placeOf k i) 0) r ∙ getD-replicate maxCount (placeOf k i) b 0 (omega (arith, intervals-numbered k .below i o, count-le maxSteps k h)) ∙ e;
 }
+
+-- judged by how many must be high
+pub measured-least : (kind n : ℕ) (f : ℕ → Bool) (v : Interval) → leb (cond (eqb kind 8) (v .j - v .i) n) (highs f (v .i) (v .j - v .i)) ≡ measured kind n f v
+unfolding fills lasts
+measured-least kind n f v = go (eqb kind 8)
+  where
+    go : (c : Bool) → leb (cond c (v .j - v .i) n) (highs f (v .i) (v .j - v .i)) ≡ cond c (fills f v) (lasts n f v)
+    go true = sym (every-highs f (v .i) (v .j - v .i))
+    go false = refl

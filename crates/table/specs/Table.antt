@@ -3,7 +3,7 @@
 use mathlib.Core.Path.{_≡_}
 use mathlib.Core.Bool.{Bool, true, cond}
 use mathlib.Core.List.{List}
-use Prim.Native.Nat.{ℕ, suc, _+_, _-_, _≤_, _<_}
+use Prim.Native.Nat.{ℕ, suc, _+_, _-_, _<_}
 use lib.Bits.{bitAnd, bitOr, bitXor}
 use lib.Dec.{eqb}
 use lib.ListN.{length, getD}
@@ -32,12 +32,3 @@ joinedByte kind a b = cond (eqb kind 2) (bitXor a 1) (cond (eqb kind 3) (bitAnd 
 -- the truth of a duration (7) or of `[S]` (8) by the truth of S
 abbrev pub measured : ℕ → ℕ → (ℕ → Bool) → Interval → Bool
 measured kind n f v = cond (eqb kind 8) (fills f v) (lasts n f v)
-
--- a later row for each row, k + 1 at the most
-pub record NextRows (k : ℕ) (nexts : List ℕ) : Type 0 where
-  pub later : (m : ℕ) → m ≤ k → m < getD nexts m 0
-  pub most : (m : ℕ) → m ≤ k → getD nexts m 0 ≤ suc k
-
--- the rows between are within the row: where they are true, it is
-pub record Within (k : ℕ) (g : Interval → Bool) (nexts : List ℕ) : Type 0 where
-  pub within : (m l j : ℕ) → m < l → l < getD nexts m 0 → l ≤ j → j ≤ k → g (record { i = l; j = j }) ≡ true → g (record { i = m; j = j }) ≡ true

@@ -3,21 +3,16 @@ use interval::Interval;
 ghost use mathlib.Core.Path.{_≡_};
 ghost use mathlib.Core.Bool.{Bool, not, cond};
 ghost use lib.Dec.{eqb};
-ghost use Prim.Native.Nat.{ℕ, suc, _+_, _-_, _≤_, _<_};
-ghost use lib.Bits.{bitAnd, bitOr, bitXor};
-ghost use lib.ListN.{length, getD, replicate};
-ghost use Rattle.interval.specs.Places.{countOf};
+ghost use Prim.Native.Nat.{ℕ, suc, _+_, _-_, _≤_};
+ghost use lib.ListN.{length, replicate};
 ghost use Rattle.interval.specs.Limits.{maxSteps, maxCount};
 ghost use Rattle.interval.specs.declared.Interval.{Interval};
-ghost use Rattle.meaning.specs.Meaning.{bit, bitAt, lasts, fills, chops};
-ghost use Rattle.word.specs.Word.{joined};
-ghost use Rattle.table.specs.Table.{TableOf, RowOf, startOf, joinedByte, measured, NextRows, Within};
-
-// The most rows of a table.
-const ROWS: usize = Interval::MAX_STEPS + 1;
+ghost use Rattle.meaning.specs.Meaning.{bit, bitAt};
+ghost use Rattle.word.specs.Word.{Lows, joined};
+ghost use Rattle.table.specs.Table.{TableOf, RowOf, joinedByte, measured};
 
 // The same byte at every place.
-fn all_of(b: u8) -> [u8; Interval::MAX_COUNT]
+pub fn all_of(b: u8) -> [u8; Interval::MAX_COUNT]
     ensures { λ r. ⌜ r ≡ replicate maxCount b ⌝ }
 {
     [b; Interval::MAX_COUNT]
@@ -36,53 +31,57 @@ pub fn constant_table(kind: u8) -> [u8; Interval::MAX_COUNT]
     all_of(byte_of(kind != 0))
 }
 
-// `#S>=n` on [i, j], from the word of S.
-fn lasts_on(n: u8, word: u32, i: usize, j: usize) -> u8
+// How many instants of [i, j] must be high: n for a duration (kind 7), all of them for `[S]` (kind 8).
+fn least_on(kind: u8, n: u8, i: usize, j: usize) -> u32
     requires { ⌜ (i ≤ j) × (j ≤ maxSteps) ⌝ }
-    ensures { λ r. ⌜ r ≡ bit (lasts n (bitAt word) (record { i = i; j = j })) ⌝ }
+    ensures { λ r. ⌜ r ≡ cond (eqb kind 8) (j - i) n ⌝ }
 {
-    byte_of(word::count_high(word, i, j) >= n as usize)
+    if kind == 8 { (j - i) as u32 } else { n as u32 }
 }
 
-// `[S]` on [i, j], from the word of S: as many of its instants are high as it has.
-fn fills_on(word: u32, i: usize, j: usize) -> u8
-    requires { ⌜ (i ≤ j) × (j ≤ maxSteps) ⌝ }
-    ensures { λ r. ⌜ r ≡ bit (fills (bitAt word) (record { i = i; j = j })) ⌝ }
-{
-    byte_of(word::count_high(word, i, j) >= j - i)
-}
-
-fn measured_on(kind: u8, n: u8, word: u32, i: usize, j: usize) -> u8
-    requires { ⌜ (i ≤ j) × (j ≤ maxSteps) ⌝ }
+// A duration or `[S]` on [i, j], from the word of S.
+fn measured_on(
+    kind: u8,
+    n: u8,
+    lows: &[u32; Interval::MAX_ENDS],
+    word: u32,
+    i: usize,
+    j: usize,
+) -> u8
+    requires { ⌜ (i ≤ j) × (j ≤ maxSteps) × Lows (now lows) ⌝ }
     ensures { λ r. ⌜ r ≡ bit (measured kind n (bitAt word) (record { i = i; j = j })) ⌝ }
 {
-    if kind == 8 {
-        fills_on(word, i, j)
-    } else {
-        lasts_on(n, word, i, j)
-    }
+    byte_of(word::count_high(lows, word, i, j) >= least_on(kind, n, i, j))
 }
 
 // Row i of a duration or of `[S]`.
-fn measured_row(row: &mut [u8], kind: u8, n: u8, word: u32, i: usize)
-    requires { ⌜ i + length (now row) ≤ suc maxSteps ⌝ }
+fn measured_row(
+    row: &mut [u8],
+    kind: u8,
+    n: u8,
+    lows: &[u32; Interval::MAX_ENDS],
+    word: u32,
+    i: usize,
+)
+    requires { ⌜ (i + length (now row) ≤ suc maxSteps) × Lows (now lows) ⌝ }
     ensures { λ r. ⌜ RowOf i (measured kind n (bitAt word)) (now (row .exit)) ⌝ }
 {
     for d in 0..row.len() {
-        row[d] = measured_on(kind, n, word, i, i + d);
+        row[d] = measured_on(kind, n, lows, word, i, i + d);
     }
 }
 
-// The table of a duration (kind 7) or of `[S]` (kind 8), from the word of S.
+// The table of a duration or of `[S]`, from the word of S.
 pub fn measured_table(kind: u8, n: u8, word: u32, k: usize) -> [u8; Interval::MAX_COUNT]
     requires { ⌜ k ≤ maxSteps ⌝ }
     ensures { λ r. ⌜ TableOf k (measured kind n (bitAt word)) r ⌝ }
 {
+    let lows = word::lows();
     let mut t = all_of(0);
     let mut start = 0;
     for i in 0..k + 1 {
         let end = start + (k + 1 - i);
-        measured_row(&mut t[start..end], kind, n, word, i);
+        measured_row(&mut t[start..end], kind, n, &lows, word, i);
         start = end;
     }
     t
@@ -111,103 +110,6 @@ pub fn joined_table(
     let mut t = all_of(0);
     for x in 0..Interval::count(k) {
         t[x] = joined_byte(kind, p[x], q[x]);
-    }
-    t
-}
-
-// Each byte of `from` onto that of `row`.
-fn or_onto(row: &mut [u8], from: &[u8])
-    requires { ⌜ length (now row) ≡ length (now from) ⌝ }
-    ensures { λ r. ⌜ ((d : ℕ) → d < length (now (row .entry)) → getD (now (row .exit)) d 0 ≡ bitOr (getD (now (row .entry)) d 0) (getD (now (from .entry)) d 0)) ⌝ }
-{
-    for d in 0..from.len() {
-        row[d] |= from[d];
-    }
-}
-
-// What a row has that another lacks: 0 for nothing.
-fn beyond(row: &[u8], other: &[u8]) -> u8
-    requires { ⌜ length (now row) ≡ length (now other) ⌝ }
-    ensures { λ r. ⌜ (r ≡ 0 → (d : ℕ) → d < length (now (row .entry)) → bitAnd (getD (now (row .entry)) d 0) (bitXor (getD (now (other .entry)) d 0) 1) ≡ 0) ⌝ }
-{
-    let mut more: u8 = 0;
-    for d in 0..row.len() {
-        more |= row[d] & (other[d] ^ 1);
-    }
-    more
-}
-
-// The next row that is not within row m - 1: row m if it has more, otherwise the one next after it.
-fn next_row(more: u8, m: usize, later: usize) -> usize
-    ensures { λ r. ⌜ r ≡ cond (eqb more 0) later m ⌝ }
-{
-    if more == 0 { later } else { m }
-}
-
-// For each row of Q's table the next one that has something which it lacks: k + 1 where none has.
-fn next_rows(q: &[u8], k: usize) -> [usize; ROWS]
-    requires { ⌜ (k ≤ maxSteps) × (countOf k ≤ length (now q)) ⌝ }
-    ensures { λ r. ⌜ NextRows k r × ((g : Interval → Bool) → TableOf k g (now (q .entry)) → Within k g r) ⌝ }
-{
-    let mut nexts = [k + 1; ROWS];
-    let mut m = k;
-    let mut at = Interval { i: k, j: k }.place(k);
-    while m > 0 {
-        let l = m - 1;
-        let before = at - (k - l);
-        let end = at + (k - l);
-        let more = beyond(&q[at..end], &q[before..at]);
-        nexts[l] = next_row(more, m, nexts[m]);
-        at = before - 1;
-        m = l;
-    }
-    nexts
-}
-
-// Row i of a chop, all 0 before: where P is true on [i, m], row m of Q tells for which j; the rows within it add nothing.
-fn chop_row(
-    row: &mut [u8],
-    p: &[u8],
-    q: &[u8],
-    nexts: &[usize; ROWS],
-    k: usize,
-    i: usize,
-    start: usize,
-)
-    requires { ⌜ (k ≤ maxSteps) × (i ≤ k) × (start ≡ startOf k i) × (length (now row) ≡ suc k - i) × ((y : ℕ) → y < length (now row) → getD (now row) y 0 ≡ 0) ⌝ }
-    requires { ⌜ (countOf k ≤ length (now p)) × (countOf k ≤ length (now q)) × NextRows k (now nexts) ⌝ }
-    ensures { λ r. ⌜ ((f g : Interval → Bool) → TableOf k f (now (p .entry)) → TableOf k g (now (q .entry)) → Within k g (now (nexts .entry)) → RowOf i (chops f g) (now (row .exit))) ⌝ }
-{
-    let mut d = 0;
-    while d < row.len() {
-        let m = i + d;
-        if p[start + d] == 0 {
-            d += 1;
-            continue;
-        }
-        let at = Interval { i: m, j: m }.place(k);
-        let end = at + (k + 1 - m);
-        or_onto(&mut row[d..], &q[at..end]);
-        d = nexts[m] - i;
-    }
-}
-
-// The table of a chop, from those of its parts.
-pub fn chop_table(
-    p: &[u8; Interval::MAX_COUNT],
-    q: &[u8; Interval::MAX_COUNT],
-    k: usize,
-) -> [u8; Interval::MAX_COUNT]
-    requires { ⌜ k ≤ maxSteps ⌝ }
-    ensures { λ r. ⌜ ((f g : Interval → Bool) → TableOf k f (now (p .entry)) → TableOf k g (now (q .entry)) → TableOf k (chops f g) r) ⌝ }
-{
-    let nexts = next_rows(q, k);
-    let mut t = all_of(0);
-    let mut start = 0;
-    for i in 0..k + 1 {
-        let end = start + (k + 1 - i);
-        chop_row(&mut t[start..end], p, q, &nexts, k, i, start);
-        start = end;
     }
     t
 }

@@ -1,13 +1,20 @@
 -- A truth at each instant as one number, and what a node that is not a leaf makes of its parts.
 use mathlib.Core.Path.{_≡_}
 use mathlib.Core.Bool.{Bool, not, cond, _&&_, _||_}
-use Prim.Native.Nat.{ℕ, _<_}
+use mathlib.Core.List.{List}
+use Prim.Native.Nat.{ℕ, _-_, _^_, _≤_, _<_}
+use lib.ListN.{getD}
+use Rattle.interval.specs.Limits.{maxSteps}
 use lib.Dec.{eqb}
 use Rattle.meaning.specs.Meaning.{bitAt}
 
 -- w has, at each instant below k, 1 where f is true
 pub record WordOf (k : ℕ) (f : ℕ → Bool) (w : ℕ) : Type 0 where
   pub at : (t : ℕ) → t < k → bitAt w t ≡ f t
+
+-- for each n the word of the instants before n
+pub record Lows (lows : List ℕ) : Type 0 where
+  pub before : (n : ℕ) → n ≤ maxSteps → getD lows n 0 ≡ 2 ^ n - 1
 
 -- what `!` (2), `&` (3) and `|` (4, or any other) make of their parts: a node's kinds are so numbered; `!` has one part, the first
 abbrev pub joined : ℕ → Bool → Bool → Bool

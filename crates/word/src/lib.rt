@@ -1,4 +1,5 @@
 // A state assertion's truth at the instants of a recording as one word, instant t in bit t, so that a duration is a count of ones.
+use interval::Interval;
 ghost use mathlib.Core.Path.{_≡_};
 ghost use mathlib.Core.Bool.{Bool, not};
 ghost use Prim.Native.Nat.{ℕ, _-_, _^_, _≤_, _<_};
@@ -7,33 +8,44 @@ ghost use lib.ListN.{length};
 ghost use Rattle.interval.specs.Limits.{maxSteps};
 ghost use Rattle.grammar.specs.Limits.{maxChannels};
 ghost use Rattle.meaning.specs.Meaning.{bit, bitAt, channelAt, highs};
-ghost use Rattle.word.specs.Word.{WordOf, joined};
+ghost use Rattle.word.specs.Word.{WordOf, Lows, joined};
 
 // A word's bits. The contracts are over the most steps, so that these must fit.
 pub const WIDTH: usize = 32;
 
 // The instants before n, with no wider word: none is shifted by the whole width.
-pub fn low(n: usize) -> u32
+fn low(n: usize) -> u32
     requires { ⌜ n ≤ maxSteps ⌝ }
     ensures { λ r. ⌜ r ≡ 2 ^ n - 1 ⌝ }
 {
     if n == 0 { 0 } else { u32::MAX >> (WIDTH - n) }
 }
 
+// The instants before each n, so that a window costs no shift.
+pub fn lows() -> [u32; Interval::MAX_ENDS]
+    ensures { λ r. ⌜ Lows r ⌝ }
+{
+    let mut lows = [0; Interval::MAX_ENDS];
+    for n in 0..Interval::MAX_ENDS {
+        lows[n] = low(n);
+    }
+    lows
+}
+
 // The instants i to j - 1.
-pub fn window(i: usize, j: usize) -> u32
-    requires { ⌜ (i ≤ j) × (j ≤ maxSteps) ⌝ }
+fn window(lows: &[u32; Interval::MAX_ENDS], i: usize, j: usize) -> u32
+    requires { ⌜ (i ≤ j) × (j ≤ maxSteps) × Lows (now lows) ⌝ }
     ensures { λ r. ⌜ r ≡ 2 ^ j - 2 ^ i ⌝ }
 {
-    low(j) - low(i)
+    lows[j] - lows[i]
 }
 
 // How many of the instants i to j - 1 are high.
-pub fn count_high(word: u32, i: usize, j: usize) -> usize
-    requires { ⌜ (i ≤ j) × (j ≤ maxSteps) ⌝ }
+pub fn count_high(lows: &[u32; Interval::MAX_ENDS], word: u32, i: usize, j: usize) -> u32
+    requires { ⌜ (i ≤ j) × (j ≤ maxSteps) × Lows (now lows) ⌝ }
     ensures { λ r. ⌜ (r ≡ highs (bitAt word) i (j - i)) × (r ≤ j - i) ⌝ }
 {
-    u32::count_ones(word & window(i, j)) as usize
+    u32::count_ones(word & window(lows, i, j))
 }
 
 // 1 where channel c is high at instant t.

@@ -2,7 +2,8 @@
 -- where the parts' tables have the truths that are joined.
 use Rattle.interval.specs.Limits.{maxCount}
 use lib.ListN.{length, getD}
-use Rattle.table.proofs.Fill.{joined-tables, Upto, begun, turn}
+use Rattle.interval.proofs.Fill.{Upto, begun, turn}
+use Rattle.table.proofs.Joined.{joined-tables}
 use Rattle.table.specs.Table.{joinedByte}
 use Rattle.interval.specs.Places.{countOf}
 use borrow.Author.Needs.{needs}

@@ -1,21 +1,26 @@
--- `measured_on` goes by kind as its definition does:
--- the function called in each branch has that branch's truth.
-use borrow.Author.Tests.{eq-eqb, ne-eqb}
+-- `measured_on` compares the count of ones under the interval's window with how many must be high:
+-- n of them for a duration, and every instant is high exactly where as many are (Measure.antt).
+use Rattle.table.proofs.Measure.{measured-least}
+use Rattle.meaning.specs.Meaning.{bit, bitAt}
+use lib.Dec.{leb}
+use mathlib.Core.Path.{ap, ap₂, _∙_}
 use borrow.Author.Needs.{needs}
 use Rattle.table.proofs.measured_on.Statement.{statement}
 use Rattle.table.proofs.measured_on.Tie as tie
 
-fills-on-requires : tie.Need-fills-on-requires
-fills-on-requires c κs = search needs
+count-high-requires : tie.Need-count-high-requires
+count-high-requires c κs = search needs
 
-lasts-on-requires : tie.Need-lasts-on-requires
-lasts-on-requires c κs = search needs
+least-on-requires : tie.Need-least-on-requires
+least-on-requires c κs = search needs
+
+byte-of-requires : tie.Need-byte-of-requires
+byte-of-requires c κs = search needs
 
 returns : tie.Need-returns
-returns c = simp (eq-eqb _ _ (c .before .if1 .taken)) (c .fills-on .ensures)
-
-returns-2 : tie.Need-returns-2
-returns-2 c = simp (ne-eqb _ _ (c .before .if1 .left)) (c .lasts-on .ensures)
+returns c = let a = c .before .before .before .args in
+    c .byte-of .ensures ∙ ap bit (ap₂ leb (c .before .least-on .ensures) (c .before .before .count-high .ensures .0) ∙ measured-least (a .kind) (a .n) (bitAt (a .word)) (record { i = a .i; j = a .j }))
 
 pub measured-on-spec : {M : Type 1} → statement M
-measured-on-spec = tie.close (tie.spec fills-on-requires lasts-on-requires returns returns-2)
+measured-on-spec =
+    tie.close (tie.spec count-high-requires least-on-requires byte-of-requires returns)

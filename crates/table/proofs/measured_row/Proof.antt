@@ -1,6 +1,6 @@
 -- `measured_row` fills one place a turn, the interval of d steps from i on;
 -- the row ends at the most steps, so that every window fits the word.
-use Rattle.table.proofs.Fill.{Upto, begun, turn}
+use Rattle.interval.proofs.Fill.{Upto, begun, turn}
 use Rattle.table.specs.Table.{measured}
 use Rattle.meaning.specs.Meaning.{bit, bitAt}
 use borrow.Author.Needs.{needs}
@@ -12,19 +12,19 @@ use Rattle.table.proofs.measured_row.Statement.{statement}
 use Rattle.table.proofs.measured_row.Tie as tie
 
 abbrev Inv-loop : tie.InvT-loop
-Inv-loop row₀ kind n word i d₀ d-end row d = (d-end ≡ length row₀) × (d ≤ length row₀) × Upto (length row₀) (λ y. bit (measured kind n (bitAt word) (record { i = i; j = i + y }))) (λ y. getD row₀ y 0) d row
+Inv-loop row₀ kind n lows word i d₀ d-end row d = (d-end ≡ length row₀) × (d ≤ length row₀) × Upto (length row₀) (λ y. bit (measured kind n (bitAt word) (record { i = i; j = i + y }))) (λ y. getD row₀ y 0) d row
 
 abbrev μ-loop : tie.MeasureT-loop
-μ-loop row₀ kind n word i d₀ d-end row d = length row₀ - d
+μ-loop row₀ kind n lows word i d₀ d-end row d = length row₀ - d
 
 loop-holds : tie.Need-loop-holds Inv-loop μ-loop
 loop-holds c = (refl, omega arith, begun _ _ _ _ refl (λ y. refl))
 
 add-measured-on : tie.Need-add-measured-on Inv-loop μ-loop
-add-measured-on c = search needs
+add-measured-on c = omega (arith, c .before .before .before .pre .0)
 
 measured-on-requires : tie.Need-measured-on-requires Inv-loop μ-loop
-measured-on-requires c κs = search needs
+measured-on-requires c κs = (omega arith, omega (arith, c .before .before .before .pre .0), c .before .before .before .pre .1)
 
 slice-write-row : tie.Need-slice-write-row Inv-loop μ-loop
 slice-write-row c = search needs

@@ -14,10 +14,13 @@ use Rattle.table.proofs.measured_table.Statement.{statement}
 use Rattle.table.proofs.measured_table.Tie as tie
 
 abbrev Inv-loop : tie.InvT-loop
-Inv-loop kind n word k t₀ start₀ i₀ i-end t start i = (i-end ≡ suc k) × Filled maxCount k i start t × RowsOf k (measured kind n (bitAt word)) i t
+Inv-loop kind n word k lows t₀ start₀ i₀ i-end t start i = (i-end ≡ suc k) × Filled maxCount k i start t × RowsOf k (measured kind n (bitAt word)) i t
 
 abbrev μ-loop : tie.MeasureT-loop
-μ-loop kind n word k t₀ start₀ i₀ i-end t start i = suc k - i
+μ-loop kind n word k lows t₀ start₀ i₀ i-end t start i = suc k - i
+
+lows-requires : tie.Need-lows-requires Inv-loop μ-loop
+lows-requires c κs = search needs
 
 all-of-requires : tie.Need-all-of-requires Inv-loop μ-loop
 all-of-requires c κs = search needs
@@ -27,7 +30,7 @@ add-i-end c = search needs
 
 loop-holds : tie.Need-loop-holds Inv-loop μ-loop
 unfolding countOf
-loop-holds c = (omega arith, filled-begun maxCount _ _ (count-le maxSteps _ (c .before .pre)) (c .all-of .ensures), record { at = λ v o h. omega arith })
+loop-holds c = (omega arith, filled-begun maxCount _ _ (count-le maxSteps _ (c .before .before .pre)) (c .all-of .ensures), record { at = λ v o h. omega arith })
 
 add-end : tie.Need-add-end Inv-loop μ-loop
 add-end c = search needs
@@ -48,9 +51,9 @@ part-t-end : tie.Need-part-t-end Inv-loop μ-loop
 part-t-end c = search needs
 
 measured-row-requires : tie.Need-measured-row-requires Inv-loop μ-loop
-measured-row-requires c κs = let a = c .before .before .before .before .args in
-    let l = c .before .before .loop in
-    omega (arith, row-length maxCount _ _ _ (l .start + (a .k + 1 - l .i)) _ (l .inv .1) (omega arith), c .before .before .before .before .pre)
+measured-row-requires c κs = let a = c .before .before .before .before .before .before .args in
+    let l = c .before .before .before .loop in
+    (omega (arith, row-length maxCount _ _ _ (l .start + (a .k + 1 - l .i)) _ (l .inv .1) (omega arith), c .before .before .before .before .before .before .pre), c .before .before .before .before .before .lows .ensures)
 
 add-i : tie.Need-add-i Inv-loop μ-loop
 add-i c = search needs
@@ -59,12 +62,15 @@ loop-less : tie.Need-loop-less Inv-loop μ-loop
 loop-less c = search needs
 
 loop-again : tie.Need-loop-again Inv-loop μ-loop
-loop-again c = let a = c .before .before .before .before .before .before .args in
-    let l = c .before .before .before .before .loop in
+loop-again c = let a = c .before .before .before .before .before .before .before .before .args in
+    let l = c .before .before .before .before .before .loop in
     let end = l .start + (a .k + 1 - l .i) in
     let row = c .before .measured-row .last .0 in
-    let w = l .inv .1 in
-    (omega arith, filled-turn maxCount _ _ _ end _ row (omega arith) w (omega arith) (search needs), rows-turn maxCount _ _ _ end _ row (omega arith) w (omega arith) (search needs) _ (c .before .measured-row .ensures) (l .inv .2))
+    let w = l .inv .1 in (
+      omega arith,
+      filled-turn maxCount _ _ _ end _ row (omega arith) w (omega arith) (search needs),
+      rows-turn maxCount _ _ _ end _ row (omega arith) w (omega arith) (search needs) _ (c .before .measured-row .ensures) (l .inv .2),
+    )
 
 returns : tie.Need-returns Inv-loop μ-loop
 returns c = rows-done _ _ _ _ (omega (arith, c .before .loop .inv .0, c .loop-test .left)) (c .before .loop .inv .2)
@@ -75,6 +81,7 @@ measured-table-spec =
     (tie.spec
     Inv-loop
     μ-loop
+    lows-requires
     all-of-requires
     add-i-end
     loop-holds

@@ -1,19 +1,15 @@
 -- `count_high` counts the ones under the window: these are the highs of its instants,
 -- and there are no more of them than instants.
-use native.Mathlib.Omega.{arith}
-use borrow.Author.Needs.{needs}
 use Rattle.word.proofs.Words.{ones-window}
+use borrow.Author.Needs.{needs}
 use Rattle.word.proofs.count_high.Statement.{statement}
 use Rattle.word.proofs.count_high.Tie as tie
 
 window-requires : tie.Need-window-requires
 window-requires c κs = search needs
 
-cast-result : tie.Need-cast-result
-cast-result c = omega (arith, ones-window (c .before .args .word) (c .before .pre .0) (c .window .ensures) .1)
-
 returns : tie.Need-returns
 returns c = ones-window (c .before .args .word) (c .before .pre .0) (c .window .ensures)
 
 pub count-high-spec : {M : Type 1} → statement M
-count-high-spec = tie.close (tie.spec window-requires cast-result returns)
+count-high-spec = tie.close (tie.spec window-requires returns)

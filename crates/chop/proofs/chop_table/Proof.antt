@@ -12,8 +12,8 @@ use borrow.Author.Needs.{needs}
 use Prim.Native.Nat.{suc, _+_, _-_}
 use mathlib.Core.Bool.{Bool}
 use mathlib.Core.Path.{_≡_}
-use Rattle.table.proofs.chop_table.Statement.{statement}
-use Rattle.table.proofs.chop_table.Tie as tie
+use Rattle.chop.proofs.chop_table.Statement.{statement}
+use Rattle.chop.proofs.chop_table.Tie as tie
 
 abbrev Inv-loop : tie.InvT-loop
 Inv-loop p q k nexts t₀ start₀ i₀ i-end t start i = (i-end ≡ suc k) × Filled maxCount k i start t × ((f g : Interval → Bool) → TableOf k f p → TableOf k g q → RowsOf k (chops f g) i t)

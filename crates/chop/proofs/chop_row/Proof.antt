@@ -1,17 +1,17 @@
 -- `chop_row` goes on by one m where P is false on [i, m]; where it is true, it adds row m of Q's table and goes on at the next row
 -- that has more, since those between add nothing (Chop.antt).
-use Rattle.table.proofs.Chop.{fewer, Chopping, begun, turn-no, turn-yes, done}
+use Rattle.chop.proofs.Chop.{fewer, Chopping, begun, turn-no, turn-yes, done}
 use lib.ListN.{length}
 use borrow.Rule.Slice.PartMut.{mid-len}
 use Prim.Native.Nat.{_≤_, suc, _+_, _-_}
 use Rattle.interval.specs.Places.{countOf}
 use Rattle.table.specs.Table.{startOf}
 use Rattle.table.proofs.Rows.{row-starts}
 use borrow.Author.Needs.{needs}
 use native.Mathlib.Omega.{arith}
 use mathlib.Core.Path.{_≡_, sym, _∙_}
-use Rattle.table.proofs.chop_row.Statement.{statement}
-use Rattle.table.proofs.chop_row.Tie as tie
+use Rattle.chop.proofs.chop_row.Statement.{statement}
+use Rattle.chop.proofs.chop_row.Tie as tie
 
 abbrev Inv-loop : tie.InvT-loop
 Inv-loop row₀ p q nexts k i start d₀ row d = Chopping k i start p q nexts d row

@@ -15,8 +15,9 @@ use Rattle.interval.specs.declared.Interval.{Interval}
 use Rattle.grammar.proofs.Bytes.{both}
 use Rattle.meaning.specs.Meaning.{bit, some, chops}
 use Rattle.meaning.proofs.Laws.{some-one}
-use Rattle.table.specs.Table.{TableOf, RowOf, startOf, NextRows, Within}
+use Rattle.table.specs.Table.{TableOf, RowOf, startOf}
+use Rattle.chop.specs.Rows.{NextRows, Within}
 use Rattle.table.proofs.Rows.{row-ends, row-entry, put-length, put-before, put-within, part-entry}
 
 or-bits : (a b : Bool) → bitOr (bit a) (bit b) ≡ bit (a || b)
 or-bits true true = refl
@@ -161,8 +162,9 @@ module _ (k i start : ℕ) (p q nexts : List ℕ) where
       → Chopping k i start p q nexts (getD nexts (i + d) 0 - i) (putMid d (length row - d) row tail)
   turn-yes d at end row tail w h z N a b n t =
       let m : length (midOf d (length row - d) row) ≡ length row - d = mid-len d (length row) row (omega arith) in
-      let later = N .later (i + d) (omega arith) in
-      let most = N .most (i + d) (omega arith) in
+      let inside : i + d ≤ k = omega arith in
+      let later = N .later (i + d) inside in
+      let most = N .most (i + d) inside in
       let whole = put-length d (length row - d) row tail (omega (arith, w .whole)) (n ∙ m) ∙ w .whole in
       let c : getD nexts (i + d) 0 - i ≡ d + 1 + (getD nexts (i + d) 0 - i - (d + 1)) = omega arith in
       record {
@@ -171,9 +173,9 @@ module _ (k i start : ℕ) (p q nexts : List ℕ) where
         own-row = w .own-row;
         starts = w .starts;
         chopped = λ f g P Q W.
-            let yes = bit-nonzero _ (λ e. z (own-truth d f P (w .starts) (omega arith) ∙ e)) in
-            chop-skip f g i k d q Q yes (omega arith) nexts W (putMid d (length row - d) row tail) whole _ _ c (omega arith)
-            (chop-yes f g i k d q Q yes (omega arith) row tail (w .whole) (n ∙ m)
+            let yes = bit-nonzero _ (λ e. z (own-truth d f P (w .starts) inside ∙ e)) in
+            chop-skip f g i k d q Q yes inside nexts W (putMid d (length row - d) row tail) whole _ _ c (omega arith)
+            (chop-yes f g i k d q Q yes inside row tail (w .whole) (n ∙ m)
             (λ y l. t y (omega arith) ∙ ap₂ bitOr (part-entry d (length row - d) row y l) (part-entry at (end - at) q y (omega arith) ∙ ap (λ (s : ℕ). getD q (s + y) 0) a)) (w .chopped f g P Q W));
       }
 

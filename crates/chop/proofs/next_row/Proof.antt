@@ -1,8 +1,8 @@
 -- `next_row` tests what its definition tests:
 -- each branch is the one that the test chooses.
 use borrow.Author.Tests.{eq-eqb, ne-eqb}
-use Rattle.table.proofs.next_row.Statement.{statement}
-use Rattle.table.proofs.next_row.Tie as tie
+use Rattle.chop.proofs.next_row.Statement.{statement}
+use Rattle.chop.proofs.next_row.Tie as tie
 
 returns : tie.Need-returns
 returns c = simp (eq-eqb _ _ (c .if1 .taken))

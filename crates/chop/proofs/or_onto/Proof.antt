@@ -1,14 +1,14 @@
 -- `or_onto` changes one byte a turn, at its own place,
 -- which no earlier turn has touched.
-use Rattle.table.proofs.Fill.{Upto, begun, turn}
+use Rattle.interval.proofs.Fill.{Upto, begun, turn}
 use borrow.Author.Needs.{needs}
 use native.Mathlib.Omega.{arith}
 use lib.ListN.{length, getD}
 use lib.Bits.{bitOr}
 use Prim.Native.Nat.{_-_, _≤_}
 use mathlib.Core.Path.{_≡_, refl, sym, ap₂}
-use Rattle.table.proofs.or_onto.Statement.{statement}
-use Rattle.table.proofs.or_onto.Tie as tie
+use Rattle.chop.proofs.or_onto.Statement.{statement}
+use Rattle.chop.proofs.or_onto.Tie as tie
 
 abbrev Inv-loop : tie.InvT-loop
 Inv-loop row₀ from d₀ d-end row d = (d-end ≡ length row₀) × (d ≤ length row₀) × Upto (length row₀) (λ y. bitOr (getD row₀ y 0) (getD from y 0)) (λ y. getD row₀ y 0) d row

@@ -4,12 +4,12 @@ use borrow.Rule.Slice.PartMut.{mid-len}
 use lib.ListN.{set}
 use Prim.Native.Nat.{_+_, ℕ, _-_, _<_}
 use mathlib.Core.Path.{subst, _≡_, refl, sym, _∙_}
 use Rattle.table.proofs.Rows.{row-starts}
-use Rattle.table.proofs.Skip.{Skipping, skip-begun, row-before, skip-code, skip-done}
+use Rattle.chop.proofs.Skip.{Skipping, skip-begun, row-before, skip-code, skip-done}
 use borrow.Author.Needs.{needs}
 use native.Mathlib.Omega.{arith}
-use Rattle.table.proofs.next_rows.Statement.{statement}
-use Rattle.table.proofs.next_rows.Tie as tie
+use Rattle.chop.proofs.next_rows.Statement.{statement}
+use Rattle.chop.proofs.next_rows.Tie as tie
 
 abbrev Inv-loop : tie.InvT-loop
 Inv-loop q k nexts₀ m₀ at₀ nexts m at = Skipping k q m at nexts

@@ -1,13 +1,13 @@
 -- `beyond` gathers what each place has that the other row lacks:
 -- it stays 0 only where no place adds anything.
-use Rattle.table.proofs.Skip.{NoneBeyond, none-begun, none-turn}
+use Rattle.chop.proofs.Skip.{NoneBeyond, none-begun, none-turn}
 use borrow.Author.Needs.{needs}
 use native.Mathlib.Omega.{arith}
 use lib.ListN.{length}
 use Prim.Native.Nat.{_-_, _≤_}
 use mathlib.Core.Path.{_≡_, refl}
-use Rattle.table.proofs.beyond.Statement.{statement}
-use Rattle.table.proofs.beyond.Tie as tie
+use Rattle.chop.proofs.beyond.Statement.{statement}
+use Rattle.chop.proofs.beyond.Tie as tie
 
 abbrev Inv-loop : tie.InvT-loop
 Inv-loop row other more₀ d₀ d-end more d = (d-end ≡ length row) × (d ≤ length row) × NoneBeyond row other d more
