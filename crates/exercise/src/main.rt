@@ -1,0 +1,75 @@
+// One exercise. It reads, one to a line, the number of channels, a formula, and a channel's levels as `a=0110`; it draws the
+// recording and writes whether it satisfies the formula, or why there is no answer.
+mod drawing;
+mod print;
+mod words;
+
+use arguments::Fault;
+use arguments::Number;
+use arguments::Taken;
+use evaluator::Verdict;
+use interval::Interval;
+use libc::STDIN_FILENO;
+use refusal::Reply;
+
+// The most bytes that are read, one more than a good exercise has.
+const INPUT: usize = 1024;
+
+fn main() {
+    let mut input = [0u8; INPUT];
+    let n = io::read_full(STDIN_FILENO, &mut input);
+    exercise(&input[..n]);
+}
+
+// The lines in order: the number of channels, the formula, the channels.
+fn exercise(input: &[u8]) {
+    if input.len() == INPUT {
+        return words::put_fault(Fault::Long);
+    }
+    let rest = arguments::after_line(input);
+    if rest.len() == 0 {
+        return words::put_fault(Fault::Few);
+    }
+    let count = arguments::decimal(arguments::line(input));
+    match count {
+        Number::Of(c) => answer(arguments::line(rest), c, arguments::after_line(rest)),
+        Number::Not => words::put_fault(Fault::Count),
+    }
+}
+
+// Asks about the formula, then reads the channels, then asks about the recording.
+fn answer(text: &[u8], c: u32, channels: &[u8]) {
+    if let Reply::No(r) = formula::accept(text, c, 0) {
+        return words::put_refusal(text, c, r);
+    }
+    let mut recording = [0u8; Interval::MAX_STEPS];
+    let taken = arguments::take_channels(&mut recording, channels, c);
+    match taken {
+        Taken::Good(given) => {
+            let steps = given.steps;
+            put_verdict(text, c, narrow(steps), arguments::first(&recording, steps))
+        }
+        Taken::Bad(fault) => words::put_fault(fault),
+    }
+}
+
+// A number of steps: what is read has no more bytes.
+fn narrow(n: usize) -> u32 {
+    if n < INPUT { n as u32 } else { INPUT as u32 }
+}
+
+fn put_verdict(text: &[u8], c: u32, k: u32, recording: &[u8]) {
+    let verdict = evaluator::evaluate(text, c, k, 0, k, recording);
+    match verdict {
+        Verdict::Yes => put_answer(text, c, recording, b"yes: this recording satisfies "),
+        Verdict::No => put_answer(text, c, recording, b"no: this recording does not satisfy "),
+        Verdict::Refused(r) => words::put_refusal(text, c, r),
+    }
+}
+
+fn put_answer(text: &[u8], c: u32, recording: &[u8], answer: &[u8]) {
+    drawing::put_recording(c, recording);
+    print::put(answer);
+    print::put(text);
+    print::put(b"\n");
+}
