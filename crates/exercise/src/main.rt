@@ -12,7 +12,7 @@ use interval::Interval;
 use libc::STDIN_FILENO;
 use refusal::Reply;
 
-// The most bytes that are read, one more than a good exercise has.
+// So many bytes are read at most, and no good exercise has as many.
 const INPUT: usize = 1024;
 
 fn main() {
