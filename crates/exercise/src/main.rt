@@ -8,6 +8,7 @@ use arguments::Fault;
 use arguments::Number;
 use arguments::Taken;
 use evaluator::Verdict;
+use grammar::MAX_CHANNELS;
 use interval::Interval;
 use libc::STDIN_FILENO;
 use refusal::Reply;
@@ -37,9 +38,9 @@ fn exercise(input: &[u8]) {
     }
 }
 
-// Asks about the formula, then reads the channels, then asks about the recording.
+// Question 1 first, as the channels are read by C; then the channels; then the evaluator asks all its questions in order.
 fn answer(text: &[u8], c: u32, channels: &[u8]) {
-    if let Reply::No(r) = formula::accept(text, c, 0) {
+    if let Reply::No(r) = refusal::ask_within(1, c as usize, 1, MAX_CHANNELS) {
         return words::put_refusal(text, c, r);
     }
     let mut recording = [0u8; Interval::MAX_STEPS];
