@@ -5,7 +5,7 @@ use Prim.Native.Nat.{_-_, _≤_}
 use native.Mathlib.Omega.{arith}
 use lib.ListN.{length, getD}
 use borrow.Author.Needs.{needs}
-use Rattle.table.proofs.Fill.{Upto, begun, turn}
+use Rattle.interval.proofs.Fill.{Upto, begun, turn}
 use Rattle.arguments.specs.Levels.{raisedBy}
 use Rattle.arguments.proofs.raise.Statement.{statement}
 use Rattle.arguments.proofs.raise.Tie as tie
