@@ -1,5 +1,5 @@
-# Sourced by each tests/NAME/run: finds or builds the archive that the tests link. What is missing is said in a line, and counts
-# as one failure.
+# Sourced by each tests/NAME/run that links the archive, and by bench/run: finds or builds it. What is missing is said in a line, and
+# counts as one failure.
 root=$(cd "$(dirname "${BASH_SOURCE[0]}")/.." && pwd)
 archive=$root/target/staticlib/libtuvenikar.a
 
