@@ -7,13 +7,12 @@ use Prim.Native.Nat.{ℕ, suc, _+_, _*_, _%_, _^_, _≤_, _<_}
 use native.Mathlib.Nat.{one-mul}
 use native.Mathlib.Numerals.{add-one}
 use native.Mathlib.Omega.{arith}
-use lib.Dec.{eqb, ltb}
+use lib.Dec.{ltb}
 use lib.ListN.{length, getD, drop, drop-of-length-le}
 use lib.Pow.{shl-exact}
 use lib.Seq.{drop-cons}
 use borrow.Author.Tests.{lt-ltb, le-ltb}
 use Rattle.refusal.specs.declared.Reply.the-variants.{Yes, No}
-use Rattle.meaning.specs.Meaning.{bit}
 use Rattle.formula.specs.Questions.{atFirst}
 use Rattle.evaluator.specs.Evaluation.{notBelow, askBytes}
 
@@ -45,7 +44,3 @@ module _ (C : ℕ) (recording : List ℕ) where
   pub asked-all : (t : ℕ) → length recording ≤ t → AskedFrom t → Yes ≡ askBytes C recording
   unfolding notBelow
   asked-all t h a = sym (ap (λ (l : List ℕ). atFirst 11 (notBelow C t l)) (drop-of-length-le recording h)) ∙ a .same
-
-pub bit-one : (v : Bool) → eqb (bit v) 1 ≡ v
-bit-one true = refl
-bit-one false = refl

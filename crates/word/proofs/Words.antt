@@ -61,7 +61,7 @@ ones-window w {i} {j} {x} h e =
 pub word-highs : {k : ℕ} {f : ℕ → Bool} {w : ℕ} (i n : ℕ) → WordOf k f w → i + n ≤ k → highs (bitAt w) i n ≡ highs f i n
 word-highs {k} {f} {w} i n p h = highs-agree (bitAt w) f i n (λ t l m. p .at t (omega arith))
 
-high-bit : (b : Bool) → eqb (bit b) 1 ≡ b
+pub high-bit : (b : Bool) → eqb (bit b) 1 ≡ b
 high-bit true = refl
 high-bit false = refl
 

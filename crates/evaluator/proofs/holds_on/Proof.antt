@@ -1,6 +1,6 @@
 -- `holds_on` reads the root's table at the interval's place,
 -- where it has 1 exactly where the formula is true.
-use Rattle.evaluator.proofs.Questions.{bit-one}
+use Rattle.word.proofs.Words.{high-bit}
 use Prim.Native.Nat.{ℕ}
 use lib.Dec.{eqb}
 use lib.ListN.{getD}
@@ -24,7 +24,7 @@ returns c = let a = c .before .before .before .before .before .before .before .a
     λ f l w.
     let p = c .before .table-at .ensures f l w in
     let o : IntervalOf _ _ = record { starts = c .before .before .before .before .before .before .before .pre .1; ends = c .before .before .before .before .before .before .before .pre .2 } in
-    ap (λ (x : ℕ). eqb (getD (c .before .table-at .result) x 0) 1) (c .place .ensures .0) ∙ ap (λ (b : ℕ). eqb b 1) (p .at _ o) ∙ bit-one _
+    ap (λ (x : ℕ). eqb (getD (c .before .table-at .result) x 0) 1) (c .place .ensures .0) ∙ ap (λ (b : ℕ). eqb b 1) (p .at _ o) ∙ high-bit _
 
 pub holds-on-spec : {M : Type 1} → statement M
 holds-on-spec = tie.close (tie.spec table-at-requires place-requires array-read-result returns)
