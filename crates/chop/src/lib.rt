@@ -42,7 +42,7 @@ fn next_row(more: u8, m: usize, later: usize) -> usize
     if more == 0 { later } else { m }
 }
 
-// For each row of Q's table the next one that has something which it lacks: k + 1 where none has.
+// For each row of Q's table a later one, such that those between are within it: k + 1 where all that follow are.
 fn next_rows(q: &[u8], k: usize) -> [usize; Interval::MAX_ENDS]
     requires { ⌜ (k ≤ maxSteps) × (countOf k ≤ length (now q)) ⌝ }
     ensures { λ r. ⌜ NextRows k r × ((g : Interval → Bool) → TableOf k g (now (q .entry)) → Within k g r) ⌝ }
