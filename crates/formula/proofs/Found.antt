@@ -2,7 +2,7 @@
 -- each node its first byte, and for a duration the number after it, tell what the tree's question asks.
 use mathlib.Core.Path.{_≡_, refl, sym, ap, _∙_}
 use mathlib.Core.Bool.{Bool, true, false, cond, _||_, true≢false, false≢true}
-use mathlib.Core.List.{List, [], _∷_, append-nil, map, flatMap}
+use mathlib.Core.List.{List, [], _∷_, append-nil, flatMap}
 use Prim.Native.Nat.{ℕ, zero, suc, _+_, _-_, _<_}
 use native.Mathlib.Decide.{decLt}
 use native.Mathlib.Omega.{arith}
@@ -69,7 +69,7 @@ quiet g f e = record {
     links or at = off at (p 1 (omega arith))
     links chop at = off at (p 2 (omega arith))
 
-pub letter-is : (c : ℕ) → c < 8 → isLetter (97 + c) ≡ true
+letter-is : (c : ℕ) → c < 8 → isLetter (97 + c) ≡ true
 letter-is = at-each (λ c. isLetter (97 + c) ≡ true) 8 refl refl refl refl refl refl refl refl
 
 letter-starts : (c : ℕ) → c < 8 → isStart (97 + c) ≡ true
@@ -127,14 +127,11 @@ module _ (t : List ℕ) where
   answered Nodes x at w = starts-answer x at (w .letters)
 
   -- a scan of a part's bytes finds what its tree has
-  pub found-part : (a : Ask) {s : Sort} (x : Tree s) (at : ℕ) → Stands t x at → scan (answersAt a t) (textOf x) at ≡ flatMap (λ (w : Node). answer a (w .part) (w .first)) (nodesOf x at)
+  found-part : (a : Ask) {s : Sort} (x : Tree s) (at : ℕ) → Stands t x at → scan (answersAt a t) (textOf x) at ≡ flatMap (λ (w : Node). answer a (w .part) (w .first)) (nodesOf x at)
   unfolding scan
   found-part a x at w =
       scan-tree (answersAt a t) (quiet-at a) x at [] ∙ append-nil _
       ∙ flat-same _ _ (nodesOf x at) (all-map (StandsNode t) _ (λ v s. answered a (v .part) (v .first) s) (nodesOf x at) (all-stand t x at w))
-
-  pub starts-part : {s : Sort} (x : Tree s) (at : ℕ) → Stands t x at → scan startAt (textOf x) at ≡ map (λ (w : Node). w .first) (nodesOf x at)
-  starts-part x at w = found-part Nodes x at w ∙ flat-map (λ (w : Node). w .first) (nodesOf x at)
 
   -- a text that reads has a tree
   pub read-tree : askGrammar t ≡ Yes → (f : Tree Formula) × (read t ≡ tree f)

@@ -33,7 +33,7 @@ pub record Stands (t : List ℕ) {s : Sort} (x : Tree s) (at : ℕ) : Type 0 whe
   pub clear : Clear rest
   pub letters : Letters 8 x
 
-pub text-some : {s : Sort} (x : Tree s) → 1 ≤ length (textOf x)
+text-some : {s : Sort} (x : Tree s) → 1 ≤ length (textOf x)
 unfolding write
 text-some (constant v) = omega arith
 text-some (letter c) = omega arith
@@ -68,7 +68,7 @@ module _ (t : List ℕ) where
     pub end-within : at + length (textOf x) ≤ length t
     end-within = omega (arith, ap length (w .here), length-drop at t, length-write x (w .rest), text-some x)
 
-    pub end-is : endOf t s at ≡ at + length (textOf x)
+    end-is : endOf t s at ≡ at + length (textOf x)
     unfolding endOf
     end-is =
         let e = ap (λ q. restOf (run (part s whole) q)) (w .here) ∙ ap restOf (part-read x whole (w .rest) (w .letters) (w .clear)) ∙ rest-whole x (w .rest) in

@@ -1,35 +1,30 @@
--- An accepted text fits the table, and the rows found are its nodes'. The node of a number from 1 to the count stands in the text at its
--- row's first byte, so its own text is that part, and it is what the node prints.
-use mathlib.Core.Path.{_≡_, refl, sym, ap, ap₂, _∙_, subst}
+-- A call ends as its questions say. The node of a number from 1 to the count stands in the text at its row's first byte, so its own
+-- text is that part, and it is what the node prints.
+use mathlib.Core.Path.{_≡_, refl, sym, ap, ap₂, _∙_}
 use mathlib.Core.Bool.{_&&_, false≢true}
 use mathlib.Core.List.{List, [], _∷_, map}
-use Prim.Native.Nat.{ℕ, zero, suc, _+_, _-_, _≤_, _<_}
+use Prim.Native.Nat.{ℕ, _+_, _-_, _≤_, _<_}
 use native.Mathlib.Omega.{arith}
 use lib.Dec.{leb}
-use lib.ListN.{length, getD, drop, length-map, List·getD-append}
-use lib.Seq.{take-all}
+use lib.ListN.{length, getD, drop}
 use Rattle.refusal.specs.Asked.{question, asked}
 use Rattle.refusal.specs.declared.Refusal.{Refusal}
 use Rattle.refusal.specs.declared.Reply.{Reply}
 use Rattle.refusal.specs.declared.Reply.the-variants.{Yes, No}
 use Rattle.refusal.proofs.Laws.{asked-append, replied-yes, replied-no}
-use Rattle.grammar.specs.Limits.{maxLength, maxNodes}
+use Rattle.grammar.specs.Limits.{maxNodes}
 use Rattle.grammar.specs.Trees.{textOf}
 use Rattle.grammar.proofs.Bytes.{ranged}
-use Rattle.scan.specs.Scans.{scan, startAt, foundIn}
-use Rattle.scan.specs.declared.Ask.the-variants.{Nodes}
 use Rattle.formula.specs.Nodes.{Node, nodesIn}
 use Rattle.formula.specs.Questions.{formulaQuestions, acceptOf}
-use Rattle.formula.proofs.Lists.{All, flat-map}
-use Rattle.formula.proofs.Standing.{StandsNode, all-stand, end-within, text-is}
-use Rattle.formula.proofs.Found.{root-stands, found-in}
+use Rattle.formula.proofs.Standing.{end-within, text-is}
 use Rattle.formula.proofs.Asked.{asked-one, test-yes}
-use Rattle.formula.proofs.Laws.{accepted, nodes-read}
 use Rattle.rows.specs.Table.{rowOf, padded, tableOf}
-use Rattle.rows.specs.Rows.{startsIn, rowsAt}
 use Rattle.rows.specs.declared.Row.{Row}
 use Rattle.rows.specs.declared.NodeTable.{NodeTable}
-use Rattle.rows.proofs.Rows.{rows-found}
+use Rattle.rows.proofs.Steps.{field-at, drop-map}
+use Rattle.rows.proofs.Begun.{nodes-most}
+use Rattle.rows.proofs.Found.{Chosen, node-chosen}
 use Rattle.nodes.specs.Calls.{tabledOf, askNode, nodeQuestions, nodeRefusalOf, partPlace, nodePlaceOf, partOf, nodeTextOf}
 use Rattle.nodes.specs.declared.Located.the-variants.{Part, Refused}
 
@@ -39,24 +34,10 @@ module _ (C k : ℕ) (t : List ℕ) where
   table-refused n r e f = ap (λ (n : NodeTable). record { reply = No r; table = n }) f ∙ sym (replied-no (λ r. record { reply = No r; table = tableOf [] }) _ (formulaQuestions C k t) r e)
 
   module _ (e : acceptOf C k t ≡ Yes) where
-    firsts-found : foundIn Nodes t ≡ map (λ (w : Node). w .first) (nodesIn t)
-    firsts-found = found-in t Nodes (accepted C k t e .grammar) ∙ flat-map (λ (w : Node). w .first) (nodesIn t)
-
-    count-found : length (foundIn Nodes t) ≡ length (nodesIn t)
-    count-found = ap length firsts-found ∙ length-map (nodesIn t) (λ (w : Node). w .first)
-
-    pub fits : (length t ≤ maxLength) × (length (foundIn Nodes t) ≤ maxNodes)
-    fits = let a = accepted C k t e in (a .bytes .1, omega (arith, a .nodes, count-found, ap length (nodes-read t (a .root) (a .reads))))
-
-    pub table-made : (n : NodeTable) → n ≡ tableOf (rowsAt t 0 (foundIn Nodes t)) → record { reply = Yes; table = n } ≡ tabledOf C k t
+    pub table-made : (n : NodeTable) → n ≡ tableOf (map rowOf (nodesIn t)) → record { reply = Yes; table = n } ≡ tabledOf C k t
     unfolding tabledOf acceptOf
     table-made n f =
-        ap (λ (n : NodeTable). record { reply = Yes; table = n }) (f ∙ ap tableOf (rows-found C k t (accepted C k t e)))
-        ∙ sym (replied-yes (λ r. record { reply = No r; table = tableOf [] }) _ (formulaQuestions C k t) e)
-
-    pub count-is : startsIn t 0 (length t) ≡ length (nodesIn t)
-    unfolding foundIn
-    count-is = ap (λ (q : List ℕ). length (scan startAt q 0)) (take-all (length t - 0) t (omega arith)) ∙ count-found
+        ap (λ (n : NodeTable). record { reply = Yes; table = n }) f ∙ sym (replied-yes (λ r. record { reply = No r; table = tableOf [] }) _ (formulaQuestions C k t) e)
 
 -- questions 1 to 7, then 8
 yes-both : (q : List Reply) (z : Reply) → asked q No z ≡ Yes → (asked q No Yes ≡ Yes) × (z ≡ Yes)
@@ -73,44 +54,18 @@ module _ (C k x : ℕ) (t : List ℕ) where
   unfolding acceptOf
   refused-early r e = sym (refusal-is ∙ replied-no No (askNode x t) (formulaQuestions C k t) r e)
 
-  pub refused-last : acceptOf C k t ≡ Yes → (n : ℕ) (r : Reply) → n ≡ startsIn t 0 (length t) → r ≡ question 8 0 (leb 1 x && leb x n) → r ≡ nodeRefusalOf C k x t
+  pub refused-last : acceptOf C k t ≡ Yes → (n : ℕ) (r : Reply) → n ≡ length (nodesIn t) → r ≡ question 8 0 (leb 1 x && leb x n) → r ≡ nodeRefusalOf C k x t
   unfolding acceptOf askNode
   refused-last e n r p u =
-      u ∙ ap (λ (m : ℕ). question 8 0 (leb 1 x && leb x m)) (p ∙ count-is C k t e) ∙ sym (refusal-is ∙ replied-yes No (askNode x t) (formulaQuestions C k t) e)
+      u ∙ ap (λ (m : ℕ). question 8 0 (leb 1 x && leb x m)) p ∙ sym (refusal-is ∙ replied-yes No (askNode x t) (formulaQuestions C k t) e)
 
   pub place-refused : (r : Refusal) → nodeRefusalOf C k x t ≡ No r → nodePlaceOf C k x t ≡ Refused r
   unfolding nodePlaceOf nodeRefusalOf
   place-refused r e = replied-no Refused _ (nodeQuestions C k x t) r e
 
--- the node of a number
-node-after : (t : List ℕ) (l : List Node) (i : ℕ) → All (StandsNode t) l → i < length l → (w : Node) × StandsNode t w × (m : List Node) × (drop i l ≡ w ∷ m)
-node-after t [] i a h = absurd (omega arith)
-node-after t (w ∷ l) zero a h = (w, a .0, l, refl)
-node-after t (w ∷ l) (suc i) a h = node-after t l i (a .1) (omega arith)
-
-entry-after : (f : Node → ℕ) (l m : List Node) (i : ℕ) (w : Node) → drop i l ≡ w ∷ m → (i < length (map f l)) × (getD (map f l) i 0 ≡ f w)
-entry-after f [] m zero w e = absurd (false≢true cc)
-entry-after f [] m (suc i) w e = absurd (false≢true cc)
-entry-after f (v ∷ l) m zero w e = let h : v ≡ w = cc in (omega arith, ap f h)
-entry-after f (v ∷ l) m (suc i) w e = let g = entry-after f l m i w e in (omega (arith, g .0), g .1)
-
--- a field of its row
+-- a field of a node's row
 pub field-after : (g : Row → ℕ) (l m : List Node) (i : ℕ) (w : Node) → drop i l ≡ w ∷ m → getD (padded (map g (map rowOf l))) i 0 ≡ g (rowOf w)
-field-after g l m i w e =
-    let h = entry-after (λ (w : Node). g (rowOf w)) l m i w e in
-    let n : map g (map rowOf l) ≡ map (λ (w : Node). g (rowOf w)) l = map-map l in
-    ap (λ (q : List ℕ). getD (padded q) i 0) n ∙ List·getD-append (map (λ (w : Node). g (rowOf w)) l) _ 0 i (h .0) ∙ h .1
-  where
-    map-map : (l : List Node) → map g (map rowOf l) ≡ map (λ (w : Node). g (rowOf w)) l
-    map-map [] = refl
-    map-map (w ∷ l) = ap (λ (q : List ℕ). g (rowOf w) ∷ q) (map-map l)
-
--- the node x of an accepted text
-pub record Chosen (t : List ℕ) (x : ℕ) : Type 0 where
-  pub chosen : Node
-  pub stands : StandsNode t chosen
-  pub later : List Node
-  pub is : drop (x - 1) (nodesIn t) ≡ chosen ∷ later
+field-after g l m i w e = field-at g (map rowOf l) (map rowOf m) i (rowOf w) (drop-map rowOf i l ∙ ap (map rowOf) e)
 
 module _ (C k x : ℕ) (t : List ℕ) (e : nodeRefusalOf C k x t ≡ Yes) where
   pub both-yes : (acceptOf C k t ≡ Yes) × (askNode x t ≡ Yes)
@@ -121,35 +76,31 @@ module _ (C k x : ℕ) (t : List ℕ) (e : nodeRefusalOf C k x t ≡ Yes) where
   unfolding askNode
   numbered = ranged 1 (length (nodesIn t)) x (test-yes 8 0 _ (both-yes .1))
 
-  pub chosen : Chosen t x
-  chosen =
-      let a = accepted C k t (both-yes .0) in
-      let n = nodes-read t (a .root) (a .reads) in
-      let s : All (StandsNode t) (nodesIn t) = subst (All (StandsNode t)) (sym n) (all-stand t (a .root) 0 (root-stands t (a .root) (a .reads))) in
-      let (w, s, m, d) = node-after t (nodesIn t) (x - 1) s (omega (arith, numbered)) in
-      record { chosen = w; stands = s; later = m; is = d }
+  -- the node x
+  pub chosen : Chosen t (nodesIn t) (x - 1)
+  chosen = node-chosen t C k (x - 1) (both-yes .0) (omega (arith, numbered))
 
   pub index-fits : x - 1 < maxNodes
-  index-fits = omega (arith, numbered, fits C k t (both-yes .0), count-found C k t (both-yes .0))
+  index-fits = omega (arith, numbered, nodes-most C k t (both-yes .0))
 
   place-is : nodePlaceOf C k x t ≡ Part (chosen .chosen .first) (length (textOf (chosen .chosen .part)))
   unfolding nodePlaceOf nodeRefusalOf
-  place-is = replied-yes Refused _ (nodeQuestions C k x t) e ∙ ap partPlace (chosen .is)
+  place-is = replied-yes Refused _ (nodeQuestions C k x t) e ∙ ap partPlace (chosen .back)
 
   -- what the table has of it
   field-is : (g : Row → ℕ) → getD (padded (map g (map rowOf (nodesIn t)))) (x - 1) 0 ≡ g (rowOf (chosen .chosen))
-  field-is g = field-after g (nodesIn t) (chosen .later) (x - 1) (chosen .chosen) (chosen .is)
+  field-is g = field-after g (nodesIn t) _ (x - 1) (chosen .chosen) (chosen .back)
 
-  pub place-made : (n : NodeTable) → n ≡ tableOf (rowsAt t 0 (foundIn Nodes t)) → Part (getD (n .firsts) (x - 1) 0) (getD (n .lengths) (x - 1) 0) ≡ nodePlaceOf C k x t
+  pub place-made : (n : NodeTable) → n ≡ tableOf (map rowOf (nodesIn t)) → Part (getD (n .firsts) (x - 1) 0) (getD (n .lengths) (x - 1) 0) ≡ nodePlaceOf C k x t
   unfolding tableOf
   place-made n f =
-      ap (λ (n : NodeTable). Part (getD (n .firsts) (x - 1) 0) (getD (n .lengths) (x - 1) 0)) (f ∙ ap tableOf (rows-found C k t (accepted C k t (both-yes .0))))
+      ap (λ (n : NodeTable). Part (getD (n .firsts) (x - 1) 0) (getD (n .lengths) (x - 1) 0)) f
       ∙ ap₂ Part (field-is (λ (r : Row). r .first)) (field-is (λ (r : Row). r .length)) ∙ sym place-is
 
   -- a node's own text is what its subtree prints
   pub own-text : nodeTextOf C k x t ≡ textOf (chosen .chosen .part)
   unfolding nodeTextOf
-  own-text = ap (partOf t) place-is ∙ text-is t (chosen .chosen .part) (chosen .chosen .first) (chosen .stands)
+  own-text = ap (partOf t) place-is ∙ text-is t (chosen .chosen .part) (chosen .chosen .first) (chosen .own .stands)
 
 -- a node's own text is within the lent one
 pub part-within : (C k x : ℕ) (t : List ℕ) (a b : ℕ) → nodePlaceOf C k x t ≡ Part a b → a + b ≤ length t
@@ -161,5 +112,5 @@ part-within C k x t a b p = go (nodeRefusalOf C k x t) refl
         let q = sym (place-is C k x t e) ∙ p in
         let f : w .chosen .first ≡ a = cc in
         let l : length (textOf (w .chosen .part)) ≡ b = cc in
-        omega (arith, end-within t (w .chosen .part) (w .chosen .first) (w .stands))
+        omega (arith, end-within t (w .chosen .part) (w .chosen .first) (w .own .stands))
     go (No r) e = let q = sym (place-refused C k x t r e) ∙ p in absurd (false≢true cc)

@@ -3,6 +3,11 @@ use refusal::Refusal;
 use refusal::Reply;
 use rows::NodeTable;
 ghost use mathlib.Core.Path.{_≡_};
+ghost use Prim.Native.Nat.{ℕ};
+ghost use lib.ListN.{length};
+ghost use Rattle.refusal.specs.declared.Reply.the-variants.{Yes};
+ghost use Rattle.formula.specs.Nodes.{nodesIn};
+ghost use Rattle.formula.specs.Questions.{acceptOf};
 ghost use Rattle.nodes.specs.Calls.{tabledOf, nodeRefusalOf, nodePlaceOf, nodeTextOf};
 
 // The answer to questions 1 to 7, and the table: no nodes where refused.
@@ -34,6 +39,23 @@ pub fn node_table(text: &[u8], c: u32, k: u32) -> Tabled
     }
 }
 
+// How many nodes an accepted text has: a loop over its bytes, a node at each first byte.
+fn node_count(text: &[u8]) -> usize
+    requires { ⌜ ((C : ℕ) × (k : ℕ) × (acceptOf C k (now text) ≡ Yes)) ⌝ }
+    ensures { λ r. ⌜ r ≡ length (nodesIn (now (text .entry))) ⌝ }
+{
+    let mut n: usize = 0;
+    let mut i = 0;
+    while i < text.len() {
+        let first = grammar::is_start(text[i]);
+        i += 1;
+        if first {
+            n += 1;
+        }
+    }
+    n
+}
+
 // The number and place of the refusal of a node's text: questions 1 to 8.
 pub fn node_refusal(text: &[u8], c: u32, k: u32, x: u32) -> Reply
     ensures { λ r. ⌜ r ≡ nodeRefusalOf c k x (now (text .entry)) ⌝ }
@@ -41,7 +63,7 @@ pub fn node_refusal(text: &[u8], c: u32, k: u32, x: u32) -> Reply
     if let Reply::No(r) = formula::accept(text, c, k) {
         return Reply::No(r);
     }
-    let count = rows::starts_in(text, 0, text.len());
+    let count = node_count(text);
     refusal::ask_within(8, x as usize, 1, count)
 }
 

@@ -1,2 +1,4 @@
 pub mod Steps
+pub mod Begun
 pub mod Rows
+pub mod Found

@@ -1,112 +1,67 @@
--- Counting the nodes that begin in a part of the text goes byte by byte: the byte at i, and those from i + 1 on. The table fills
--- likewise: a store just behind the rows so far makes them one more.
+-- A column of the table is its rows' fields, and 0 beyond: so a field is read where its row stands, a store just behind the rows makes
+-- them one more, and a store at a row is another row there.
 use mathlib.Core.Path.{_≡_, refl, sym, ap, ap₂, _∙_}
-use mathlib.Core.Bool.{Bool, true, false, cond}
-use mathlib.Core.List.{List, [], _∷_, _++_, append-assoc, append-nil, map, map-append}
-use Prim.Native.Nat.{ℕ, suc, _+_, _-_, _≤_, _<_}
+use mathlib.Core.Bool.{false≢true}
+use mathlib.Core.List.{List, [], _∷_, _++_, append-assoc, map, map-append}
+use Prim.Native.Nat.{ℕ, zero, suc, _-_, _<_}
 use native.Mathlib.Omega.{arith}
-use native.Mathlib.Numerals.{add-one}
-use lib.ListN.{length, getD, take, drop, set, replicate, length-append, length-map}
+use lib.ListN.{length, getD, drop, set, replicate, length-append, length-map, List·getD-append}
 use lib.Seq.{set-at}
 use Rattle.grammar.specs.Limits.{maxNodes}
-use Rattle.grammar.specs.Reader.{isStart}
-use Rattle.reader.proofs.Parts.{at-byte}
-use Rattle.grammar.specs.declared.Sort.{Sort}
-use Rattle.reader.specs.Parts.{endOf}
-use Rattle.scan.specs.Scans.{scan, startAt, foundIn}
-use Rattle.scan.specs.declared.Ask.the-variants.{Nodes}
-use Rattle.scan.proofs.Loops.{scan-at, scan-end}
-use Rattle.rows.specs.Table.{padded, tableOf}
-use Rattle.rows.specs.Rows.{countIf, startsIn, headAt, rowAt, sortAt, untilAt, withRow, rowsAt}
-use Rattle.rows.specs.declared.Head.{Head}
+use Rattle.rows.specs.Table.{padded}
 use Rattle.rows.specs.declared.Row.{Row}
-use Rattle.rows.specs.declared.NodeTable.{NodeTable}
 
-module _ (t : List ℕ) (i e : ℕ) where
-  counted : (c : Bool) (q : List ℕ) → length (cond c (i ∷ []) [] ++ q) ≡ countIf c + length q
-  counted true q = omega arith
-  counted false q = omega arith
+-- a field of the row that stands at i
+entry-after : {A : Type 0} (f : A → ℕ) (l m : List A) (i : ℕ) (r : A) → drop i l ≡ r ∷ m → (i < length (map f l)) × (getD (map f l) i 0 ≡ f r)
+entry-after f [] m zero r e = absurd (false≢true cc)
+entry-after f [] m (suc i) r e = absurd (false≢true cc)
+entry-after f (v ∷ l) m zero r e = let h : v ≡ r = cc in (omega arith, ap f h)
+entry-after f (v ∷ l) m (suc i) r e = let g = entry-after f l m i r e in (omega (arith, g .0), g .1)
 
-  pub count-step : i < e → i < length t → startsIn t i e ≡ countIf (isStart (getD t i 0)) + startsIn t (i + 1) e
-  unfolding scan
-  count-step h k =
-      let n : e - i ≡ suc (e - (i + 1)) = omega arith in
-      let q : List ℕ = take (e - (i + 1)) (drop (i + 1) t) in
-      ap₂ (λ (m : ℕ) (l : List ℕ). length (scan startAt (take m l) i)) n (at-byte t i k)
-      ∙ counted (isStart (getD t i 0)) (scan startAt q (suc i))
-      ∙ ap (λ (p : ℕ). countIf (isStart (getD t i 0)) + length (scan startAt q p)) (sym (add-one i))
+pub field-at : (f : Row → ℕ) (l m : List Row) (i : ℕ) (r : Row) → drop i l ≡ r ∷ m → getD (padded (map f l)) i 0 ≡ f r
+field-at f l m i r e = let h = entry-after f l m i r e in List·getD-append (map f l) _ 0 i (h .0) ∙ h .1
 
-  pub count-end : e ≤ i → startsIn t i e ≡ 0
-  unfolding scan
-  count-end h = let n : e - i ≡ 0 = omega arith in ap (λ (m : ℕ). length (scan startAt (take m (drop i t)) i)) n
+pub drop-map : {A B : Type 0} (f : A → B) (n : ℕ) (l : List A) → drop n (map f l) ≡ map f (drop n l)
+drop-map f zero l = refl
+drop-map f (suc n) [] = refl
+drop-map f (suc n) (w ∷ l) = drop-map f n l
 
-pub row-is : (t : List ℕ) (s : Sort) (at : ℕ) (h : Head) (size e n : ℕ) → h ≡ headAt t s at → e ≡ endOf t s at → size ≡ startsIn t at e → n ≡ e - at
-    → record { head = h; size = size; first = at; length = n } ≡ rowAt t s at
-unfolding rowAt
-row-is t s at h size e n p q r w = rw (p, r, w, q)
+module _ (f : Row → ℕ) (done : List Row) where
+  -- a column of fewer rows than there is room for, and one row more
+  module _ (r : Row) (h : length done < maxNodes) where
+    abbrev room : List ℕ
+    room = replicate (maxNodes - length (map f (done ++ r ∷ []))) 0
 
--- a table of fewer rows than it has room for, and one row more
-module _ (done : List Row) (r : Row) (h : length done < maxNodes) where
-  more-padded : (f : Row → ℕ) → set (padded (map f done)) (length done) (f r) ≡ padded (map f (done ++ r ∷ []))
-  more-padded f =
-      let n = length-map done f in
-      let e : maxNodes - length (map f done) ≡ suc (maxNodes - length (map f done ++ f r ∷ [])) = omega (arith, n, length-append (map f done) (f r ∷ [])) in
-      ap (λ (m : ℕ). set (map f done ++ replicate m 0) (length done) (f r)) e ∙ set-at (map f done) 0 _ (f r) (length done) n
-      ∙ sym (append-assoc (map f done) (f r ∷ []) _) ∙ ap padded (sym (map-append f done (r ∷ [])))
+    room-more : padded (map f done) ≡ map f done ++ (0 ∷ room)
+    room-more =
+        let e : maxNodes - length (map f done) ≡ suc (maxNodes - length (map f (done ++ r ∷ []))) =
+        omega (arith, length-map done f, length-map (done ++ r ∷ []) f, length-append done (r ∷ [])) in
+        ap (λ (m : ℕ). map f done ++ replicate m 0) e
 
-  table-more : withRow (tableOf done) r ≡ tableOf (done ++ r ∷ [])
-  unfolding tableOf
-  table-more = rw (more-padded (λ (r : Row). r .head .kind), more-padded (λ (r : Row). r .head .number), more-padded (λ (r : Row). r .size), more-padded (λ (r : Row). r .first), more-padded (λ (r : Row). r .length), length-append done (r ∷ []))
+    column-more : (v : ℕ) → v ≡ f r → map f done ++ (v ∷ room) ≡ padded (map f (done ++ r ∷ []))
+    column-more v e =
+        ap (λ (v : ℕ). map f done ++ (v ∷ room)) e ∙ sym (append-assoc (map f done) (f r ∷ []) room) ∙ ap (λ (q : List ℕ). q ++ room) (sym (map-append f done (r ∷ [])))
 
-length-rows : (t : List ℕ) (until : ℕ) (l : List ℕ) → length (rowsAt t until l) ≡ length l
-unfolding rowsAt
-length-rows t until [] = refl
-length-rows t until (p ∷ l) = ap suc (length-rows t (untilAt t until p) l)
+    pub stored-more : set (padded (map f done)) (length done) (f r) ≡ padded (map f (done ++ r ∷ []))
+    stored-more = ap (λ (q : List ℕ). set q (length done) (f r)) room-more ∙ set-at (map f done) 0 room (f r) (length done) (length-map done f) ∙ column-more (f r) refl
 
--- the rows so far, and those that are left
-pub record Filled (t : List ℕ) (table : NodeTable) (until i : ℕ) : Type 0 where
-  pub within : i ≤ length t
-  pub done : List Row
-  pub is : table ≡ tableOf done
-  pub same : done ++ rowsAt t until (scan startAt (drop i t) i) ≡ rowsAt t 0 (foundIn Nodes t)
+    pub kept-more : 0 ≡ f r → padded (map f done) ≡ padded (map f (done ++ r ∷ []))
+    kept-more e = room-more ∙ column-more 0 e
 
-pub filled-begun : (t : List ℕ) (table : NodeTable) → table ≡ tableOf [] → Filled t table 0 0
-unfolding foundIn
-filled-begun t table e = record { within = omega arith; done = []; is = e; same = refl }
+  -- another row in the place of one
+  module _ (r r′ : Row) (later : List Row) where
+    same-count : length (map f (done ++ r ∷ later)) ≡ length (map f (done ++ r′ ∷ later))
+    same-count = omega (arith, length-map (done ++ r ∷ later) f, length-map (done ++ r′ ∷ later) f, length-append done (r ∷ later), length-append done (r′ ∷ later))
 
-module _ (t : List ℕ) (table : NodeTable) (until i : ℕ) (w : Filled t table until i) where
-  pub filled-done : length t ≤ i → table ≡ tableOf (rowsAt t 0 (foundIn Nodes t))
-  unfolding rowsAt
-  filled-done h = w .is ∙ ap tableOf (sym (append-nil (w .done)) ∙ ap (λ (l : List ℕ). w .done ++ rowsAt t until l) (sym (scan-end startAt t i h)) ∙ w .same)
+    split : (r : Row) → padded (map f (done ++ r ∷ later)) ≡ map f done ++ (f r ∷ map f later ++ replicate (maxNodes - length (map f (done ++ r ∷ later))) 0)
+    split r =
+        ap (λ (q : List ℕ). q ++ replicate (maxNodes - length (map f (done ++ r ∷ later))) 0) (map-append f done (r ∷ later)) ∙ append-assoc (map f done) (f r ∷ map f later) _
 
-  module _ (h : i < length t) where
-    pub filled-skip : isStart (getD t i 0) ≡ false → Filled t table until (i + 1)
-    filled-skip e = record {
-      within = omega arith;
-      done = w .done;
-      is = w .is;
-      same = ap (λ (l : List ℕ). w .done ++ rowsAt t until l) (sym (scan-at startAt t i h ∙ ap (λ (c : Bool). cond c (i ∷ []) [] ++ scan startAt (drop (i + 1) t) (i + 1)) e)) ∙ w .same;
-    }
+    filled : (v : ℕ) → v ≡ f r′ → map f done ++ (v ∷ map f later ++ replicate (maxNodes - length (map f (done ++ r ∷ later))) 0) ≡ padded (map f (done ++ r′ ∷ later))
+    filled v e = ap₂ (λ (v n : ℕ). map f done ++ (v ∷ map f later ++ replicate (maxNodes - n) 0)) e same-count ∙ sym (split r′)
 
-    module _ (e : isStart (getD t i 0) ≡ true) (m : length (foundIn Nodes t) ≤ maxNodes) where
-      rows-left : w .done ++ (rowAt t (sortAt until i) i ∷ rowsAt t (untilAt t until i) (scan startAt (drop (i + 1) t) (i + 1))) ≡ rowsAt t 0 (foundIn Nodes t)
-      unfolding rowsAt
-      rows-left = ap (λ (l : List ℕ). w .done ++ rowsAt t until l) (sym (scan-at startAt t i h ∙ ap (λ (c : Bool). cond c (i ∷ []) [] ++ scan startAt (drop (i + 1) t) (i + 1)) e)) ∙ w .same
+    pub stored-at : set (padded (map f (done ++ r ∷ later))) (length done) (f r′) ≡ padded (map f (done ++ r′ ∷ later))
+    stored-at = ap (λ (q : List ℕ). set q (length done) (f r′)) (split r) ∙ set-at (map f done) (f r) _ (f r′) (length done) (length-map done f) ∙ filled (f r′) refl
 
-      room : length (w .done) < maxNodes
-      room = omega (arith, m, ap length rows-left, length-append (w .done) (rowAt t (sortAt until i) i ∷ rowsAt t (untilAt t until i) (scan startAt (drop (i + 1) t) (i + 1))), length-rows t 0 (foundIn Nodes t))
-
-      pub filled-room : table .count < maxNodes
-      unfolding tableOf
-      filled-room = omega (arith, room, ap (λ (n : NodeTable). n .count) (w .is))
-
-      pub filled-row : (table′ : NodeTable) (r : Row) (s : Sort) (until′ : ℕ) → s ≡ sortAt until i → r ≡ rowAt t s i → table′ ≡ withRow table r → until′ ≡ untilAt t until i → Filled t table′ until′ (i + 1)
-      filled-row table′ r s until′ p q u v =
-          let g : r ≡ rowAt t (sortAt until i) i = q ∙ ap (λ (s : Sort). rowAt t s i) p in
-          record {
-            within = omega arith;
-            done = w .done ++ rowAt t (sortAt until i) i ∷ [];
-            is = u ∙ ap₂ withRow (w .is) g ∙ table-more (w .done) (rowAt t (sortAt until i) i) room;
-            same = ap (λ (n : ℕ). (w .done ++ rowAt t (sortAt until i) i ∷ []) ++ rowsAt t n (scan startAt (drop (i + 1) t) (i + 1))) v
-                ∙ append-assoc (w .done) (rowAt t (sortAt until i) i ∷ []) _ ∙ rows-left;
-          }
+    pub kept-at : f r ≡ f r′ → padded (map f (done ++ r ∷ later)) ≡ padded (map f (done ++ r′ ∷ later))
+    kept-at e = split r ∙ filled (f r) e

@@ -1,80 +1,65 @@
--- A node's row as the code finds it, from the place of its first byte: the law `rows-found` says that these are the tree's rows.
-use mathlib.Core.Bool.{Bool, true, false, cond, _||_}
-use mathlib.Core.List.{List, [], _∷_}
+-- A node's row as the code finds it, from its first byte and the rows of its parts: the law `row-found` says that it is the tree's row.
+use mathlib.Core.Bool.{cond, _||_}
+use mathlib.Core.List.{List}
 use Prim.Native.Nat.{ℕ, _+_, _-_}
 use lib.Dec.{eqb, ltb}
-use lib.ListN.{length, getD, take, drop, set}
-use Rattle.grammar.specs.Reader.{isLetter, leadOf, jointOf}
-use Rattle.grammar.specs.declared.Sort.{Sort}
-use Rattle.grammar.specs.declared.Sort.the-variants.{State, Formula}
+use lib.ListN.{getD, drop}
+use Rattle.grammar.specs.Reader.{leadOf}
+use Rattle.grammar.specs.declared.Sort.the-variants.{Formula}
 use Rattle.grammar.specs.declared.Lead.{Lead}
 use Rattle.grammar.specs.declared.Lead.the-variants.{Leaf, Not, Open, Measure, Enter, Other}
-use Rattle.grammar.specs.declared.Joint.{Joint}
-use Rattle.grammar.specs.declared.Joint.the-variants.{And, Or, Chop, Nothing}
-use Rattle.reader.specs.Parts.{endOf}
-use Rattle.scan.specs.Scans.{scan, startAt, numberOf}
+use Rattle.scan.specs.Scans.{numberFrom}
+use Rattle.formula.specs.Nodes.{Node}
 use Rattle.rows.specs.Table.{sortCode, constantCode, heading}
-use Rattle.rows.specs.declared.Head.{Head}
+use Rattle.rows.specs.declared.Part.{Part}
 use Rattle.rows.specs.declared.Row.{Row}
-use Rattle.rows.specs.declared.NodeTable.{NodeTable}
 
-abbrev pub jointCode : Joint → ℕ
-jointCode And = 3
-jointCode Or = 4
-jointCode Chop = 5
-jointCode Nothing = 0
+-- the number of the sort of what stands after a byte: `#` and `[` begin a state assertion, `>` and `]` stand at its end
+abbrev pub codeAfter : ℕ → ℕ → ℕ
+codeAfter code b = cond (eqb b 35 || eqb b 91) 0 (cond (eqb b 62 || eqb b 93) 16 code)
 
-abbrev pub leafHead : Sort → ℕ → Head
-leafHead s b = cond (isLetter b) (heading 6 (b - 97)) (heading (sortCode s + constantCode (eqb b 84)) 0)
+-- a row before its parts are known: the number of its sort, and its first byte
+abbrev pub begunRow : ℕ → ℕ → Row
+begunRow code at = record { head = heading code 0; size = 0; first = at; length = 0 }
 
--- what joins the parts of the node at a place: the byte after its first part
-abbrev pub linkAt : List ℕ → Sort → ℕ → ℕ
-linkAt t s at = jointCode (jointOf s (getD t (endOf t s (at + 1)) 0))
+abbrev pub begun : Node → Row
+begun w = begunRow (sortCode (w .sort)) (w .first)
 
-abbrev pub headBy : List ℕ → Sort → ℕ → Lead → Head
-headBy t s at Leaf = leafHead s (getD t at 0)
-headBy t s at Not = heading (sortCode s + 2) 0
-headBy t s at Open = heading (sortCode s + linkAt t s at) 0
-headBy t s at Measure = heading 23 (numberOf t at)
-headBy t s at Enter = heading 24 0
-headBy t s at Other = heading 0 0
+-- what the byte after its first part says of a node: `&` 3, `|` 4, `;` 5
+abbrev pub linkOf : ℕ → ℕ
+linkOf b = cond (eqb b 38) 3 (cond (eqb b 124) 4 (cond (eqb b 59) 5 0))
 
-abbrev pub headAt : List ℕ → Sort → ℕ → Head
-headAt t s at = headBy t s at (leadOf s (getD t at 0))
+-- how many digits a number within the limit has
+abbrev pub digitsOf : ℕ → ℕ
+digitsOf n = cond (ltb n 10) 1 2
 
-abbrev pub countIf : Bool → ℕ
-countIf true = 1
-countIf false = 0
+-- the part at a row
+abbrev pub partAt : List ℕ → List ℕ → ℕ → Part
+partAt sizes lengths x = record { size = getD sizes x 0; length = getD lengths x 0 }
 
--- how many nodes begin from a place on, before another
-abbrev pub startsIn : List ℕ → ℕ → ℕ → ℕ
-startsIn t a e = length (scan startAt (take (e - a) (drop a t)) a)
+-- a duration's row, n its number and p its part
+abbrev pub durationRow : ℕ → ℕ → Part → Row
+durationRow n at p = record { head = heading 23 n; size = 1 + p .size; first = at; length = 1 + p .length + 2 + digitsOf n }
 
-unfoldable pub rowAt : List ℕ → Sort → ℕ → Row
-rowAt t s at = record { head = headAt t s at; size = startsIn t at (endOf t s at); first = at; length = endOf t s at - at }
-
--- state assertions stand before the place `until`, where the last `#` or `[` has its own end
-abbrev pub sortAt : ℕ → ℕ → Sort
-sortAt until at = cond (ltb at until) State Formula
-
-abbrev pub isInner : ℕ → Bool
-isInner b = eqb b 35 || eqb b 91
-
-abbrev pub untilAt : List ℕ → ℕ → ℕ → ℕ
-untilAt t until at = cond (isInner (getD t at 0)) (endOf t State (at + 1)) until
-
--- the rows at some places
-unfoldable pub rowsAt : List ℕ → ℕ → List ℕ → List Row
-rowsAt t until [] = []
-rowsAt t until (p ∷ ps) = rowAt t (sortAt until p) p ∷ rowsAt t (untilAt t until p) ps
-
--- a table with one row more
-abbrev pub withRow : NodeTable → Row → NodeTable
-withRow n r = record {
-  count = n .count + 1;
-  kinds = set (n .kinds) (n .count) (r .head .kind);
-  numbers = set (n .numbers) (n .count) (r .head .number);
-  sizes = set (n .sizes) (n .count) (r .size);
-  firsts = set (n .firsts) (n .count) (r .first);
-  lengths = set (n .lengths) (n .count) (r .length);
+-- the row of the node that the byte b begins at a place, p and q its parts: the first follows b
+abbrev pub rowBy : List ℕ → ℕ → ℕ → ℕ → Part → Part → Lead → Row
+rowBy t b code at p q Leaf = record { head = heading (code + constantCode (eqb b 84)) 0; size = 1; first = at; length = 1 }
+rowBy t b code at p q Not = record { head = heading (code + 2) 0; size = 1 + p .size; first = at; length = 1 + p .length }
+rowBy t b code at p q Open = record {
+  head = heading (code + linkOf (getD t (at + (1 + p .length)) 0)) 0;
+  size = 1 + p .size + q .size;
+  first = at;
+  length = 1 + p .length + q .length + 2;
 }
+rowBy t b code at p q Measure = durationRow (numberFrom 0 (drop (at + (1 + p .length) + 2) t)) at p
+rowBy t b code at p q Enter = record { head = heading 24 0; size = 1 + p .size; first = at; length = 1 + p .length + 1 }
+rowBy t b code at p q Other = record { head = heading 6 (b - 97); size = 1; first = at; length = 1 }
+
+unfoldable pub rowFrom : List ℕ → ℕ → ℕ → ℕ → Part → Part → Row
+rowFrom t b code at p q = rowBy t b code at p q (leadOf Formula b)
+
+-- the row x, from the rows of its parts: the first part's is the next, the second part's comes after all of the first's
+unfoldable pub rowAt : List ℕ → List ℕ → List ℕ → List ℕ → List ℕ → ℕ → Row
+rowAt t kinds sizes firsts lengths x =
+    let at = getD firsts x 0 in
+    rowFrom t (getD t at 0) (getD kinds x 0) at (partAt sizes lengths (x + 1)) (partAt sizes lengths (x + 1 + getD sizes (x + 1) 0))

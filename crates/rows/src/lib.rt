@@ -1,17 +1,18 @@
 // The flat node table of a text: what each node is, its size, and where its text is.
-use grammar::Joint;
 use grammar::Lead;
 use grammar::MAX_NODES;
 use grammar::Sort;
 ghost use mathlib.Core.Path.{_≡_};
-ghost use mathlib.Core.List.{[]};
-ghost use Prim.Native.Nat.{_-_, _≤_, _<_};
+ghost use mathlib.Core.List.{[], map};
+ghost use Prim.Native.Nat.{ℕ, _+_, _-_, _≤_, _<_};
+ghost use lib.Dec.{eqb};
 ghost use lib.ListN.{length, getD};
-ghost use Rattle.grammar.specs.Limits.{maxLength, maxNodes};
-ghost use Rattle.scan.specs.Scans.{foundIn};
-ghost use Rattle.scan.specs.declared.Ask.the-variants.{Nodes};
-ghost use Rattle.rows.specs.Table.{sortCode, tableOf};
-ghost use Rattle.rows.specs.Rows.{jointCode, leafHead, linkAt, headAt, countIf, startsIn, rowAt, isInner, untilAt, sortAt, withRow, rowsAt};
+ghost use Rattle.refusal.specs.declared.Reply.the-variants.{Yes};
+ghost use Rattle.grammar.specs.Limits.{maxNodes};
+ghost use Rattle.formula.specs.Nodes.{nodesIn};
+ghost use Rattle.formula.specs.Questions.{acceptOf};
+ghost use Rattle.rows.specs.Table.{constantCode, heading, rowOf, tableOf};
+ghost use Rattle.rows.specs.Rows.{codeAfter, begun, linkOf, digitsOf, partAt, rowFrom, rowAt};
 
 // What a node is: its kind, numbered as in specs/Table.antt, and its number (a letter's channel, a duration's n).
 pub struct Head {
@@ -22,9 +23,15 @@ pub struct Head {
 // A node: what it is, how many nodes it has, its first byte and how many bytes.
 pub struct Row {
     pub head: Head,
-    pub size: u8,
-    pub first: u8,
-    pub length: u8,
+    pub size: usize,
+    pub first: usize,
+    pub length: usize,
+}
+
+// A part of a node: how many nodes it has, and how many bytes.
+pub struct Part {
+    pub size: usize,
+    pub length: usize,
 }
 
 // The nodes in number order, an array for each field.
@@ -44,160 +51,6 @@ pub fn byte_at(text: &[u8], at: usize) -> u8
     if at < text.len() { text[at] } else { 0 }
 }
 
-fn sort_code(s: Sort) -> u8
-    ensures { λ r. ⌜ (r ≡ sortCode s) × (r ≤ 16) ⌝ }
-{
-    match s {
-        Sort::State => 0,
-        Sort::Formula => 16,
-    }
-}
-
-fn joint_code(j: Joint) -> u8
-    ensures { λ r. ⌜ (r ≡ jointCode j) × (r ≤ 5) ⌝ }
-{
-    match j {
-        Joint::And => 3,
-        Joint::Or => 4,
-        Joint::Chop => 5,
-        Joint::Nothing => 0,
-    }
-}
-
-// What a part of one byte is.
-fn leaf_head(s: Sort, b: u8) -> Head
-    ensures { λ r. ⌜ r ≡ leafHead s b ⌝ }
-{
-    if grammar::is_letter(b) {
-        return Head {
-            kind: 6,
-            number: b - 97,
-        };
-    }
-    if b == b'T' {
-        return Head {
-            kind: sort_code(s) + 1,
-            number: 0,
-        };
-    }
-    Head {
-        kind: sort_code(s),
-        number: 0,
-    }
-}
-
-// What joins the parts of the node at a place: the byte after its first part tells.
-fn link_at(text: &[u8], s: Sort, at: usize) -> u8
-    requires { ⌜ at < length (now text) ⌝ }
-    ensures { λ r. ⌜ (r ≡ linkAt (now (text .entry)) s at) × (r ≤ 5) ⌝ }
-{
-    joint_code(grammar::joint_of(s, byte_at(text, reader::part_end(text, s, at + 1))))
-}
-
-// What the node of the sort that stands at a place is.
-fn head_at(text: &[u8], s: Sort, at: usize) -> Head
-    requires { ⌜ (length (now text) ≤ maxLength) × (at < length (now text)) ⌝ }
-    ensures { λ r. ⌜ r ≡ headAt (now (text .entry)) s at ⌝ }
-{
-    let b = text[at];
-    let l = grammar::lead_of(s, b);
-    match l {
-        Lead::Leaf => leaf_head(s, b),
-        Lead::Not => Head {
-            kind: sort_code(s) + 2,
-            number: 0,
-        },
-        Lead::Open => Head {
-            kind: sort_code(s) + link_at(text, s, at),
-            number: 0,
-        },
-        Lead::Measure => {
-            let n = scan::number_of(text, at);
-            Head {
-                kind: 23,
-                number: n.value as u8,
-            }
-        }
-        Lead::Enter => Head {
-            kind: 24,
-            number: 0,
-        },
-        Lead::Other => Head { kind: 0, number: 0 },
-    }
-}
-
-fn count_if(yes: bool) -> usize
-    ensures { λ r. ⌜ (r ≡ countIf yes) × (r ≤ 1) ⌝ }
-{
-    if yes { 1 } else { 0 }
-}
-
-// How many nodes begin from a place on, before another.
-pub fn starts_in(text: &[u8], a: usize, e: usize) -> usize
-    requires { ⌜ (a ≤ length (now text)) × (e ≤ length (now text)) ⌝ }
-    ensures { λ r. ⌜ (r ≡ startsIn (now (text .entry)) a e) × (r ≤ length (now (text .entry))) ⌝ }
-{
-    let mut n: usize = 0;
-    let mut i = a;
-    while i < e {
-        n += count_if(grammar::is_start(text[i]));
-        i += 1;
-    }
-    n
-}
-
-// a - b, and 0 where b is larger.
-fn less(a: usize, b: usize) -> usize
-    ensures { λ r. ⌜ r ≡ a - b ⌝ }
-{
-    if a > b { a - b } else { 0 }
-}
-
-// The row of the node of the sort that stands at a place.
-fn row_at(text: &[u8], s: Sort, at: usize) -> Row
-    requires { ⌜ (length (now text) ≤ maxLength) × (at < length (now text)) ⌝ }
-    ensures { λ r. ⌜ r ≡ rowAt (now (text .entry)) s at ⌝ }
-{
-    let e = reader::part_end(text, s, at);
-    let size = starts_in(text, at, e);
-    let length = less(e, at);
-    let head = head_at(text, s, at);
-    Row {
-        head,
-        size: size as u8,
-        first: at as u8,
-        length: length as u8,
-    }
-}
-
-fn is_inner(b: u8) -> bool
-    ensures { λ r. ⌜ r ≡ isInner b ⌝ }
-{
-    b == b'#' || b == b'['
-}
-
-// Where the state assertions end that stand after the byte at a place, a `#` or `[` there or earlier.
-fn until_at(text: &[u8], until: usize, at: usize) -> usize
-    requires { ⌜ at < length (now text) ⌝ }
-    ensures { λ r. ⌜ r ≡ untilAt (now (text .entry)) until at ⌝ }
-{
-    if is_inner(text[at]) {
-        return reader::part_end(text, Sort::State, at + 1);
-    }
-    until
-}
-
-// State assertions stand before `until`.
-fn sort_at(until: usize, at: usize) -> Sort
-    ensures { λ r. ⌜ r ≡ sortAt until at ⌝ }
-{
-    if at < until {
-        Sort::State
-    } else {
-        Sort::Formula
-    }
-}
-
 // No rows.
 pub fn empty_table() -> NodeTable
     ensures { λ r. ⌜ r ≡ tableOf [] ⌝ }
@@ -213,39 +66,164 @@ pub fn empty_table() -> NodeTable
     }
 }
 
-// One row more.
-fn with_row(table: NodeTable, row: Row) -> NodeTable
-    requires { ⌜ table .count < maxNodes ⌝ }
-    ensures { λ r. ⌜ r ≡ withRow table row ⌝ }
+// The number of the sort of what stands after a byte: 0 for state assertions, 16 for formulas.
+fn code_after(code: u8, b: u8) -> u8
+    ensures { λ r. ⌜ r ≡ codeAfter code b ⌝ }
 {
-    let mut t = table;
-    let x = t.count;
-    let h = row.head;
-    t.kinds[x] = h.kind;
-    t.numbers[x] = h.number;
-    t.sizes[x] = row.size;
-    t.firsts[x] = row.first;
-    t.lengths[x] = row.length;
-    t.count = x + 1;
-    t
+    match b {
+        b'#' => 0,
+        b'[' => 0,
+        b'>' => 16,
+        b']' => 16,
+        _ => code,
+    }
 }
 
-// The rows of a text that reads: a loop over its bytes, a row at each first byte.
-pub fn rows_of(text: &[u8]) -> NodeTable
-    requires { ⌜ (length (now text) ≤ maxLength) × (length (foundIn Nodes (now text)) ≤ maxNodes) ⌝ }
-    ensures { λ r. ⌜ r ≡ tableOf (rowsAt (now (text .entry)) 0 (foundIn Nodes (now (text .entry)))) ⌝ }
+// The rows of an accepted text before their parts are known: a loop over its bytes, a row at each first byte.
+fn begun_rows(text: &[u8]) -> NodeTable
+    requires { ⌜ ((C : ℕ) × (k : ℕ) × (acceptOf C k (now text) ≡ Yes)) ⌝ }
+    ensures { λ r. ⌜ r ≡ tableOf (map begun (nodesIn (now (text .entry)))) ⌝ }
 {
     let mut table = empty_table();
-    let mut until: usize = 0;
+    let mut code: u8 = 16;
     let mut i = 0;
     while i < text.len() {
-        if !grammar::is_start(text[i]) {
+        let b = text[i];
+        let own = code;
+        code = code_after(own, b);
+        if !grammar::is_start(b) {
             i += 1;
             continue;
         }
-        table = with_row(table, row_at(text, sort_at(until, i), i));
-        until = until_at(text, until, i);
+        let x = table.count;
+        table.kinds[x] = own;
+        table.firsts[x] = i as u8;
+        table.count = x + 1;
         i += 1;
+    }
+    table
+}
+
+// Which constant `T` or `F` is.
+fn constant_code(b: u8) -> u8
+    ensures { λ r. ⌜ (r ≡ constantCode (eqb b 84)) × (r ≤ 1) ⌝ }
+{
+    if b == b'T' { 1 } else { 0 }
+}
+
+// What joins the parts of a node: the byte after its first part tells.
+fn link_of(b: u8) -> u8
+    ensures { λ r. ⌜ (r ≡ linkOf b) × (r ≤ 5) ⌝ }
+{
+    match b {
+        b'&' => 3,
+        b'|' => 4,
+        b';' => 5,
+        _ => 0,
+    }
+}
+
+// The channel of a letter.
+fn channel_of(b: u8) -> u8
+    ensures { λ r. ⌜ r ≡ b - 97 ⌝ }
+{
+    if b > b'a' { b - b'a' } else { 0 }
+}
+
+// How many digits a number within the limit has.
+fn digits_of(n: usize) -> usize
+    ensures { λ r. ⌜ (r ≡ digitsOf n) × (r ≤ 2) ⌝ }
+{
+    if n < 10 { 1 } else { 2 }
+}
+
+// The part at a row: no nodes past the table.
+fn part_at<'a>(sizes: &'a [u8; MAX_NODES], lengths: &'a [u8; MAX_NODES], x: usize) -> Part
+    ensures { λ r. ⌜ (r ≡ partAt (now (sizes .entry)) (now (lengths .entry)) x) × (r .size ≤ 255) × (r .length ≤ 255) ⌝ }
+{
+    Part {
+        size: scan::wide(byte_at(sizes, x)),
+        length: scan::wide(byte_at(lengths, x)),
+    }
+}
+
+// A row, from what it says.
+fn row_of(kind: u8, number: u8, size: usize, first: usize, length: usize) -> Row
+    ensures { λ r. ⌜ r ≡ record { head = heading kind number; size = size; first = first; length = length } ⌝ }
+{
+    Row {
+        head: Head { kind, number },
+        size,
+        first,
+        length,
+    }
+}
+
+// The row of the node that the byte b begins at a place, p and q its parts. A letter begins no formula.
+fn row_from(text: &[u8], b: u8, code: u8, at: usize, p: Part, q: Part) -> Row
+    requires { ⌜ (code ≤ 16) × (at ≤ 255) × (p .size ≤ 255) × (p .length ≤ 255) × (q .size ≤ 255) × (q .length ≤ 255) ⌝ }
+    ensures { λ r. ⌜ r ≡ rowFrom (now (text .entry)) b code at p q ⌝ }
+{
+    let size = 1 + p.size;
+    let length = 1 + p.length;
+    let end = at + length;
+    let l = grammar::lead_of(Sort::Formula, b);
+    match l {
+        Lead::Leaf => row_of(code + constant_code(b), 0, 1, at, 1),
+        Lead::Not => row_of(code + 2, 0, size, at, length),
+        Lead::Open => {
+            let kind = code + link_of(byte_at(text, end));
+            row_of(kind, 0, size + q.size, at, length + q.length + 2)
+        }
+        Lead::Measure => {
+            let n = scan::number_at(text, end + 2);
+            row_of(23, n as u8, size, at, length + 2 + digits_of(n))
+        }
+        Lead::Enter => row_of(24, 0, size, at, length + 1),
+        Lead::Other => row_of(6, channel_of(b), 1, at, 1),
+    }
+}
+
+// The row x, from the rows of its parts: the first part's is the next, the second part's comes after all of the first's.
+fn row_at<'a>(
+    text: &[u8],
+    kinds: &'a [u8; MAX_NODES],
+    sizes: &'a [u8; MAX_NODES],
+    firsts: &'a [u8; MAX_NODES],
+    lengths: &'a [u8; MAX_NODES],
+    x: usize,
+) -> Row
+    requires { ⌜ (x < maxNodes) × (getD (now kinds) x 0 ≤ 16) ⌝ }
+    ensures { λ r. ⌜ r ≡ rowAt (now (text .entry)) (now (kinds .entry)) (now (sizes .entry)) (now (firsts .entry)) (now (lengths .entry)) x ⌝ }
+{
+    let at = scan::wide(byte_at(firsts, x));
+    let p = part_at(sizes, lengths, x + 1);
+    let q = part_at(sizes, lengths, x + 1 + p.size);
+    row_from(text, byte_at(text, at), byte_at(kinds, x), at, p, q)
+}
+
+// The rows of an accepted text: a loop over its nodes, the last first, so that each comes after its parts.
+pub fn rows_of(text: &[u8]) -> NodeTable
+    requires { ⌜ ((C : ℕ) × (k : ℕ) × (acceptOf C k (now text) ≡ Yes)) ⌝ }
+    ensures { λ r. ⌜ r ≡ tableOf (map rowOf (nodesIn (now (text .entry)))) ⌝ }
+{
+    let mut table = begun_rows(text);
+    let mut x = table.count;
+    while x > 0 {
+        x -= 1;
+        let row = row_at(
+            text,
+            &table.kinds,
+            &table.sizes,
+            &table.firsts,
+            &table.lengths,
+            x,
+        );
+        let h = row.head;
+        table.kinds[x] = h.kind;
+        table.numbers[x] = h.number;
+        table.sizes[x] = row.size as u8;
+        table.lengths[x] = row.length as u8;
     }
     table
 }

@@ -56,8 +56,7 @@ fn with_digit(v: usize, b: u8) -> usize
 }
 
 // The number from a place on, of any count of digits.
-fn number_at(text: &[u8], at: usize) -> usize
-    requires { ⌜ at ≤ length (now text) ⌝ }
+pub fn number_at(text: &[u8], at: usize) -> usize
     ensures { λ r. ⌜ (r ≡ numberFrom 0 (drop at (now (text .entry)))) × (r ≤ suc maxNumber) ⌝ }
 {
     let mut v: usize = 0;
@@ -74,18 +73,15 @@ fn number_at(text: &[u8], at: usize) -> usize
 }
 
 // The number of the duration that stands at a place.
-pub fn number_of(text: &[u8], at: usize) -> Number
+fn number_of(text: &[u8], at: usize) -> Number
     requires { ⌜ (length (now text) ≤ maxLength) × (at < length (now text)) ⌝ }
     ensures { λ r. ⌜ (r .place ≡ digitOf (now (text .entry)) at) × (r .value ≡ numberOf (now (text .entry)) at) × (r .value ≤ suc maxNumber) × (r .place ≤ maxLength + 2) ⌝ }
 {
     let place = reader::part_end(text, Sort::State, at + 1) + 2;
-    if place <= text.len() {
-        return Number {
-            place,
-            value: number_at(text, place),
-        };
+    Number {
+        place,
+        value: number_at(text, place),
     }
-    Number { place, value: 0 }
 }
 
 // A place if a test says so.

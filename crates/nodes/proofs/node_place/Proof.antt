@@ -1,7 +1,7 @@
 -- `node_place` is refused as `node_refusal` is. An accepted node's row has its first byte and its length,
 -- and they are the tree's.
 use mathlib.Core.Path.{sym, _∙_}
-use Rattle.nodes.proofs.Laws.{fits, place-refused, both-yes, numbered, index-fits, place-made}
+use Rattle.nodes.proofs.Laws.{place-refused, both-yes, numbered, index-fits, place-made}
 use borrow.Author.Needs.{needs}
 use Rattle.nodes.proofs.node_place.Statement.{statement}
 use Rattle.nodes.proofs.node_place.Tie as tie
@@ -19,7 +19,7 @@ enum-told : tie.Need-enum-told
 enum-told c = search needs
 
 rows-of-requires : tie.Need-rows-of-requires
-rows-of-requires c κs = fits (c .before .before .before .before .args .c) (c .before .before .before .before .args .k) _ (both-yes _ _ _ _ (sym (c .before .before .node-refusal .ensures) ∙ c .enum-told .given .1) .0)
+rows-of-requires c κs = (c .before .before .before .before .args .c, c .before .before .before .before .args .k, both-yes _ _ _ _ (sym (c .before .before .node-refusal .ensures) ∙ c .enum-told .given .1) .0)
 
 sub-i : tie.Need-sub-i
 sub-i c = numbered _ _ _ _ (sym (c .before .before .before .node-refusal .ensures) ∙ c .before .enum-told .given .1) .0

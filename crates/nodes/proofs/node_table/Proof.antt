@@ -1,7 +1,7 @@
--- `node_table` answers as `accept` does; an accepted text fits the table,
--- and the rows found are those of its tree's nodes.
+-- `node_table` answers as `accept` does;
+-- the rows found of an accepted text are those of its tree's nodes.
 use mathlib.Core.Path.{sym, _∙_}
-use Rattle.nodes.proofs.Laws.{fits, table-refused, table-made}
+use Rattle.nodes.proofs.Laws.{table-refused, table-made}
 use borrow.Author.Needs.{needs}
 use Rattle.nodes.proofs.node_table.Statement.{statement}
 use Rattle.nodes.proofs.node_table.Tie as tie
@@ -22,7 +22,7 @@ enum-told : tie.Need-enum-told
 enum-told c = search needs
 
 rows-of-requires : tie.Need-rows-of-requires
-rows-of-requires c κs = fits (c .before .before .before .before .args .c) (c .before .before .before .before .args .k) _ (sym (c .before .before .accept .ensures) ∙ c .enum-told .given .1)
+rows-of-requires c κs = (c .before .before .before .before .args .c, c .before .before .before .before .args .k, sym (c .before .before .accept .ensures) ∙ c .enum-told .given .1)
 
 returns-2 : tie.Need-returns-2
 returns-2 c = table-made _ _ _ (sym (c .before .before .before .accept .ensures) ∙ c .before .enum-told .given .1) _ (c .rows-of .ensures)

@@ -12,13 +12,13 @@ use Rattle.scan.proofs.number_at.Statement.{statement}
 use Rattle.scan.proofs.number_at.Tie as tie
 
 abbrev Inv-loop : tie.InvT-loop
-Inv-loop text at v₀ i₀ v i = (i ≤ length text) × (v ≤ suc maxNumber) × (numberFrom v (drop i text) ≡ numberFrom 0 (drop at text))
+Inv-loop text at v₀ i₀ v i = (v ≤ suc maxNumber) × (numberFrom v (drop i text) ≡ numberFrom 0 (drop at text))
 
 abbrev μ-loop : tie.MeasureT-loop
 μ-loop text at v₀ i₀ v i = length text - i
 
 loop-holds : tie.Need-loop-holds Inv-loop μ-loop
-loop-holds c = (search needs, search needs, refl)
+loop-holds c = (search needs, refl)
 
 shared-slice-read-b : tie.Need-shared-slice-read-b Inv-loop μ-loop
 shared-slice-read-b c = search needs
@@ -29,7 +29,7 @@ is-digit-requires c κs = search needs
 returns : tie.Need-returns Inv-loop μ-loop
 returns c =
     let w = c .before .before .before .before .loop in
-    (sym (number-none (c .before .before .before .before .before .before .args .text .now) (w .i) (w .v) (search needs) (sym (c .before .is-digit .ensures) ∙ not-true _ (c .if1 .taken))) ∙ w .inv .2, search needs)
+    (sym (number-none (c .before .before .before .before .before .before .args .text .now) (w .i) (w .v) (search needs) (sym (c .before .is-digit .ensures) ∙ not-true _ (c .if1 .taken))) ∙ w .inv .1, search needs)
 
 with-digit-requires : tie.Need-with-digit-requires Inv-loop μ-loop
 with-digit-requires c κs = (search needs, sym (c .before .is-digit .ensures) ∙ not-false _ (c .if1 .left))
@@ -43,12 +43,12 @@ loop-less c = search needs
 loop-again : tie.Need-loop-again Inv-loop μ-loop
 loop-again c =
     let w = c .before .before .before .before .before .loop in
-    (search needs, c .with-digit .ensures .1, ap (λ (n : ℕ). numberFrom n (drop (w .i + 1) (c .before .before .before .before .before .before .before .args .text .now))) (c .with-digit .ensures .0) ∙ sym (number-more (c .before .before .before .before .before .before .before .args .text .now) (w .i) (w .v) (search needs) (sym (c .before .before .is-digit .ensures) ∙ not-false _ (c .before .if1 .left))) ∙ w .inv .2)
+    (c .with-digit .ensures .1, ap (λ (n : ℕ). numberFrom n (drop (w .i + 1) (c .before .before .before .before .before .before .before .args .text .now))) (c .with-digit .ensures .0) ∙ sym (number-more (c .before .before .before .before .before .before .before .args .text .now) (w .i) (w .v) (search needs) (sym (c .before .before .is-digit .ensures) ∙ not-false _ (c .before .if1 .left))) ∙ w .inv .1)
 
 returns-2 : tie.Need-returns-2 Inv-loop μ-loop
 returns-2 c =
     let w = c .before .loop in
-    (sym (number-end (c .before .before .before .args .text .now) (w .i) (w .v) (search needs)) ∙ w .inv .2, search needs)
+    (sym (number-end (c .before .before .before .args .text .now) (w .i) (w .v) (search needs)) ∙ w .inv .1, search needs)
 
 pub number-at-spec : {M : Type 1} → statement M
 number-at-spec =
