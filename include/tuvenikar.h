@@ -65,7 +65,8 @@ enum tuv_answer {
  * Lent:    the text; the recording, k bytes: byte t is instant t, its lowest bit channel a, the next b, and so on; 1 is high.
  * Written: nothing.
  * Answers: TUV_NO, TUV_YES, a refusal 1 to 7 or 9 to 11.
- * Stack:   EVALUATE-STACK
+ * Stack:   172,000 bytes for any input: some 3,000, and 2,656 for each formula within a formula (measured: 171,184 for 63 `!`
+ *          and `T`; 86,192 for 31 chops one within the other).
  */
 uint64_t tuv_evaluate(const uint8_t *text, size_t text_length, uint32_t c, uint32_t k, uint32_t i, uint32_t j,
                       const uint8_t *recording, size_t recording_length);
@@ -75,7 +76,8 @@ uint64_t tuv_evaluate(const uint8_t *text, size_t text_length, uint32_t c, uint3
  * Written: nothing.
  * Answers: TUV_NODE_TEXT, a refusal 1 to 8. The part begins at text + tuv_node_first(answer) and has
  *          tuv_node_length(answer) bytes: for `((T;F)|#a>=12)`, c 2, k 32, node 2, `(T;F)`, these are 1 and 5.
- * Stack:   NODE-STACK
+ * Stack:   46,000 bytes for any input: 176 for each level of brackets and signs (measured: 45,472 for 255 `(`; 11,680 for the
+ *          deepest text that is accepted).
  */
 uint64_t tuv_node_text(const uint8_t *text, size_t text_length, uint32_t c, uint32_t k, uint32_t node);
 

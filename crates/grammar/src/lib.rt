@@ -118,7 +118,7 @@ fn own_joint(s: Sort, b: u8) -> Joint
 }
 
 // What joins two parts.
-pub fn joint_of(s: Sort, b: u8) -> Joint
+fn joint_of(s: Sort, b: u8) -> Joint
     ensures { λ r. ⌜ r ≡ jointOf s b ⌝ }
 {
     match b {
