@@ -1,4 +1,4 @@
--- A truth at each instant as one number, and what a node that is not a leaf makes of its parts.
+-- A truth at each instant as one number, and what a node that is not a leaf makes of its parts. No call open to others cites these.
 use mathlib.Core.Path.{_≡_}
 use mathlib.Core.Bool.{Bool, not, cond, _&&_, _||_}
 use mathlib.Core.List.{List}
