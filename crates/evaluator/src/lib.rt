@@ -81,15 +81,18 @@ fn table_at<'a>(
         let word = word_at(kinds, numbers, sizes, recording, x + 1);
         return table::measured_table(kind - 16, rows::byte_at(numbers, x), word, k);
     }
-    let p = table_at(kinds, numbers, sizes, recording, x + 1);
+    let mut p = table_at(kinds, numbers, sizes, recording, x + 1);
     if kind == 18 {
-        return table::joined_table(2, &p, &p, k);
+        // `!` has one part; any other table serves for a second.
+        table::join(2, &mut p, &table::constant_table(0), k);
+        return p;
     }
     let q = table_at(kinds, numbers, sizes, recording, second(sizes, x));
     if kind == 21 {
         return chop::chop_table(&p, &q, k);
     }
-    table::joined_table(kind - 16, &p, &q, k)
+    table::join(kind - 16, &mut p, &q, k);
+    p
 }
 
 // The formula's truth on [i, j], from its node table.

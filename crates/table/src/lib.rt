@@ -6,6 +6,7 @@ ghost use lib.Dec.{eqb};
 ghost use Prim.Native.Nat.{ℕ, suc, _+_, _-_, _≤_};
 ghost use lib.ListN.{length, replicate};
 ghost use Rattle.interval.specs.Limits.{maxSteps, maxCount};
+ghost use Rattle.interval.specs.Places.{countOf};
 ghost use Rattle.interval.specs.declared.Interval.{Interval};
 ghost use Rattle.meaning.specs.Meaning.{bit, bitAt};
 ghost use Rattle.word.specs.Word.{Lows, joined};
@@ -97,19 +98,12 @@ fn joined_byte(kind: u8, a: u8, b: u8) -> u8
     if kind == 3 { a & b } else { a | b }
 }
 
-// The table of `!`, `&` or `|`, from those of its parts.
-pub fn joined_table(
-    kind: u8,
-    p: &[u8; Interval::MAX_COUNT],
-    q: &[u8; Interval::MAX_COUNT],
-    k: usize,
-) -> [u8; Interval::MAX_COUNT]
-    requires { ⌜ k ≤ maxSteps ⌝ }
-    ensures { λ r. ⌜ ((f g : Interval → Bool) → TableOf k f (now (p .entry)) → TableOf k g (now (q .entry)) → TableOf k (λ v. joined kind (f v) (g v)) r) ⌝ }
+// The table of `!`, `&` or `|`, from those of its parts, in the place of the first.
+pub fn join(kind: u8, p: &mut [u8], q: &[u8], k: usize)
+    requires { ⌜ (k ≤ maxSteps) × (countOf k ≤ length (now p)) × (countOf k ≤ length (now q)) ⌝ }
+    ensures { λ r. ⌜ ((f g : Interval → Bool) → TableOf k f (now (p .entry)) → TableOf k g (now (q .entry)) → TableOf k (λ v. joined kind (f v) (g v)) (now (p .exit))) ⌝ }
 {
-    let mut t = all_of(0);
     for x in 0..Interval::count(k) {
-        t[x] = joined_byte(kind, p[x], q[x]);
+        p[x] = joined_byte(kind, p[x], q[x]);
     }
-    t
 }
