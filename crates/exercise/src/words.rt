@@ -77,11 +77,6 @@ pub fn put_fault(fault: Fault) {
     put_usage();
 }
 
-// The byte at a place, and 0 past the end.
-fn byte_at(text: &[u8], at: usize) -> u8 {
-    if at < text.len() { text[at] } else { 0 }
-}
-
 // The formula, and a mark under a place.
 fn put_marked(text: &[u8], place: usize) {
     drawing::put_glyphs(Show::Text, text);
@@ -98,7 +93,7 @@ fn put_unread(text: &[u8], place: usize) {
     if place == 0 {
         return put(b"a formula cannot begin like this");
     }
-    if byte_at(text, place) == b' ' {
+    if rows::byte_at(text, place) == b' ' {
         return put(b"a formula has no blanks");
     }
     put(b"the formula cannot go on like this");
@@ -115,7 +110,7 @@ fn put_why(text: &[u8], c: u32, number: u32, place: usize) {
             MAX_LENGTH,
         ),
         4 => put_unread(text, place),
-        5 => put_outside(byte_at(text, place), c),
+        5 => put_outside(rows::byte_at(text, place), c),
         6 => put_limit(b"the number after >= is at most ", MAX_NUMBER),
         7 => put_limit(b"one part too many begins here: the most is ", MAX_NODES),
         _ => put(b"the recording does not fit the number of channels and of steps"),
