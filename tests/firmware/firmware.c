@@ -6,7 +6,7 @@
 #include <stdlib.h>
 #include <string.h>
 
-enum { NO = 64, YES = 65, NODE_TEXT = 71 };
+_Static_assert(TUV_NO == 64 && TUV_YES == 65 && TUV_NODE_TEXT == 71, "the numbers that firmware in the field is built with");
 
 static unsigned passed, failed;
 
@@ -25,17 +25,6 @@ static void trying(const char *call, const char *text)
 {
     printf("trying %s of '%s'\n", call, text);
     fflush(stdout);
-}
-
-/* An answer's two halves. */
-static uint32_t code_of(uint64_t answer)
-{
-    return (uint32_t)answer;
-}
-
-static uint32_t value_of(uint64_t answer)
-{
-    return (uint32_t)(answer >> 32);
 }
 
 static uint8_t *lend(const void *bytes, size_t length)
@@ -59,9 +48,9 @@ static int unchanged(uint8_t *block, const void *bytes, size_t length)
 static void check(const char *name, uint64_t answer, int same, uint32_t code, uint32_t value)
 {
     char what[512];
-    snprintf(what, sizeof what, "%s: answered %u at %u, wanted %u at %u%s", name, code_of(answer), value_of(answer), code, value,
+    snprintf(what, sizeof what, "%s: answered %u at %u, wanted %u at %u%s", name, tuv_code(answer), tuv_value(answer), code, value,
              same ? "" : "; what was lent has changed");
-    count(same && code_of(answer) == code && value_of(answer) == value, what);
+    count(same && tuv_code(answer) == code && tuv_value(answer) == value, what);
 }
 
 static void evaluate(const char *text, uint32_t c, uint32_t k, uint32_t i, uint32_t j, const char *recording, size_t length,
@@ -87,7 +76,7 @@ static void text_alone(const char *text, uint32_t c, uint32_t k, uint32_t code, 
     uint8_t *lent = lend(text, strlen(text));
     uint64_t answer = tuv_node_text(lent, strlen(text), c, k, 1);
     check(text, answer, unchanged(lent, text, strlen(text)), code, value);
-    if (code != NODE_TEXT)
+    if (code != TUV_NODE_TEXT)
         evaluate(text, c, k, 1, 0, "\377", 1, code, value);
 }
 
@@ -104,16 +93,16 @@ static void exercise(void)
 
     trying("both calls", text);
     answer = tuv_evaluate(bytes, length, 2, 8, 0, 8, recording, sizeof recording);
-    count(code_of(answer) == YES, "a twice and then b once is satisfied");
+    count(tuv_code(answer) == TUV_YES, "a twice and then b once is satisfied");
     answer = tuv_evaluate(bytes, length, 2, 8, 0, 7, recording, sizeof recording);
-    count(code_of(answer) == NO, "without the last sample it is not");
+    count(tuv_code(answer) == TUV_NO, "without the last sample it is not");
 
-    for (; code_of(answer = tuv_node_text(bytes, length, 2, 8, node)) == NODE_TEXT; node++) {
-        uint32_t start = value_of(answer) % 256, size = value_of(answer) / 256;
+    for (; tuv_code(answer = tuv_node_text(bytes, length, 2, 8, node)) == TUV_NODE_TEXT; node++) {
+        uint32_t start = tuv_node_first(answer), size = tuv_node_length(answer);
         int is_so = node <= 5 && size == strlen(parts[node - 1]) && memcmp(text + start, parts[node - 1], size) == 0;
         count(is_so, "each part has its own text");
     }
-    count(node == 6 && code_of(answer) == 8, "there are five parts");
+    count(node == 6 && tuv_code(answer) == 8, "there are five parts");
 }
 
 /* Document 01's edges, and what they say of evaluation. */
@@ -121,21 +110,21 @@ static void edges(void)
 {
     char nots[257];
 
-    whole("(#a>=1;!#a>=1)", 1, "\1", 1, YES);
-    whole("(#a>=1;!#a>=1)", 1, "\0", 1, NO);
-    whole("#T>=2", 1, "\0", 1, NO);
-    whole("#T>=2", 1, "\0\0", 2, YES);
-    whole("[a]", 1, "", 0, YES);
-    whole("#a>=0", 1, "", 0, YES);
-    whole("T", 1, "", 0, YES);
-    whole("F", 1, "", 0, NO);
-    whole("!#a>=1", 1, "\0", 1, YES);
-    whole("(#a>=1;#a>=1)", 1, "\1", 1, NO);
-    whole("(#a>=1|#b>=1)", 2, "\2", 1, YES);
+    whole("(#a>=1;!#a>=1)", 1, "\1", 1, TUV_YES);
+    whole("(#a>=1;!#a>=1)", 1, "\0", 1, TUV_NO);
+    whole("#T>=2", 1, "\0", 1, TUV_NO);
+    whole("#T>=2", 1, "\0\0", 2, TUV_YES);
+    whole("[a]", 1, "", 0, TUV_YES);
+    whole("#a>=0", 1, "", 0, TUV_YES);
+    whole("T", 1, "", 0, TUV_YES);
+    whole("F", 1, "", 0, TUV_NO);
+    whole("!#a>=1", 1, "\0", 1, TUV_YES);
+    whole("(#a>=1;#a>=1)", 1, "\1", 1, TUV_NO);
+    whole("(#a>=1|#b>=1)", 2, "\2", 1, TUV_YES);
     /* The wrong turns: m may be i or j, and instant j does not count. */
-    whole("([F];#T>=1)", 1, "\0", 1, YES);
-    whole("(#T>=1;[F])", 1, "\0", 1, YES);
-    evaluate("#a>=1", 1, 2, 0, 1, "\0\1", 2, NO, 0);
+    whole("([F];#T>=1)", 1, "\0", 1, TUV_YES);
+    whole("(#T>=1;[F])", 1, "\0", 1, TUV_YES);
+    evaluate("#a>=1", 1, 2, 0, 1, "\0\1", 2, TUV_NO, 0);
 
     text_alone("", 1, 0, 3, 0);
     text_alone("(T&T", 1, 0, 4, 4);
@@ -148,7 +137,7 @@ static void edges(void)
 
     memset(nots, '!', sizeof nots);
     memcpy(nots + 63, "T", 2);
-    text_alone(nots, 1, 0, NODE_TEXT, 0 + 256 * 64);
+    text_alone(nots, 1, 0, TUV_NODE_TEXT, 0 + 256 * 64);
     memcpy(nots + 63, "!T", 3);
     text_alone(nots, 1, 0, 7, 64);
     memset(nots, '!', 255);
