@@ -11,13 +11,13 @@ use Rattle.chop.proofs.or_onto.Statement.{statement}
 use Rattle.chop.proofs.or_onto.Tie as tie
 
 abbrev Inv-loop : tie.InvT-loop
-Inv-loop row₀ from d₀ d-end row d = (d-end ≡ length row₀) × (d ≤ length row₀) × Upto (length row₀) (λ y. bitOr (getD row₀ y 0) (getD from y 0)) (λ y. getD row₀ y 0) d row
+Inv-loop row₀ from d₀ d-end row d = (d-end ≡ length row₀) × Upto (length row₀) (λ y. bitOr (getD row₀ y 0) (getD from y 0)) (λ y. getD row₀ y 0) d row × (d ≤ length row₀)
 
 abbrev μ-loop : tie.MeasureT-loop
 μ-loop row₀ from d₀ d-end row d = length row₀ - d
 
 loop-holds : tie.Need-loop-holds Inv-loop μ-loop
-loop-holds c = (sym (c .pre), omega arith, begun _ _ _ _ refl (λ y. refl))
+loop-holds c = (sym (c .pre), begun _ _ _ _ refl (λ y. refl), omega arith)
 
 shared-slice-read-row : tie.Need-shared-slice-read-row Inv-loop μ-loop
 shared-slice-read-row c = search needs
@@ -36,13 +36,13 @@ loop-less c = search needs
 
 loop-again : tie.Need-loop-again Inv-loop μ-loop
 loop-again c = let l = c .before .before .before .loop in
-    (l .inv .0, omega arith, turn _ _ _ _ _ _ (l .inv .2) (search needs) (ap₂ bitOr (l .inv .2 .beyond _ (omega arith)) refl))
+    (l .inv .0, turn _ _ _ _ _ _ (l .inv .1) (search needs) (ap₂ bitOr (l .inv .1 .beyond _ (omega arith)) refl), omega arith)
 
 same-length : tie.Need-same-length Inv-loop μ-loop
 same-length c = search needs
 
 returns : tie.Need-returns Inv-loop μ-loop
-returns c = λ d h. c .before .loop .inv .2 .below d (omega (arith, c .before .loop .inv, c .loop-test .left))
+returns c = λ d h. c .before .loop .inv .1 .below d (omega (arith, c .before .loop .inv, c .loop-test .left))
 
 pub or-onto-spec : {M : Type 1} → statement M
 or-onto-spec =

@@ -35,7 +35,7 @@ holds-on-requires : tie.Need-holds-on-requires
 holds-on-requires c κs = let a = c .before .before .before .before .before .before .before .before .before .args in
     let w = in-order (a .c) (a .k) (a .i) (a .j) (a .recording .now) (sym (c .before .before .before .ask-recorded .ensures) ∙ c .before .enum-told2 .given .1) in
     let m = limits (a .c) (a .k) _ _ (c .before .before .before .before .before .before .node-table .ensures) (c .before .before .before .before .enum-told .given .1) in
-    (omega (arith, w, m), w .0, omega (arith, w))
+    (omega (arith, w, m), omega (arith, w), omega (arith, w))
 
 verdict-of-requires : tie.Need-verdict-of-requires
 verdict-of-requires c κs = search needs
