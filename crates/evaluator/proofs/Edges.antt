@@ -4,6 +4,7 @@ use mathlib.Core.Path.{_≡_, refl}
 use lib.ListN.{length}
 use mathlib.Core.List.{flatMap}
 use Rattle.interval.specs.Limits.{askSteps, askInterval}
+use Rattle.grammar.specs.Ascii.{ascii}
 use Rattle.grammar.specs.Trees.{decimalIn, decimal, write}
 use Rattle.grammar.specs.Reader.{follow, endAfter, run, read}
 use Rattle.formula.specs.Nodes.{nodesOf, nodesIn}
@@ -11,7 +12,7 @@ use Rattle.formula.specs.Questions.{askChannels, askLength, askGrammar, askLett
 use Rattle.formula.proofs.Lists.{All}
 use Rattle.meaning.specs.Meaning.{bitAt, channelAt, highs, every, some, lasts, fills, chops, truth}
 use Rattle.evaluator.specs.Evaluation.{askRecording, notBelow, askBytes, evaluated}
-use Rattle.evaluator.specs.Edges.{ascii, Edge, edges}
+use Rattle.evaluator.specs.Edges.{Edge, edges}
 
 -- the one theorem of the table
 pub edges-hold : All (λ (e : Edge). evaluated 1 (length (e .recording)) 0 (length (e .recording)) (ascii (e .text)) (e .recording) ≡ e .answer) edges

@@ -2,7 +2,7 @@
 -- the tree that the text reads as, which stands in the node table from its first row on.
 use mathlib.Core.Path.{_≡_, sym, ap, _∙_, subst}
 use mathlib.Core.Bool.{Bool}
-use mathlib.Core.List.{List, [], map, append-nil}
+use mathlib.Core.List.{List, [], append-nil}
 use Prim.Native.Nat.{ℕ, _≤_}
 use lib.ListN.{length}
 use borrow.Author.Tests.{eqb-true}
@@ -10,8 +10,8 @@ use Rattle.refusal.specs.Asked.{asked}
 use Rattle.refusal.specs.declared.Refusal.{Refusal}
 use Rattle.refusal.specs.declared.Reply.{Reply}
 use Rattle.refusal.specs.declared.Reply.the-variants.{Yes, No}
-use Rattle.refusal.proofs.Laws.{asked-append, replied-yes, replied-no, asked-map}
-use Rattle.interval.specs.Limits.{maxSteps, askInterval}
+use Rattle.refusal.proofs.Laws.{asked-append, replied-yes, replied-no}
+use Rattle.interval.specs.Limits.{askInterval}
 use Rattle.grammar.specs.Limits.{maxChannels}
 use Rattle.grammar.specs.Trees.{Tree, Letters}
 use Rattle.grammar.specs.Reader.{Read, read}
@@ -22,16 +22,17 @@ use Rattle.formula.specs.Nodes.{nodesOf, nodesIn}
 use Rattle.formula.specs.Questions.{formulaQuestions, acceptOf}
 use Rattle.formula.proofs.Asked.{test-yes}
 use Rattle.formula.proofs.Laws.{all-yes, accepted, nodes-read}
-use Rattle.rows.specs.Table.{rowOf, tableOf}
+use Rattle.rows.specs.Table.{tableOf}
 use Rattle.rows.specs.declared.NodeTable.{NodeTable}
 use Rattle.nodes.specs.Calls.{tabledOf}
+use Rattle.nodes.specs.Parts.{Stands}
 use Rattle.nodes.specs.declared.Tabled.{Tabled}
+use Rattle.nodes.proofs.Laws.{reply-is, accepts, table-is}
+use Rattle.nodes.proofs.Standing.{stands}
 use Rattle.meaning.specs.Meaning.{holds}
-use Rattle.evaluator.specs.Parts.{Stands}
 use Rattle.evaluator.specs.Evaluation.{askRecording, recordingQuestions, readHolds, verdictOf, evaluated}
 use Rattle.evaluator.specs.declared.Verdict.{Verdict}
 use Rattle.evaluator.specs.declared.Verdict.the-variants.{Refused}
-use Rattle.evaluator.proofs.Standing.{stands}
 
 -- questions 10 and 9, answered with yes
 pub recording-length : (k : ℕ) (recording : List ℕ) → askRecording k recording ≡ Yes → length recording ≡ k
@@ -47,25 +48,10 @@ in-order C k i j recording h =
     (o .0, o .1, recording-length k recording (q .1 .0))
 
 module _ (C k : ℕ) (t : List ℕ) (T : Tabled) (e : T ≡ tabledOf C k t) where
-  reply-is : T .reply ≡ acceptOf C k t
-  unfolding tabledOf acceptOf
-  reply-is = ap (λ (T : Tabled). T .reply) e ∙ asked-map (λ (T : Tabled). T .reply) _ _ (formulaQuestions C k t)
-
-  module _ (y : T .reply ≡ Yes) where
-    accepts : acceptOf C k t ≡ Yes
-    accepts = sym reply-is ∙ y
-
-    pub limits : (C ≤ maxChannels) × (k ≤ maxSteps)
-    limits = let a = accepted C k t accepts in (a .channels .1, a .steps)
-
-    table-is : T .table ≡ tableOf (map rowOf (nodesIn t))
-    unfolding tabledOf acceptOf
-    table-is = ap (λ (T : Tabled). T .table) (e ∙ replied-yes _ _ (formulaQuestions C k t) accepts)
-
-    root-stands : (f : Tree Formula) → nodesIn t ≡ nodesOf f 0 → Stands (T .table .kinds) (T .table .numbers) (T .table .sizes) 0 f
-    unfolding tableOf
-    root-stands f n =
-        subst (λ (N : NodeTable). Stands (N .kinds) (N .numbers) (N .sizes) 0 f) (sym table-is) (stands (nodesIn t) f 0 0 [] (n ∙ sym (append-nil (nodesOf f 0))))
+  root-stands : T .reply ≡ Yes → (f : Tree Formula) → nodesIn t ≡ nodesOf f 0 → Stands (T .table .kinds) (T .table .numbers) (T .table .sizes) 0 f
+  unfolding tableOf
+  root-stands y f n =
+      subst (λ (N : NodeTable). Stands (N .kinds) (N .numbers) (N .sizes) 0 f) (sym (table-is C k t T e y)) (stands (nodesIn t) f 0 0 [] (n ∙ sym (append-nil (nodesOf f 0))))
 
   module _ (i j : ℕ) (recording : List ℕ) where
     abbrev later : List Reply
@@ -80,12 +66,12 @@ module _ (C k : ℕ) (t : List ℕ) (T : Tabled) (e : T ≡ tabledOf C k t) wher
 
     pub refused-first : (r : Refusal) → T .reply ≡ No r → Refused r ≡ evaluated C k i j t recording
     unfolding acceptOf
-    refused-first r h = sym (evaluated-is ∙ replied-no Refused _ (formulaQuestions C k t) r (sym reply-is ∙ h))
+    refused-first r h = sym (evaluated-is ∙ replied-no Refused _ (formulaQuestions C k t) r (sym (reply-is C k t T e) ∙ h))
 
     module _ (y : T .reply ≡ Yes) where
       evaluated-later : evaluated C k i j t recording ≡ asked later Refused answer
       unfolding acceptOf
-      evaluated-later = evaluated-is ∙ replied-yes Refused _ (formulaQuestions C k t) (accepts y)
+      evaluated-later = evaluated-is ∙ replied-yes Refused _ (formulaQuestions C k t) (accepts C k t T e y)
 
       pub refused-later : (r : Refusal) → asked later No Yes ≡ No r → Refused r ≡ evaluated C k i j t recording
       refused-later r h = sym (evaluated-later ∙ replied-no Refused answer later r h)
@@ -94,7 +80,7 @@ module _ (C k : ℕ) (t : List ℕ) (T : Tabled) (e : T ≡ tabledOf C k t) wher
           → ((f : Tree Formula) → Letters maxChannels f → Stands (T .table .kinds) (T .table .numbers) (T .table .sizes) 0 f → b ≡ holds recording f (record { i = i; j = j }))
           → verdictOf b ≡ evaluated C k i j t recording
       answered h b w =
-          let a = accepted C k t (accepts y) in
+          let a = accepted C k t (accepts C k t T e y) in
           let f = a .root in
           let truth : b ≡ holds recording f (record { i = i; j = j }) = w f (prints-as-text t f (a .reads) .0) (root-stands y f (nodes-read t f (a .reads))) in
           sym (evaluated-later ∙ replied-yes Refused answer later h ∙ ap (λ (x : Read Formula). verdictOf (readHolds recording x (record { i = i; j = j }))) (a .reads) ∙ ap verdictOf (sym truth))

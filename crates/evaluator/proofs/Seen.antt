@@ -11,10 +11,10 @@ use Rattle.grammar.specs.Trees.{Link, and, or, chop, Tree, constant, letter, ne
 use Rattle.grammar.specs.declared.Sort.{Sort}
 use Rattle.grammar.specs.declared.Sort.the-variants.{State, Formula}
 use Rattle.rows.specs.Table.{sortCode, constantCode, linkCode}
+use Rattle.nodes.specs.Parts.{Stands}
 use Rattle.meaning.specs.Meaning.{channelAt, Point, truth}
 use Rattle.word.specs.Word.{joined}
 use Rattle.table.specs.Table.{measured}
-use Rattle.evaluator.specs.Parts.{Stands}
 
 constant-most : (v : Bool) → constantCode v ≤ 1
 constant-most true = omega arith

@@ -14,10 +14,10 @@ use Rattle.grammar.specs.Trees.{Link, and, or, chop, Tree, pair, Letters}
 use Rattle.grammar.specs.declared.Sort.{Sort}
 use Rattle.grammar.specs.declared.Sort.the-variants.{State, Formula}
 use Rattle.rows.specs.Table.{sortCode, linkCode}
+use Rattle.nodes.specs.Parts.{Stands}
 use Rattle.meaning.specs.Meaning.{channelAt, chops, Point, truth}
 use Rattle.word.specs.Word.{joined}
 use Rattle.table.specs.Table.{measured}
-use Rattle.evaluator.specs.Parts.{Stands}
 use Rattle.evaluator.proofs.Seen.{constant-seen, negation-seen, Joins, pair-seen, letter-seen, measured-seen}
 
 joined-link : (recording : List ℕ) {s : Sort} (l : Link s) (x y : Tree s) → linkCode l < 5 → (p : Point s)

@@ -1,3 +1,2 @@
 pub mod Evaluation
-pub mod Parts
 pub mod Edges

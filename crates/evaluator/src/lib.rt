@@ -7,15 +7,15 @@ use refusal::Reply;
 use rows::NodeTable;
 ghost use mathlib.Core.Path.{_≡_};
 ghost use Prim.Native.Nat.{_+_, _≤_, _<_};
-ghost use lib.ListN.{length, getD};
+ghost use lib.ListN.{length};
 ghost use Rattle.interval.specs.Limits.{maxSteps};
-ghost use Rattle.grammar.specs.Limits.{maxChannels, maxNodes};
+ghost use Rattle.grammar.specs.Limits.{maxChannels};
 ghost use Rattle.grammar.specs.Trees.{Tree, Letters};
 ghost use Rattle.grammar.specs.declared.Sort.the-variants.{State, Formula};
+ghost use Rattle.nodes.specs.Parts.{Stands};
 ghost use Rattle.meaning.specs.Meaning.{stateAt, holds};
 ghost use Rattle.word.specs.Word.{WordOf};
 ghost use Rattle.table.specs.Table.{TableOf};
-ghost use Rattle.evaluator.specs.Parts.{Stands};
 ghost use Rattle.evaluator.specs.Evaluation.{askRecording, askBytes, recordingQuestions, verdictOf, evaluated};
 ghost use Rattle.refusal.specs.Asked.{asked};
 
@@ -24,15 +24,6 @@ pub enum Verdict {
     No,
     Yes,
     Refused(Refusal),
-}
-
-// The row of the second part of the node at row x: after all those of the first, which is next.
-fn second(sizes: &[u8; MAX_NODES], x: usize) -> usize
-    requires { ⌜ x < maxNodes ⌝ }
-    ensures { λ r. ⌜ (r ≡ x + 1 + getD (now (sizes .entry)) (x + 1) 0) × (x < r) ⌝ }
-{
-    let first = x + 1;
-    first + rows::byte_at(sizes, first) as usize
 }
 
 // The word of the state assertion at row x. Past the table stands a 0, the kind of `F`, which has no parts.
@@ -57,7 +48,7 @@ fn word_at<'a>(
     if kind == 2 {
         return word::joined_word(kind, p, p);
     }
-    let q = word_at(kinds, numbers, sizes, recording, second(sizes, x));
+    let q = word_at(kinds, numbers, sizes, recording, nodes::second(sizes, x));
     word::joined_word(kind, p, q)
 }
 
@@ -87,7 +78,7 @@ fn table_at<'a>(
         table::join(2, &mut p, &table::constant_table(0), k);
         return p;
     }
-    let q = table_at(kinds, numbers, sizes, recording, second(sizes, x));
+    let q = table_at(kinds, numbers, sizes, recording, nodes::second(sizes, x));
     if kind == 21 {
         return chop::chop_table(&p, &q, k);
     }

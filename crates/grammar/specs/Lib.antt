@@ -1,3 +1,4 @@
 pub mod Limits
+pub mod Ascii
 pub mod Trees
 pub mod Reader

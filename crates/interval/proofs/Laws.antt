@@ -27,14 +27,14 @@ add-sub a b = omega arith
 
 module _ (k : ℕ) where
   -- the interval of d steps from i on
-  abbrev interval : Entry (intervals k) → Interval
+  abbrev pub interval : Entry (intervals k) → Interval
   interval x = record { i = x .0; j = x .0 + x .1 }
 
-  intervals-listed : intervalsOf k ≡ per (intervals k) interval
+  pub intervals-listed : intervalsOf k ≡ per (intervals k) interval
   unfolding intervalsOf
   intervals-listed = simp (zero-add, sub-zero)
 
-  interval-entry : (x : Entry (intervals k)) → Inside (intervals k) x → IntervalOf k (interval x) × (placeOf k (interval x) ≡ place (intervals k) x)
+  pub interval-entry : (x : Entry (intervals k)) → Inside (intervals k) x → IntervalOf k (interval x) × (placeOf k (interval x) ≡ place (intervals k) x)
   interval-entry x h = (omega arith, interval-place k (interval x) (omega arith) ∙ simp add-sub)
 
   entry-interval : (v : Interval) → IntervalOf k v → (x : Entry (intervals k)) × Inside (intervals k) x × (interval x ≡ v)
@@ -48,14 +48,14 @@ module _ (k : ℕ) where
       rw (intervals-listed, ← intervals-count) (entries-numbered (IntervalOf k) (placeOf k) (intervals k) interval interval-entry entry-interval (record { i = 0; j = 0 }))
 
   -- the interval of d steps from i on, chopped after e of them
-  abbrev triple : Entry (triples k) → Triple
+  abbrev pub triple : Entry (triples k) → Triple
   triple x = record { i = x .0; m = x .0 + x .1 .1; j = x .0 + x .1 .0 }
 
-  triples-listed : triplesOf k ≡ per (triples k) triple
+  pub triples-listed : triplesOf k ≡ per (triples k) triple
   unfolding triplesOf
   triples-listed = simp (zero-add, sub-zero, suc-add-sub)
 
-  triple-entry : (x : Entry (triples k)) → Inside (triples k) x → TripleOf k (triple x) × (triplePlaceOf k (triple x) ≡ place (triples k) x)
+  pub triple-entry : (x : Entry (triples k)) → Inside (triples k) x → TripleOf k (triple x) × (triplePlaceOf k (triple x) ≡ place (triples k) x)
   unfolding triplePlaceOf
   triple-entry x h = (omega arith, simp add-sub)
 

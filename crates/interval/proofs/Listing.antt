@@ -1,10 +1,10 @@
 -- Laws of lists made by counting: row i starts after the sum of the rows before it, so what stands in the list at that sum
 -- and y further stands in row i at y; and every place is such a sum and a y. Each is by induction on the number of rows.
-use mathlib.Core.Path.{_≡_, refl, sym, ap, _∙_, subst}
+use mathlib.Core.Path.{_≡_, refl, sym, ap, ap₂, _∙_, subst}
 use mathlib.Core.Logic.{⊎-elim}
-use mathlib.Core.List.{List, [], _∷_, _++_}
-use Prim.Native.Nat.{ℕ, zero, suc, _+_, _-_, _<_}
-use native.Mathlib.Nat.{not-suc-le-zero, eq-or-lt-of-le, le-of-suc-le-suc}
+use mathlib.Core.List.{List, [], _∷_, _++_, map, map-append}
+use Prim.Native.Nat.{ℕ, zero, suc, _+_, _-_, _*_, _<_}
+use native.Mathlib.Nat.{zero-mul, suc-mul, add-mul, not-suc-le-zero, eq-or-lt-of-le, le-of-suc-le-suc}
 use native.Mathlib.Decide.{decLt}
 use native.Mathlib.Omega.{arith}
 use lib.ListN.{length, getD, length-append, List·getD-append}
@@ -12,13 +12,28 @@ use lib.Seq.{getD-append-add}
 use Rattle.interval.specs.Listing.{rows, tab, sum}
 
 -- to show a fact at i < n + 1: at i < n, or at n
-below-suc : (X : ℕ → Type 0) (n i : ℕ) → i < suc n → (i < n → X i) → X n → X i
+pub below-suc : (X : ℕ → Type 0) (n i : ℕ) → i < suc n → (i < n → X i) → X n → X i
 below-suc X n i h f g = ⊎-elim (λ (e : i ≡ n). subst X (sym e) g) (λ (l : i < n). f l) (eq-or-lt-of-le (le-of-suc-le-suc h))
 
-sum-ones : (n : ℕ) → sum (λ i. 1) n ≡ n
+pub sum-ones : (n : ℕ) → sum (λ i. 1) n ≡ n
 unfolding sum
 sum-ones zero = refl
 sum-ones (suc n) = omega (arith, sum-ones n)
+
+-- all but the first alike
+pub sum-after : (u : ℕ → ℕ) (c n : ℕ) → ((i : ℕ) → u (suc i) ≡ c) → sum u (suc n) ≡ u 0 + n * c
+unfolding sum
+sum-after u c zero h = omega (arith, zero-mul c)
+sum-after u c (suc n) h = omega (arith, sum-after u c n h, h n, suc-mul n c)
+
+pub sum-linear : (u v w : ℕ → ℕ) (b c n : ℕ) → ((i : ℕ) → i < n → u i ≡ v i * b + w i * c) → sum u n ≡ sum v n * b + sum w n * c
+unfolding sum
+sum-linear u v w b c zero h = omega (arith, zero-mul b, zero-mul c)
+sum-linear u v w b c (suc n) h =
+    omega (arith, sum-linear u v w b c n (λ i l. h i (omega arith)), h n (omega arith), add-mul (sum v n) (v n) b, add-mul (sum w n) (w n) c)
+
+pub sum-times : (u w : ℕ → ℕ) (c n : ℕ) → ((i : ℕ) → i < n → u i ≡ w i * c) → sum u n ≡ sum w n * c
+sum-times u w c n h = omega (arith, sum-linear u w w 0 c n (λ i l. omega (arith, h i l)))
 
 -- the row of a place, and where in the row it stands
 pub record RowOf (w : ℕ → ℕ) (n p : ℕ) : Type 0 where
@@ -43,11 +58,27 @@ module _ (w : ℕ → ℕ) where
       go (yes l) f = let r = f l in record { row = r .row; at = r .at; row-lt = omega arith; at-lt = r .at-lt; sums = r .sums }
       go (no l) f = record { row = n; at = p - sum w n; row-lt = omega arith; at-lt = omega arith; sums = omega arith }
 
+module _ {A : Type 0} where
+  pub rows-same : (n : ℕ) (f g : ℕ → List A) → ((i : ℕ) → i < n → f i ≡ g i) → rows n f ≡ rows n g
+  unfolding rows
+  rows-same zero f g e = refl
+  rows-same (suc n) f g e = ap₂ (λ (l m : List A). l ++ m) (rows-same n f g (λ i h. e i (omega arith))) (e n (omega arith))
+
+  pub map-rows : {B : Type 0} (h : A → B) (f : ℕ → List A) (n : ℕ) → map h (rows n f) ≡ rows n (λ i. map h (f i))
+  unfolding rows
+  map-rows h f zero = refl
+  map-rows {B} h f (suc n) = map-append h (rows n f) (f n) ∙ ap (λ (l : List B). l ++ map h (f n)) (map-rows h f n)
+
+-- what adds up along a list adds up along rows: its length, or the weight of its entries
+pub measure-rows : {A : Type 0} (m : List A → ℕ) → m [] ≡ 0 → ((a b : List A) → m (a ++ b) ≡ m a + m b)
+    → (f : ℕ → List A) (w : ℕ → ℕ) → ((i : ℕ) → m (f i) ≡ w i) → (n : ℕ) → m (rows n f) ≡ sum w n
+unfolding rows sum
+measure-rows m o p f w e zero = o
+measure-rows m o p f w e (suc n) = p (rows n f) (f n) ∙ omega (arith, measure-rows m o p f w e n, e n)
+
 module _ {A : Type 0} (f : ℕ → List A) (w : ℕ → ℕ) (e : (i : ℕ) → length (f i) ≡ w i) where
   pub length-rows : (n : ℕ) → length (rows n f) ≡ sum w n
-  unfolding rows sum
-  length-rows zero = refl
-  length-rows (suc n) = length-append (rows n f) (f n) ∙ omega (arith, length-rows n, e n)
+  length-rows = measure-rows length refl length-append f w e
 
   pub getD-rows : (n i y : ℕ) (d : A) → i < n → y < w i → getD (rows n f) (sum w i + y) d ≡ getD (f i) y d
   unfolding rows

@@ -1,14 +1,14 @@
 -- Laws of shapes: the list of all entries has each entry at its place, and every place is an entry's.
 -- A line is plain; a stack is its rows, by the laws of rows.
 use mathlib.Core.Path.{_≡_, refl, sym, ap, _∙_, subst}
-use mathlib.Core.List.{List, map}
+use mathlib.Core.List.{List, [], _∷_, map}
 use Prim.Native.Nat.{ℕ, _+_, _<_}
 use native.Mathlib.Omega.{arith}
 use lib.ListN.{length, getD, length-map, List·getD-map}
 use lib.Seq.{ext-getD}
 use Rattle.interval.specs.Listing.{tab, sum}
 use Rattle.interval.specs.Shape.{Shape, line, stack, Entry, Inside, count, place, per}
-use Rattle.interval.proofs.Listing.{sum-lt, row-of, length-rows, getD-rows, length-tab, getD-tab}
+use Rattle.interval.proofs.Listing.{sum-lt, row-of, rows-same, map-rows, length-rows, getD-rows, length-tab, getD-tab}
 
 pub place-lt : (s : Shape) (x : Entry s) → Inside s x → place s x < count s
 place-lt (line n) x h = h
@@ -33,6 +33,17 @@ module _ {A : Type 0} where
       getD-rows (λ i. per (f i) (λ x. g (i, x))) (λ i. count (f i)) (λ i. length-per (f i) (λ x. g (i, x))) n (x .0) (place (f (x .0)) (x .1)) d (h .0)
       (place-lt (f (x .0)) (x .1) (h .1))
       ∙ getD-per (f (x .0)) (λ y. g (x .0, y)) (x .1) d (h .1)
+
+  -- two lists of all entries are equal if they agree on those inside
+  pub per-same : (s : Shape) (g h : Entry s → A) → ((x : Entry s) → Inside s x → g x ≡ h x) → per s g ≡ per s h
+  per-same (line n) g h e = rows-same n (λ i. g i ∷ []) (λ i. h i ∷ []) (λ i l. ap (λ (a : A). a ∷ []) (e i l))
+  per-same (stack n f) g h e =
+      rows-same n (λ i. per (f i) (λ x. g (i, x))) (λ i. per (f i) (λ x. h (i, x))) (λ i l. per-same (f i) (λ x. g (i, x)) (λ x. h (i, x)) (λ x m. e (i, x) (l, m)))
+
+  pub map-per : {B : Type 0} (h : A → B) (s : Shape) (g : Entry s → A) → map h (per s g) ≡ per s (λ x. h (g x))
+  map-per h (line n) g = map-rows h (λ i. g i ∷ []) n
+  map-per h (stack n f) g =
+      map-rows h (λ i. per (f i) (λ x. g (i, x))) n ∙ rows-same n _ _ (λ i l. map-per h (f i) (λ x. g (i, x)))
 
 -- the things that are In have the places 0 to n − 1, each once, in the order of the list
 pub record Numbered {A : Type 0} (In : A → Type 0) (placed : A → ℕ) (listed : List A) (n : ℕ) : Type 0 where

@@ -11,13 +11,15 @@ use Rattle.refusal.specs.Asked.{question, asked}
 use Rattle.refusal.specs.declared.Refusal.{Refusal}
 use Rattle.refusal.specs.declared.Reply.{Reply}
 use Rattle.refusal.specs.declared.Reply.the-variants.{Yes, No}
-use Rattle.refusal.proofs.Laws.{asked-append, replied-yes, replied-no}
-use Rattle.grammar.specs.Limits.{maxNodes}
+use Rattle.refusal.proofs.Laws.{asked-append, replied-yes, replied-no, asked-map}
+use Rattle.interval.specs.Limits.{maxSteps}
+use Rattle.grammar.specs.Limits.{maxNodes, maxChannels}
 use Rattle.grammar.specs.Trees.{textOf}
 use Rattle.grammar.proofs.Bytes.{ranged}
 use Rattle.formula.specs.Nodes.{Node, nodesIn}
 use Rattle.formula.specs.Questions.{formulaQuestions, acceptOf}
 use Rattle.formula.proofs.Standing.{end-within, text-is}
+use Rattle.formula.proofs.Laws.{accepted}
 use Rattle.formula.proofs.Asked.{asked-one, test-yes}
 use Rattle.rows.specs.Table.{rowOf, padded, tableOf}
 use Rattle.rows.specs.declared.Row.{Row}
@@ -26,6 +28,7 @@ use Rattle.rows.proofs.Steps.{field-at, drop-map}
 use Rattle.rows.proofs.Begun.{nodes-most}
 use Rattle.rows.proofs.Found.{Chosen, node-chosen}
 use Rattle.nodes.specs.Calls.{tabledOf, askNode, nodeQuestions, nodeRefusalOf, partPlace, nodePlaceOf, partOf, nodeTextOf}
+use Rattle.nodes.specs.declared.Tabled.{Tabled}
 use Rattle.nodes.specs.declared.Located.the-variants.{Part, Refused}
 
 module _ (C k : ℕ) (t : List ℕ) where
@@ -38,6 +41,23 @@ module _ (C k : ℕ) (t : List ℕ) where
     unfolding tabledOf acceptOf
     table-made n f =
         ap (λ (n : NodeTable). record { reply = Yes; table = n }) f ∙ sym (replied-yes (λ r. record { reply = No r; table = tableOf [] }) _ (formulaQuestions C k t) e)
+
+-- what the answer of the table's call says
+module _ (C k : ℕ) (t : List ℕ) (T : Tabled) (e : T ≡ tabledOf C k t) where
+  pub reply-is : T .reply ≡ acceptOf C k t
+  unfolding tabledOf acceptOf
+  reply-is = ap (λ (T : Tabled). T .reply) e ∙ asked-map (λ (T : Tabled). T .reply) _ _ (formulaQuestions C k t)
+
+  module _ (y : T .reply ≡ Yes) where
+    pub accepts : acceptOf C k t ≡ Yes
+    accepts = sym reply-is ∙ y
+
+    pub limits : (C ≤ maxChannels) × (k ≤ maxSteps)
+    limits = let a = accepted C k t accepts in (a .channels .1, a .steps)
+
+    pub table-is : T .table ≡ tableOf (map rowOf (nodesIn t))
+    unfolding tabledOf acceptOf
+    table-is = ap (λ (T : Tabled). T .table) (e ∙ replied-yes _ _ (formulaQuestions C k t) accepts)
 
 -- questions 1 to 7, then 8
 yes-both : (q : List Reply) (z : Reply) → asked q No z ≡ Yes → (asked q No Yes ≡ Yes) × (z ≡ Yes)

@@ -1,10 +1,12 @@
 // The calls on an accepted formula's nodes: the node table, and a node's own text.
+use grammar::MAX_NODES;
 use refusal::Refusal;
 use refusal::Reply;
 use rows::NodeTable;
 ghost use mathlib.Core.Path.{_≡_};
-ghost use Prim.Native.Nat.{ℕ};
-ghost use lib.ListN.{length};
+ghost use Prim.Native.Nat.{ℕ, _+_, _<_};
+ghost use lib.ListN.{length, getD};
+ghost use Rattle.grammar.specs.Limits.{maxNodes};
 ghost use Rattle.refusal.specs.declared.Reply.the-variants.{Yes};
 ghost use Rattle.formula.specs.Nodes.{nodesIn};
 ghost use Rattle.formula.specs.Questions.{acceptOf};
@@ -94,4 +96,13 @@ pub fn node_text(text: &[u8], c: u32, k: u32, x: u32) -> &[u8]
         }
         Located::Refused(_) => &text[0..0],
     }
+}
+
+// The row of the second part of the node at row x: after all those of the first, which is next.
+pub fn second(sizes: &[u8; MAX_NODES], x: usize) -> usize
+    requires { ⌜ x < maxNodes ⌝ }
+    ensures { λ r. ⌜ (r ≡ x + 1 + getD (now (sizes .entry)) (x + 1) 0) × (x < r) ⌝ }
+{
+    let first = x + 1;
+    first + rows::byte_at(sizes, first) as usize
 }

@@ -26,7 +26,7 @@ use Rattle.rows.proofs.Begun.{nodes-most, bytes-most}
 use Rattle.rows.proofs.Rows.{PartIs, PartsAre, row-found}
 
 -- a state assertion has no numbers
-state-numbers : (x : Tree State) → Numbers maxNumber x
+pub state-numbers : (x : Tree State) → Numbers maxNumber x
 state-numbers (constant v) = tt
 state-numbers (letter c) = tt
 state-numbers (negation x) = state-numbers x

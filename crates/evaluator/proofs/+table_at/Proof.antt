@@ -22,7 +22,7 @@ use Rattle.evaluator.proofs.table_at.Reads as table-at
 use Rattle.evaluator.proofs.table_at.Kinds as table-at-kinds
 use Rattle.evaluator.proofs.+table_at.Lts-table_at as table-at-lts
 use Rattle.chop.proofs.chop_table.Reads as chop-table-reads
-use Rattle.evaluator.proofs.second.Reads as second-reads
+use Rattle.nodes.proofs.second.Reads as second-reads
 use Rattle.evaluator.proofs.word_at.Reads as word-at-reads
 use Rattle.rows.proofs.byte_at.Reads as byte-at-reads
 use Rattle.table.proofs.constant_table.Reads as constant-table-reads

@@ -16,7 +16,7 @@ use borrow.Fn.PlainCycle.{Measures, is, falls, and}
 use Rattle.evaluator.proofs.word_at.Reads as word-at
 use Rattle.evaluator.proofs.word_at.Kinds as word-at-kinds
 use Rattle.evaluator.proofs.+word_at.Lts-word_at as word-at-lts
-use Rattle.evaluator.proofs.second.Reads as second-reads
+use Rattle.nodes.proofs.second.Reads as second-reads
 use Rattle.rows.proofs.byte_at.Reads as byte-at-reads
 use Rattle.word.proofs.channel_word.Reads as channel-word-reads
 use Rattle.word.proofs.constant_word.Reads as constant-word-reads

@@ -1,6 +1,7 @@
 -- `evaluate` is refused as its questions say, the text's before the recording's; otherwise its answer is the root's truth,
 -- since the tree that the text reads as stands in the node table (Laws.antt).
-use Rattle.evaluator.proofs.Laws.{refused-first, limits, refused-later, in-order, answered}
+use Rattle.evaluator.proofs.Laws.{refused-first, refused-later, in-order, answered}
+use Rattle.nodes.proofs.Laws.{limits}
 use native.Mathlib.Omega.{arith}
 use mathlib.Core.Path.{sym, _∙_}
 use borrow.Author.Needs.{needs}

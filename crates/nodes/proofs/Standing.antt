@@ -1,8 +1,8 @@
 -- The nodes of a part stand in a row in the list of nodes, from the part's own on, so its rows do in the table:
--- the first part's come next, the second part's after them.
-use mathlib.Core.Path.{_≡_, refl, sym, ap, _∙_}
-use mathlib.Core.List.{List, [], _∷_, _++_, map, append-assoc}
-use Prim.Native.Nat.{ℕ, suc, _+_}
+-- the first part's come next, the second part's after them. Each node of a tree is its part's own, so every part stands at its row.
+use mathlib.Core.Path.{_≡_, refl, sym, ap, _∙_, subst}
+use mathlib.Core.List.{List, [], _∷_, _++_, map, append-assoc, append-nil}
+use Prim.Native.Nat.{ℕ, zero, suc, _+_, _<_}
 use native.Mathlib.Omega.{arith}
 use lib.ListN.{length, drop, length-append}
 use Rattle.grammar.specs.Trees.{Tree, constant, letter, negation, pair, duration, throughout, textOf}
@@ -11,10 +11,10 @@ use Rattle.grammar.proofs.Written.{drop-front}
 use Rattle.formula.specs.Nodes.{Node, node, nodesOf}
 use Rattle.rows.specs.Table.{rowOf, padded}
 use Rattle.rows.specs.declared.Row.{Row}
+use Rattle.nodes.specs.Parts.{sizeOf, Own, Stands}
 use Rattle.nodes.proofs.Laws.{field-after}
-use Rattle.evaluator.specs.Parts.{sizeOf, Own, Stands}
 
-nodes-count : {s : Sort} (x : Tree s) (at : ℕ) → length (nodesOf x at) ≡ sizeOf x
+pub nodes-count : {s : Sort} (x : Tree s) (at : ℕ) → length (nodesOf x at) ≡ sizeOf x
 unfolding nodesOf sizeOf
 nodes-count (constant v) at = refl
 nodes-count (letter c) at = refl
@@ -66,3 +66,35 @@ module _ (l : List Node) where
   stands (throughout x) n at m e =
       let w = stands x (n + 1) (suc at) m (next _ n _ e) in
       record { own = own-row (throughout x) n at _ e; parts = (w .own, w .parts) }
+
+-- the list begins with the nodes of a part
+abbrev pub Begins : List Node → Type 0
+Begins l = (w : Node) × (m : List Node) × (l ≡ nodesOf (w .part) (w .first) ++ m)
+
+-- so it does from each node on
+abbrev AllBegin : List Node → Type 0
+AllBegin l = (n : ℕ) → n < length l → Begins (drop n l)
+
+begin-more : (w : Node) (l m : List Node) → w ∷ l ≡ nodesOf (w .part) (w .first) ++ m → AllBegin l → AllBegin (w ∷ l)
+begin-more w l m e r zero h = (w, m, e)
+begin-more w l m e r (suc n) h = r n (omega arith)
+
+all-begin : {s : Sort} (x : Tree s) (at : ℕ) (m : List Node) → AllBegin m → AllBegin (nodesOf x at ++ m)
+unfolding nodesOf
+all-begin {s} (constant v) at m r = begin-more (node {s = s} (constant v) at) m m refl r
+all-begin (letter c) at m r = begin-more (node (letter c) at) m m refl r
+all-begin (negation x) at m r = begin-more (node (negation x) at) (nodesOf x (suc at) ++ m) m refl (all-begin x (suc at) m r)
+all-begin (pair l x y) at m r =
+    let a = nodesOf x (suc at) in
+    let b = nodesOf y (suc (suc at + length (textOf x))) in
+    let v = all-begin x (suc at) (b ++ m) (all-begin y _ m r) in
+    begin-more (node (pair l x y) at) ((a ++ b) ++ m) m refl (subst AllBegin (sym (append-assoc a b m)) v)
+all-begin (duration x c) at m r = begin-more (node (duration x c) at) (nodesOf x (suc at) ++ m) m refl (all-begin x (suc at) m r)
+all-begin (throughout x) at m r = begin-more (node (throughout x) at) (nodesOf x (suc at) ++ m) m refl (all-begin x (suc at) m r)
+
+none-begin : AllBegin []
+none-begin n h = absurd (omega arith)
+
+-- the node n of a tree, from 0: the nodes from it on begin with those of its part
+pub node-at : {s : Sort} (x : Tree s) (at n : ℕ) → n < length (nodesOf x at) → Begins (drop n (nodesOf x at))
+node-at x at n h = subst AllBegin (append-nil (nodesOf x at)) (all-begin x at [] none-begin) n h
