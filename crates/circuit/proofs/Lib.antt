@@ -1,0 +1,5 @@
+pub mod Lists
+pub mod Blocks
+pub mod Once
+pub mod Inputs
+pub mod Laws

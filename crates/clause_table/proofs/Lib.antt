@@ -1,0 +1,6 @@
+pub mod Rows
+pub mod Measure
+pub mod Places
+pub mod Call
+pub mod Laws
+pub mod Edges

@@ -1,0 +1,64 @@
+-- The block that the code makes of a row has the row's fields; its numbers are low, since first variables are.
+-- After the nodes' places come the root's, the truth of row 0 on [0, k].
+use mathlib.Core.Path.{_≡_, refl, sym, ap, ap₂, _∙_, subst}
+use mathlib.Core.List.{List, _++_}
+use Prim.Native.Nat.{ℕ, _+_, _*_, _≤_, _<_}
+use native.Mathlib.Nat.{mul-le-mul}
+use native.Mathlib.Omega.{arith}
+use lib.ListN.{getD}
+use borrow.Author.Tests.{eq-eqb, ne-eqb}
+use Rattle.interval.specs.Listing.{rows}
+use Rattle.interval.specs.Limits.{maxSteps, maxCount}
+use Rattle.interval.specs.Places.{countOf}
+use Rattle.grammar.specs.Limits.{maxChannels}
+use Rattle.blocks.specs.Blocks.{ruleBy, numberOf, bound}
+use Rattle.blocks.specs.declared.Block.{Block}
+use Rattle.blocks.specs.declared.Rule.{Rule}
+use Rattle.blocks.proofs.Positions.{rule-number}
+use Rattle.weights.specs.Weights.{pointsBy}
+use Rattle.clauses.specs.Entries.{Entry}
+use Rattle.literals.specs.Written.{Room, Wrote, runOf}
+use Rattle.literals.proofs.Written.{and-then, named, room-next}
+use Rattle.node_clauses.specs.Nodes.{Fine}
+use Rattle.clause_table.specs.Rows.{seatBy, blockBy, Low}
+
+module _ (kinds numbers firsts : List ℕ) (k y : ℕ) {first kind : ℕ} (p : first ≡ getD firsts y 0) (q : kind ≡ getD kinds y 0) where
+  pub seat-lasting : {n i : ℕ} → kind ≡ 23 → n ≡ getD numbers y 0 → i ≡ countOf k → first + n * i ≡ seatBy kinds numbers firsts k y
+  unfolding seatBy
+  seat-lasting e f g = rw (← q, eq-eqb kind 23 e, ← p, ← f, ← g) refl
+
+  pub seat-other : (kind ≡ 23 → ⊥) → first ≡ seatBy kinds numbers firsts k y
+  unfolding seatBy
+  seat-other n = rw (← q, ne-eqb kind 23 n) (omega (arith, p))
+
+pub level-low : (n i : ℕ) → n ≤ 255 → i ≤ maxCount → n * i ≤ 255 * maxCount
+level-low n i h l = mul-le-mul {n₂ = 255} {m₂ = maxCount} h l
+
+module _ (kinds numbers sizes firsts : List ℕ) (k x kind : ℕ) {number : ℕ} {b : Block} (rule : b .rule ≡ ruleBy kind number) (first : b .first ≡ getD firsts x 0) where
+  pub block-read : {z : ℕ} → kind ≡ getD kinds x 0 → number ≡ getD numbers x 0 → z ≡ x + 1 + getD sizes (x + 1) 0 → b .points ≡ pointsBy k kind → b .left ≡ seatBy kinds numbers firsts k (x + 1)
+      → b .right ≡ seatBy kinds numbers firsts k z → b ≡ blockBy kinds numbers sizes firsts k x
+  unfolding blockBy
+  block-read e f g p l r =
+      let u = rule ∙ ap₂ ruleBy e f in
+      let q = p ∙ ap (pointsBy k) e in
+      let z = r ∙ ap (seatBy kinds numbers firsts k) g in
+      λ i. record { rule = u i; points = q i; first = first i; left = l i; right = z i }
+
+  pub block-fine : number ≤ 255 → k ≤ maxSteps → Low firsts → b .points ≤ maxCount → b .left < bound → b .right < bound → (C : ℕ) → C ≤ maxChannels → Fine C k b
+  block-fine n h low p l r C c = record {
+    sound = record { channels = c; steps = h; number = subst (λ (r : Rule). numberOf r ≤ 255) (sym rule) (rule-number kind number n); first = omega (arith, first, low x); left = l; right = r };
+    points = p;
+    first = omega (arith, first, low x);
+  }
+
+-- ---- the nodes' places, and then the root's, its variable being the one that the code has found
+
+module _ (F : List Entry) (k : ℕ) {w s : ℕ} (e : w ≡ s) where
+  root-same : F ++ rows 1 (runOf (w + k) 3) ≡ F ++ rows 1 (runOf (s + k) 3)
+  root-same = ap (λ (w : ℕ). F ++ rows 1 (runOf (w + k) 3)) e
+
+  pub root-room : {v m v′ m′ : List ℕ} {at at′ : ℕ} → Room v m at (F ++ rows 1 (runOf (s + k) 3)) → Wrote v m at F v′ m′ at′ → Room v′ m′ at′ (rows 1 (runOf (w + k) 3))
+  root-room r t = room-next r F (rows 1 (runOf (w + k) 3)) root-same t
+
+  pub root-wrote : {v m v′ m′ v″ m″ : List ℕ} {at at′ at″ : ℕ} → Wrote v m at F v′ m′ at′ → Wrote v′ m′ at′ (rows 1 (runOf (w + k) 3)) v″ m″ at″ → Wrote v m at (F ++ rows 1 (runOf (s + k) 3)) v″ m″ at″
+  root-wrote t u = named root-same (and-then t u)

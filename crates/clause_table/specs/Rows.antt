@@ -1,0 +1,72 @@
+-- What a row of the node table defines, as the code goes by it. No call open to others cites these.
+use mathlib.Core.Bool.{cond}
+use mathlib.Core.Path.{_≡_}
+use mathlib.Core.List.{List, [], _∷_, _++_}
+use Prim.Native.Nat.{ℕ, _+_, _*_, _≤_, _<_}
+use lib.Dec.{eqb}
+use lib.ListN.{length, getD}
+use Rattle.refusal.specs.Asked.{asked}
+use Rattle.interval.specs.Listing.{rows}
+use Rattle.interval.specs.Places.{countOf}
+use Rattle.grammar.specs.Trees.{Tree}
+use Rattle.grammar.specs.declared.Sort.the-variants.{Formula}
+use Rattle.blocks.specs.Blocks.{ruleBy}
+use Rattle.blocks.specs.declared.Block.{Block}
+use Rattle.weights.specs.Weights.{variableWeight, clauseWeight, literalWeight, pointsBy, weightTo, maxSum}
+use Rattle.clauses.specs.Clauses.{clauseTable}
+use Rattle.clauses.specs.Entries.{Entry, flat}
+use Rattle.literals.specs.Written.{runOf}
+use Rattle.node_clauses.specs.Nodes.{nodePlaces}
+use Rattle.clause_table.specs.Table.{After, sizesOf, askRoom, refused, written}
+use Rattle.clause_table.specs.declared.Sizes.{Sizes}
+
+-- where in its block a node's truth begins: a duration, 23, has its levels below it
+abbrev pub truthBy : ℕ → ℕ → ℕ → ℕ
+truthBy k kind n = cond (eqb kind 23) (n * countOf k) 0
+
+-- the first variable of the truth of the node at row y, firsts being the first variables of the nodes
+unfoldable pub seatBy : List ℕ → List ℕ → List ℕ → ℕ → ℕ → ℕ
+seatBy kinds numbers firsts k y = getD firsts y 0 + truthBy k (getD kinds y 0) (getD numbers y 0)
+
+-- the block of the node at row x
+unfoldable pub blockBy : List ℕ → List ℕ → List ℕ → List ℕ → ℕ → ℕ → Block
+blockBy kinds numbers sizes firsts k x = record {
+  rule = ruleBy (getD kinds x 0) (getD numbers x 0);
+  points = pointsBy k (getD kinds x 0);
+  first = getD firsts x 0;
+  left = seatBy kinds numbers firsts k (x + 1);
+  right = seatBy kinds numbers firsts k (x + 1 + getD sizes (x + 1) 0);
+}
+
+-- the places of the node at row x
+abbrev pub rowPlaces : ℕ → ℕ → List ℕ → List ℕ → List ℕ → List ℕ → ℕ → List Entry
+rowPlaces C k kinds numbers sizes firsts x = nodePlaces C k (blockBy kinds numbers sizes firsts k x)
+
+-- the last clause: the root on [0, k], whose place is k
+abbrev pub rootPlaces : List ℕ → List ℕ → List ℕ → ℕ → ℕ → List Entry
+rootPlaces kinds numbers firsts k = runOf (seatBy kinds numbers firsts k 0 + k) 3
+
+abbrev pub tablePlaces : ℕ → ℕ → List ℕ → List ℕ → List ℕ → List ℕ → ℕ → List Entry
+tablePlaces C k kinds numbers sizes firsts n = rows n (rowPlaces C k kinds numbers sizes firsts) ++ rows 1 (rootPlaces kinds numbers firsts k)
+
+-- first variables are below this, whatever the node table says
+abbrev pub Low : List ℕ → Type 0
+Low firsts = (y : ℕ) → getD firsts y 0 ≤ maxSum
+
+-- the sizes, as the code hands them on
+abbrev pub fiveOf : ℕ → ℕ → Sizes → List ℕ
+fiveOf C k s = C ∷ k ∷ s .variables ∷ s .clauses ∷ s .literals ∷ []
+
+-- what a node table measures, and the first variable of each node
+pub record Measured (C k : ℕ) (kinds numbers : List ℕ) (n : ℕ) (firsts : List ℕ) (s : Sizes) : Type 0 where
+  pub variables : s .variables ≡ k * C + weightTo variableWeight k kinds numbers n
+  pub clauses : s .clauses ≡ 1 + weightTo clauseWeight k kinds numbers n
+  pub literals : s .literals ≡ 1 + weightTo literalWeight k kinds numbers n
+  pub first : (y : ℕ) → y < n → getD firsts y 0 ≡ 1 + k * C + weightTo variableWeight k kinds numbers y
+  pub low : Low firsts
+
+-- what the call does with an accepted formula's node table
+unfoldable pub tabledBy : ℕ → ℕ → Tree Formula → List ℕ → List ℕ → List ℕ → After
+tabledBy C k f sizes variables marks =
+    asked (askRoom (length (flat (clauseTable C k f))) (length sizes) (length variables) (length marks) ∷ []) (refused sizes variables marks)
+    (written (sizesOf C k f) (flat (clauseTable C k f)) sizes variables marks)

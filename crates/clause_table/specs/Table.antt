@@ -1,0 +1,66 @@
+-- Document 01, "Clause file" and "Questions in order", 18: what the table's call answers, and every lent array after it.
+use mathlib.Core.Bool.{_&&_}
+use mathlib.Core.List.{List, [], _∷_, _++_}
+use Prim.Native.Nat.{ℕ}
+use lib.Dec.{leb}
+use lib.ListN.{length, drop}
+use Rattle.refusal.specs.Asked.{question, asked}
+use Rattle.refusal.specs.declared.Refusal.{Refusal}
+use Rattle.refusal.specs.declared.Reply.{Reply}
+use Rattle.grammar.specs.Trees.{Tree}
+use Rattle.grammar.specs.Reader.{Read, tree, stopped, read}
+use Rattle.grammar.specs.declared.Sort.the-variants.{Formula}
+use Rattle.formula.specs.Nodes.{nodesOf}
+use Rattle.formula.specs.Questions.{formulaQuestions}
+use Rattle.circuit.specs.Circuit.{variablesOf}
+use Rattle.clauses.specs.Clauses.{clauseTable}
+use Rattle.clauses.specs.Entries.{Entry, flat, variablesIn, marksIn}
+use Rattle.clause_table.specs.declared.Written.{Written}
+use Rattle.clause_table.specs.declared.Written.the-variants.{Done, Refused}
+
+-- "five 32-bit unsigned numbers [..]: C, k, variables V, clauses M, literals L"
+unfoldable pub sizesOf : ℕ → ℕ → Tree Formula → List ℕ
+sizesOf C k f = C ∷ k ∷ variablesOf C k (nodesOf f 0) ∷ length (clauseTable C k f) ∷ length (flat (clauseTable C k f)) ∷ []
+
+-- of the tree that a text reads as; a text that does not read is refused before
+abbrev pub onTree : {A : Type 0} → (Tree Formula → List A) → Read Formula → List A
+onTree g (tree f) = g f
+onTree g (stopped p) = []
+
+-- the sizes and the places of a text's table
+unfoldable pub sizesIn : ℕ → ℕ → List ℕ → List ℕ
+sizesIn C k t = onTree (sizesOf C k) (read t)
+
+unfoldable pub placesIn : ℕ → ℕ → List ℕ → List Entry
+placesIn C k t = onTree (λ f. flat (clauseTable C k f)) (read t)
+
+-- question 18: is every lent output array long enough? Five sizes, and L places of either array.
+unfoldable pub askRoom : ℕ → ℕ → ℕ → ℕ → Reply
+askRoom L sizes variables marks = question 18 0 (leb 5 sizes && leb L variables && leb L marks)
+
+-- "the table [asks] 1 to 7 and 18"
+abbrev pub tableQuestions : ℕ → ℕ → List ℕ → List ℕ → List ℕ → List ℕ → List Reply
+tableQuestions C k t sizes variables marks = formulaQuestions C k t ++ askRoom (length (placesIn C k t)) (length sizes) (length variables) (length marks) ∷ []
+
+-- "In every lent output, places beyond those written are untouched."
+abbrev pub over : List ℕ → List ℕ → List ℕ
+over new old = new ++ drop (length new) old
+
+-- the answer, and the arrays after it
+pub record After : Type 0 where
+  pub answer : Written
+  pub sizes : List ℕ
+  pub variables : List ℕ
+  pub marks : List ℕ
+
+-- where refused, nothing is written
+abbrev pub refused : List ℕ → List ℕ → List ℕ → Refusal → After
+refused sizes variables marks r = record { answer = Refused r; sizes = sizes; variables = variables; marks = marks }
+
+-- "A table in memory is the same two arrays."
+abbrev pub written : List ℕ → List Entry → List ℕ → List ℕ → List ℕ → After
+written five F sizes variables marks = record { answer = Done; sizes = over five sizes; variables = over (variablesIn F) variables; marks = over (marksIn F) marks }
+
+unfoldable pub tabled : ℕ → ℕ → List ℕ → List ℕ → List ℕ → List ℕ → After
+tabled C k t sizes variables marks =
+    asked (tableQuestions C k t sizes variables marks) (refused sizes variables marks) (written (sizesIn C k t) (placesIn C k t) sizes variables marks)

@@ -1,0 +1,269 @@
+// The clause table of a formula, written to lent arrays block by block.
+use blocks::Block;
+use grammar::MAX_NODES;
+use interval::Interval;
+use refusal::Refusal;
+use refusal::Reply;
+use rows::NodeTable;
+use weights::Weight;
+ghost use mathlib.Core.Path.{_≡_};
+ghost use mathlib.Core.List.{map};
+ghost use Prim.Native.Nat.{ℕ, _+_, _≤_, _<_};
+ghost use lib.ListN.{length, getD};
+ghost use Rattle.interval.specs.Listing.{rows};
+ghost use Rattle.grammar.specs.Limits.{maxNodes, maxChannels};
+ghost use Rattle.interval.specs.Limits.{maxSteps};
+ghost use Rattle.grammar.specs.Trees.{Tree};
+ghost use Rattle.grammar.specs.declared.Sort.the-variants.{Formula};
+ghost use Rattle.formula.specs.Nodes.{nodesOf};
+ghost use Rattle.rows.specs.Table.{rowOf, tableOf};
+ghost use Rattle.blocks.specs.Blocks.{bound};
+ghost use Rattle.literals.specs.Written.{Room, Wrote};
+ghost use Rattle.clause_table.specs.Table.{askRoom, over, tabled};
+ghost use Rattle.node_clauses.specs.Nodes.{Fine};
+ghost use Rattle.clause_table.specs.Rows.{Low, seatBy, blockBy, rowPlaces, tablePlaces, Measured, fiveOf, tabledBy};
+
+// What the call answers.
+pub enum Written {
+    Done,
+    Refused(Refusal),
+}
+
+// V, M and L.
+pub struct Sizes {
+    pub variables: u32,
+    pub clauses: u32,
+    pub literals: u32,
+}
+
+// The number at a place, and 0 past the end.
+fn number_at(numbers: &[u32], at: usize) -> u32
+    ensures { λ r. ⌜ r ≡ getD (now (numbers .entry)) at 0 ⌝ }
+{
+    if at < numbers.len() { numbers[at] } else { 0 }
+}
+
+// The first variable of the truth of the node at row y: of a duration, the last level's.
+fn seat<'a>(
+    kinds: &'a [u8; MAX_NODES],
+    numbers: &'a [u8; MAX_NODES],
+    firsts: &[u32; MAX_NODES],
+    k: u32,
+    y: usize,
+) -> u32
+    requires { ⌜ (k ≤ maxSteps) × Low (now firsts) ⌝ }
+    ensures { λ r. ⌜ (r ≡ seatBy (now (kinds .entry)) (now (numbers .entry)) (now (firsts .entry)) k y) × (r < bound) ⌝ }
+{
+    let first = number_at(firsts, y);
+    if rows::byte_at(kinds, y) == 23 {
+        let n = rows::byte_at(numbers, y) as u32;
+        return first + n * Interval::count(k as usize) as u32;
+    }
+    first
+}
+
+// The block of the node at row x: its first part is at the next row.
+fn block_at<'a>(
+    kinds: &'a [u8; MAX_NODES],
+    numbers: &'a [u8; MAX_NODES],
+    sizes: &'a [u8; MAX_NODES],
+    firsts: &[u32; MAX_NODES],
+    k: u32,
+    x: usize,
+) -> Block
+    requires { ⌜ (k ≤ maxSteps) × (x < maxNodes) × Low (now firsts) ⌝ }
+    ensures { λ r. ⌜ r ≡ blockBy (now (kinds .entry)) (now (numbers .entry)) (now (sizes .entry)) (now (firsts .entry)) k x ⌝ }
+    ensures { λ r. ⌜ ((c : ℕ) → c ≤ maxChannels → Fine c k r) ⌝ }
+{
+    let kind = rows::byte_at(kinds, x);
+    let left = seat(kinds, numbers, firsts, k, x + 1);
+    let right = seat(kinds, numbers, firsts, k, nodes::second(sizes, x));
+    Block {
+        rule: blocks::rule_of(kind, rows::byte_at(numbers, x)),
+        points: weights::points_of(kind, k),
+        first: number_at(firsts, x),
+        left,
+        right,
+    }
+}
+
+// The clauses of all nodes, in number order.
+fn put_nodes<'a>(
+    variables: &mut [u32],
+    marks: &mut [u8],
+    kinds: &'a [u8; MAX_NODES],
+    numbers: &'a [u8; MAX_NODES],
+    sizes: &'a [u8; MAX_NODES],
+    firsts: &[u32; MAX_NODES],
+    count: usize,
+    c: u32,
+    k: u32,
+) -> usize
+    requires { ⌜ Room (now variables) (now marks) 0 (rows count (rowPlaces c k (now kinds) (now numbers) (now sizes) (now firsts))) ⌝ }
+    requires { ⌜ (c ≤ maxChannels) × (k ≤ maxSteps) × (count ≤ maxNodes) × Low (now firsts) ⌝ }
+    ensures { λ r. ⌜ Wrote (now (variables .entry)) (now (marks .entry)) 0 (rows count (rowPlaces c k (now (kinds .entry)) (now (numbers .entry)) (now (sizes .entry)) (now (firsts .entry)))) (now (variables .exit)) (now (marks .exit)) r ⌝ }
+{
+    let mut at = 0;
+    for x in 0..count {
+        let block = block_at(kinds, numbers, sizes, firsts, k, x);
+        at = node_clauses::put_node(variables, marks, at, c, k, block);
+    }
+    at
+}
+
+// The whole table: the nodes' clauses, then the root alone.
+fn put_table<'a>(
+    variables: &mut [u32],
+    marks: &mut [u8],
+    kinds: &'a [u8; MAX_NODES],
+    numbers: &'a [u8; MAX_NODES],
+    sizes: &'a [u8; MAX_NODES],
+    firsts: &[u32; MAX_NODES],
+    count: usize,
+    c: u32,
+    k: u32,
+) -> usize
+    requires { ⌜ Room (now variables) (now marks) 0 (tablePlaces c k (now kinds) (now numbers) (now sizes) (now firsts) count) ⌝ }
+    requires { ⌜ (c ≤ maxChannels) × (k ≤ maxSteps) × (count ≤ maxNodes) × Low (now firsts) ⌝ }
+    ensures { λ r. ⌜ Wrote (now (variables .entry)) (now (marks .entry)) 0 (tablePlaces c k (now (kinds .entry)) (now (numbers .entry)) (now (sizes .entry)) (now (firsts .entry)) count) (now (variables .exit)) (now (marks .exit)) r ⌝ }
+{
+    let at = put_nodes(variables, marks, kinds, numbers, sizes, firsts, count, c, k);
+    let root = seat(kinds, numbers, firsts, k, 0) + k;
+    literals::put_run(variables, marks, at, root, 1, 3)
+}
+
+// The sizes of a formula, by its node table, and the first variable of each node: one sum along the nodes, for each of the three.
+fn sizes_of<'a>(
+    kinds: &'a [u8; MAX_NODES],
+    numbers: &'a [u8; MAX_NODES],
+    count: usize,
+    c: u32,
+    k: u32,
+    firsts: &mut [u32; MAX_NODES],
+) -> Sizes
+    requires { ⌜ (c ≤ maxChannels) × (k ≤ maxSteps) × (count ≤ maxNodes) × (length (now firsts) ≡ maxNodes) × Low (now firsts) ⌝ }
+    ensures { λ r. ⌜ Measured c k (now (kinds .entry)) (now (numbers .entry)) count (now (firsts .exit)) r ⌝ }
+{
+    let clauses = weights::sums(
+        kinds,
+        numbers,
+        count,
+        k,
+        Weight {
+            copy: 2,
+            each: 1,
+            step: 4,
+        },
+        1,
+        firsts,
+    );
+    let literals = weights::sums(
+        kinds,
+        numbers,
+        count,
+        k,
+        Weight {
+            copy: 4,
+            each: 3,
+            step: 11,
+        },
+        1,
+        firsts,
+    );
+    let end = weights::sums(
+        kinds,
+        numbers,
+        count,
+        k,
+        Weight {
+            copy: 1,
+            each: 0,
+            step: 1,
+        },
+        1 + k * c,
+        firsts,
+    );
+    Sizes {
+        variables: end - 1,
+        clauses,
+        literals,
+    }
+}
+
+// Question 18, by the arrays' lengths.
+fn ask_room(literals: u32, sizes: usize, variables: usize, marks: usize) -> Reply
+    ensures { λ r. ⌜ r ≡ askRoom literals sizes variables marks ⌝ }
+{
+    let l = literals as usize;
+    if 5 <= sizes {
+        if l <= variables {
+            if l <= marks {
+                return Reply::Yes;
+            }
+        }
+    }
+    Reply::No(Refusal {
+        number: 18,
+        place: 0,
+    })
+}
+
+// The five sizes.
+fn put_sizes(sizes: &mut [u32], c: u32, k: u32, s: Sizes)
+    requires { ⌜ 5 ≤ length (now sizes) ⌝ }
+    ensures { λ _. ⌜ now (sizes .exit) ≡ over (fiveOf c k s) (now (sizes .entry)) ⌝ }
+{
+    literals::put_numbers(sizes, 0, &[c, k, s.variables, s.clauses, s.literals]);
+}
+
+// The table of an accepted formula, from its node table: question 18, and then every place.
+fn write_table(
+    table: NodeTable,
+    c: u32,
+    k: u32,
+    sizes: &mut [u32],
+    variables: &mut [u32],
+    marks: &mut [u8],
+) -> Written
+    requires { ⌜ (c ≤ maxChannels) × (k ≤ maxSteps) × (table .count ≤ maxNodes) ⌝ }
+    ensures { λ r. ⌜ ((f : Tree Formula) → table ≡ tableOf (map rowOf (nodesOf f 0)) → record { answer = r; sizes = now (sizes .exit); variables = now (variables .exit); marks = now (marks .exit) } ≡ tabledBy c k f (now (sizes .entry)) (now (variables .entry)) (now (marks .entry))) ⌝ }
+{
+    let mut firsts = [0; MAX_NODES];
+    let s = sizes_of(&table.kinds, &table.numbers, table.count, c, k, &mut firsts);
+    if let Reply::No(r) = ask_room(s.literals, sizes.len(), variables.len(), marks.len()) {
+        return Written::Refused(r);
+    }
+    put_sizes(sizes, c, k, s);
+    put_table(
+        variables,
+        marks,
+        &table.kinds,
+        &table.numbers,
+        &table.sizes,
+        &firsts,
+        table.count,
+        c,
+        k,
+    );
+    Written::Done
+}
+
+// The clause table of a formula of C channels over k steps: C, k, V, M and L to `sizes`, the literals to the two arrays.
+pub fn table(
+    text: &[u8],
+    c: u32,
+    k: u32,
+    sizes: &mut [u32],
+    variables: &mut [u32],
+    marks: &mut [u8],
+) -> Written
+    ensures { λ r. ⌜ record { answer = r; sizes = now (sizes .exit); variables = now (variables .exit); marks = now (marks .exit) } ≡ tabled c k (now (text .entry)) (now (sizes .entry)) (now (variables .entry)) (now (marks .entry)) ⌝ }
+{
+    let tabled = nodes::node_table(text, c, k);
+    let reply = tabled.reply;
+    if let Reply::No(r) = reply {
+        return Written::Refused(r);
+    }
+    let table = tabled.table;
+    write_table(table, c, k, sizes, variables, marks)
+}

@@ -1,0 +1,4 @@
+pub mod Meets
+pub mod Good
+pub mod ReadBack
+pub mod Sizes

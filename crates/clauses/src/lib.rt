@@ -1,0 +1,1 @@
+// The clauses of a formula, as definitions: crate `literals` writes them.

@@ -1,0 +1,106 @@
+// Literals written to a table in memory: two parallel arrays, variable numbers and marks.
+ghost use mathlib.Core.Path.{_≡_};
+ghost use mathlib.Core.List.{List};
+ghost use Prim.Native.Nat.{_+_, _≤_};
+ghost use lib.ListN.{length};
+ghost use lib.Seq.{sets};
+ghost use Rattle.interval.specs.Listing.{rows};
+ghost use Rattle.clauses.specs.Entries.{Entry, variablesIn, marksIn, flat};
+ghost use Rattle.circuit.specs.declared.Gate.the-variants.{AnyOf};
+ghost use Rattle.meaning.specs.Meaning.{bit};
+ghost use Rattle.clauses.specs.Clauses.{clausesOf};
+ghost use Rattle.literals.specs.Written.{Room, Wrote, runOf, raisedOf, longOf, limit};
+
+// Stores numbers from a place on.
+pub fn put_numbers(variables: &mut [u32], at: usize, new: &[u32])
+    requires { ⌜ at + length (now new) ≤ length (now variables) ⌝ }
+    ensures { λ _. ⌜ now (variables .exit) ≡ sets (now (variables .entry)) at (now (new .entry)) ⌝ }
+{
+    for e in 0..new.len() {
+        variables[at + e] = new[e];
+    }
+}
+
+// Stores marks from a place on.
+fn put_marks(marks: &mut [u8], at: usize, new: &[u8])
+    requires { ⌜ at + length (now new) ≤ length (now marks) ⌝ }
+    ensures { λ _. ⌜ now (marks .exit) ≡ sets (now (marks .entry)) at (now (new .entry)) ⌝ }
+{
+    for e in 0..new.len() {
+        marks[at + e] = new[e];
+    }
+}
+
+// Numbers and their marks, from a place on; the place after them. The numbers go before the marks, so that each are stored together.
+pub fn put(variables: &mut [u32], marks: &mut [u8], at: usize, n: &[u32], m: &[u8]) -> usize
+    requires { ⌜ (at + length (now n) ≤ length (now variables)) × (at + length (now m) ≤ length (now marks)) ⌝ }
+    ensures { λ r. ⌜ ((F : List Entry) → variablesIn F ≡ now (n .entry) → marksIn F ≡ now (m .entry) → Wrote (now (variables .entry)) (now (marks .entry)) at F (now (variables .exit)) (now (marks .exit)) r) ⌝ }
+{
+    put_numbers(variables, at, n);
+    put_marks(marks, at, m);
+    at + n.len()
+}
+
+// n variables from w on, each with the same mark.
+pub fn put_run(
+    variables: &mut [u32],
+    marks: &mut [u8],
+    at: usize,
+    w: u32,
+    n: u32,
+    mark: u8,
+) -> usize
+    requires { ⌜ Room (now variables) (now marks) at (rows n (runOf w mark)) ⌝ }
+    requires { ⌜ w + n ≤ limit ⌝ }
+    ensures { λ r. ⌜ Wrote (now (variables .entry)) (now (marks .entry)) at (rows n (runOf w mark)) (now (variables .exit)) (now (marks .exit)) r ⌝ }
+{
+    let mut b = at;
+    for e in 0..n {
+        variables[b] = w + e;
+        marks[b] = mark;
+        b += 1;
+    }
+    b
+}
+
+// (v -w) for n variables w.
+fn put_raised(variables: &mut [u32], marks: &mut [u8], at: usize, v: u32, w: u32, n: u32) -> usize
+    requires { ⌜ Room (now variables) (now marks) at (rows n (raisedOf v w)) ⌝ }
+    requires { ⌜ w + n ≤ limit ⌝ }
+    ensures { λ r. ⌜ Wrote (now (variables .entry)) (now (marks .entry)) at (rows n (raisedOf v w)) (now (variables .exit)) (now (marks .exit)) r ⌝ }
+{
+    let mut b = at;
+    for e in 0..n {
+        b = put(variables, marks, b, &[v, w + e], &[1, 2]);
+    }
+    b
+}
+
+// (-v w .. w) over n variables w.
+fn put_long(variables: &mut [u32], marks: &mut [u8], at: usize, v: u32, w: u32, n: u32) -> usize
+    requires { ⌜ Room (now variables) (now marks) at (longOf v w n) ⌝ }
+    requires { ⌜ (1 ≤ n) × (w + n ≤ limit) ⌝ }
+    ensures { λ r. ⌜ Wrote (now (variables .entry)) (now (marks .entry)) at (longOf v w n) (now (variables .exit)) (now (marks .exit)) r ⌝ }
+{
+    let last = n - 1;
+    let b = put(variables, marks, at, &[v], &[0]);
+    let d = put_run(variables, marks, b, w, last, 1);
+    put(variables, marks, d, &[w + last], &[3])
+}
+
+// v is any of n variables from w on.
+pub fn put_any(variables: &mut [u32], marks: &mut [u8], at: usize, v: u32, w: u32, n: u32) -> usize
+    requires { ⌜ Room (now variables) (now marks) at (flat (clausesOf v (AnyOf w n))) ⌝ }
+    requires { ⌜ (1 ≤ n) × (w + n ≤ limit) ⌝ }
+    ensures { λ r. ⌜ Wrote (now (variables .entry)) (now (marks .entry)) at (flat (clausesOf v (AnyOf w n))) (now (variables .exit)) (now (marks .exit)) r ⌝ }
+{
+    let b = put_raised(variables, marks, at, v, w, n);
+    put_long(variables, marks, b, v, w, n)
+}
+
+// The mark of a clause's final literal.
+pub fn closing(plain: bool) -> u8
+    ensures { λ r. ⌜ r ≡ bit plain + 2 ⌝ }
+{
+    if plain { 3 } else { 2 }
+}

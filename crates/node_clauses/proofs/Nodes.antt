@@ -1,0 +1,84 @@
+-- A node's definitions are those of its one block, or of a chop's two, one after the other; so are their clauses' places.
+-- The blocks of a node whose block is fine are sound.
+use mathlib.Core.Path.{_≡_, refl, sym, ap, ap₂, _∙_}
+use mathlib.Core.Bool.{Bool}
+use mathlib.Core.List.{List, [], _∷_, _++_, flatMap}
+use Prim.Native.Nat.{ℕ, zero, suc, _+_, _≤_, _<_}
+use native.Mathlib.Omega.{arith}
+use Rattle.interval.specs.Listing.{rows, tab, sum}
+use Rattle.interval.specs.Limits.{maxSteps, maxCount}
+use Rattle.interval.specs.Places.{countOf}
+use Rattle.interval.proofs.Counts.{count-le}
+use Rattle.formula.proofs.Lists.{flat-append}
+use Rattle.meaning.specs.Meaning.{bit}
+use Rattle.circuit.specs.Circuit.{Definition, define}
+use Rattle.circuit.specs.declared.Gate.the-variants.{Constant}
+use Rattle.blocks.specs.Blocks.{isChop, gateOf, definedBy, Sound, bound}
+use Rattle.blocks.specs.declared.Block.{Block}
+use Rattle.blocks.specs.declared.Rule.the-variants.{Fixed}
+use Rattle.clauses.specs.Clauses.{clausesOf, clausesBy}
+use Rattle.clauses.specs.Entries.{Entry, entry, entriesOf, flat}
+use Rattle.literals.specs.Written.{Room, Wrote, runOf}
+use Rattle.clauses.proofs.Sizes.{flat-join}
+use Rattle.literals.proofs.Written.{and-then, named, room-first, room-next}
+use Rattle.node_clauses.specs.Nodes.{triplesOf, intervalsOf, choppedBy, nodeBy, nodePlaces, Fine}
+
+pub places-join : (D E : List Definition) → flat (clausesBy D) ++ flat (clausesBy E) ≡ flat (clausesBy (D ++ E))
+unfolding clausesBy
+places-join D E = sym (ap flat (flat-append (λ (d : Definition). clausesOf (d .variable) (d .gate)) D E) ∙ flat-join (clausesBy D) (clausesBy E))
+
+-- ---- a constant's block is one line, and each of its clauses one literal
+
+constant-places : (b n : ℕ) (v : Bool) → rows n (runOf b (bit v + 2)) ≡ flat (clausesBy (tab n (λ p. define (b + (0 + (0 + p))) (Constant v))))
+unfolding clausesBy flat flatMap entriesOf clausesOf rows
+constant-places b zero v = refl
+constant-places b (suc n) v =
+    ap₂ (λ (F : List Entry) (p : ℕ). F ++ entry (b + p) (bit v + 2) ∷ []) (constant-places b n v) (omega arith)
+    ∙ places-join (tab n (λ p. define (b + (0 + (0 + p))) (Constant v))) (define (b + (0 + (0 + n))) (Constant v) ∷ [])
+
+pub constant-known : (C k : ℕ) (b : Block) {v : Bool} → b .rule ≡ Fixed v → {m : ℕ} → m ≡ bit v + 2 → rows (b .points) (runOf (b .first) m) ≡ flat (clausesBy (definedBy C k b))
+unfolding definedBy gateOf rows sum
+constant-known C k b {v} e f =
+    let same : record { rule = Fixed v; points = b .points; first = b .first; left = b .left; right = b .right } ≡ b = λ i. record { rule = sym e i; points = b .points; first = b .first; left = b .left; right = b .right } in
+    ap (λ (m : ℕ). rows (b .points) (runOf (b .first) m)) f ∙ constant-places (b .first) (b .points) v ∙ ap (λ (b : Block). flat (clausesBy (definedBy C k b))) same
+
+-- ---- a chop's two blocks, w being where its triples begin
+
+module _ (C k : ℕ) (b : Block) {w : ℕ} (e : w ≡ b .first + countOf k) where
+  abbrev triples : List Entry
+  triples = flat (clausesBy (definedBy C k (triplesOf w b)))
+
+  abbrev intervals : List Entry
+  intervals = flat (clausesBy (definedBy C k (intervalsOf w b)))
+
+  chopped : triples ++ intervals ≡ flat (clausesBy (choppedBy C k (b .first + countOf k) b))
+  chopped = places-join (definedBy C k (triplesOf w b)) (definedBy C k (intervalsOf w b)) ∙ ap (λ (w : ℕ). flat (clausesBy (choppedBy C k w b))) e
+
+  module _ (f : Fine C k b) where
+    beyond : w < bound
+    unfolding countOf
+    beyond = omega (arith, e, f .first, count-le maxSteps k (f .sound .steps))
+
+    pub triples-sound : Sound C k (triplesOf w b) × (b .points ≤ maxCount)
+    triples-sound = (record { channels = f .sound .channels; steps = f .sound .steps; number = omega arith; first = beyond; left = f .sound .left; right = f .sound .right }, f .points)
+
+    pub intervals-sound : Sound C k (intervalsOf w b) × (b .points ≤ maxCount)
+    intervals-sound =
+        (record { channels = f .sound .channels; steps = f .sound .steps; number = omega arith; first = f .sound .first; left = beyond; right = f .sound .right }, f .points)
+
+  module _ {v m : List ℕ} {at : ℕ} (r : Room v m at (flat (clausesBy (choppedBy C k (b .first + countOf k) b)))) where
+    pub room-triples : Room v m at triples
+    room-triples = room-first r triples intervals chopped
+
+    pub room-intervals : {v′ m′ : List ℕ} {at′ : ℕ} → Wrote v m at triples v′ m′ at′ → Room v′ m′ at′ intervals
+    room-intervals t = room-next r triples intervals chopped t
+
+  pub wrote-chopped : {v m v′ m′ v″ m″ : List ℕ} {at at′ at″ : ℕ} → Wrote v m at triples v′ m′ at′ → Wrote v′ m′ at′ intervals v″ m″ at″
+      → Wrote v m at (flat (clausesBy (choppedBy C k (b .first + countOf k) b))) v″ m″ at″
+  wrote-chopped s t = named chopped (and-then s t)
+
+-- ---- a node, known to be a chop or not
+
+pub places-known : (C k : ℕ) (b : Block) {c d : Bool} → c ≡ isChop (b .rule) → c ≡ d → flat (clausesBy (nodeBy C k b d)) ≡ nodePlaces C k b
+unfolding nodePlaces
+places-known C k b e f = ap (λ (c : Bool). flat (clausesBy (nodeBy C k b c))) (sym f ∙ e)

@@ -1,0 +1,121 @@
+-- A block's definitions stand in the order of places, so the walk writes the definition in place x at its turn x: the position is that
+-- of place x, and the next position that of the next place.
+use mathlib.Core.Path.{_≡_, refl, sym, ap, _∙_, subst}
+use mathlib.Core.Bool.{Bool, true, false, cond}
+use mathlib.Core.List.{List, [], _∷_, _++_, flatMap, append-assoc, append-nil}
+use Prim.Native.Nat.{ℕ, zero, suc, _+_, _≤_, _<_}
+use native.Mathlib.Omega.{arith}
+use lib.Dec.{eqb}
+use lib.ListN.{length, getD}
+use Rattle.interval.specs.Listing.{rows}
+use Rattle.interval.specs.Shape.{Shape, place}
+use Rattle.interval.specs.Limits.{maxSteps}
+use Rattle.interval.specs.Places.{tripleCountOf}
+use Rattle.interval.specs.declared.Triple.{Triple}
+use Rattle.interval.proofs.Shape.{getD-per}
+use Rattle.interval.proofs.Counts.{triple-count-le}
+use Rattle.interval.proofs.Laws.{triples-numbered}
+use Rattle.circuit.specs.Circuit.{Definition, define}
+use Rattle.circuit.specs.declared.Gate.{Gate}
+use Rattle.circuit.specs.declared.Gate.the-variants.{Constant}
+use Rattle.blocks.specs.Blocks.{shapeOf, gateBy, gateOf, definedBy, Placed, Sound, nextOf}
+use Rattle.blocks.specs.declared.Block.{Block}
+use Rattle.blocks.specs.declared.Position.{Position}
+use Rattle.blocks.specs.declared.Rule.{Rule}
+use Rattle.blocks.specs.declared.Rule.the-variants.{Fixed, Letter, Negation, And, Or, Chop, Duration, Throughout, Cut}
+use Rattle.blocks.proofs.Positions.{first-placed, next-placed, chop-position}
+use Rattle.weights.specs.Weights.{variableWeight, weightBy, maxWeight}
+use Rattle.weights.proofs.Weights.{block-length, shape-weight}
+use Rattle.clauses.specs.Clauses.{clausesOf, clausesBy}
+use Rattle.clauses.specs.Entries.{Entry, flat}
+use Rattle.literals.specs.Written.{Room, Wrote}
+use Rattle.gates.specs.Within.{Within}
+use Rattle.clauses.proofs.Sizes.{flat-join}
+use Rattle.literals.proofs.Written.{begun, turn, room, done, named}
+use Rattle.node_clauses.specs.Walk.{placesAt, Walked}
+
+-- ---- the places of definitions, one definition after another
+
+pub rows-first : {A : Type 0} (n : ℕ) (f : ℕ → List A) → rows (suc n) f ≡ f 0 ++ rows n (λ i. f (suc i))
+unfolding rows
+rows-first zero f = sym (append-nil (f 0))
+rows-first {A} (suc n) f = ap (λ (l : List A). l ++ f (suc n)) (rows-first n f) ∙ append-assoc (f 0) (rows n (λ i. f (suc i))) (f (suc n))
+
+by-rows : (D : List Definition) → rows (length D) (placesAt D) ≡ flat (clausesBy D)
+unfolding rows clausesBy flat flatMap
+by-rows [] = refl
+by-rows (d ∷ D) = rows-first (length D) (placesAt (d ∷ D)) ∙ ap (λ (F : List Entry). flat (clausesOf (d .variable) (d .gate)) ++ F) (by-rows D) ∙ sym (flat-join (clausesOf (d .variable) (d .gate)) (clausesBy D))
+
+-- ---- the definition in place x
+
+module _ (C k : ℕ) (block : Block) where
+  abbrev shape : Shape
+  shape = shapeOf (block .points) k (block .rule)
+
+  placed-places : {x a i d : ℕ} → Placed (block .points) k (block .rule) x a i d → placesAt (definedBy C k block) x ≡ flat (clausesOf (block .first + x) (gateOf C k block x a i d))
+  unfolding definedBy
+  placed-places {x} {a} {i} {d} p =
+      ap (λ (e : Definition). flat (clausesOf (e .variable) (e .gate)))
+      (ap (λ (y : ℕ). getD (definedBy C k block) y (define 0 (Constant false))) (p .at) ∙ getD-per shape (λ e. define (block .first + place shape e) (gateOf C k block (place shape e) (e .0) (e .1 .0) (e .1 .1))) (a, (i, d)) (define 0 (Constant false)) (p .inside)
+      ∙ ap (λ (y : ℕ). define (block .first + y) (gateOf C k block y a i d)) (sym (p .at)))
+
+  -- the loop's laws
+  module _ {v m : List ℕ} {at : ℕ} where
+    pub walk-begun : {n : ℕ} → n ≡ weightBy variableWeight k (block .points) (block .rule) → n ≤ maxWeight → Walked C k block v m at n v m (record { row = 0; line = 0; cell = 0 }) at 0
+    walk-begun e l =
+        let c = e ∙ shape-weight k (block .points) (block .rule) in
+        record { whole = c ∙ sym (block-length C k block); few = l; sofar = begun; here = λ h. first-placed (block .points) k (block .rule) (omega (arith, c)) }
+
+    module _ {n : ℕ} {v′ m′ : List ℕ} {p : Position} {b x : ℕ} (w : Walked C k block v m at n v′ m′ p b x) where
+      pub walk-done : n ≤ x → Wrote v m at (flat (clausesBy (definedBy C k block))) v′ m′ b
+      walk-done h = named (ap (λ (n : ℕ). rows n (placesAt (definedBy C k block))) (w .whole) ∙ by-rows (definedBy C k block)) (done (w .sofar) h)
+
+      module _ (h : x < n) {gate : Gate} (g : gate ≡ gateOf C k block x (p .row) (p .line) (p .cell)) where
+        places : placesAt (definedBy C k block) x ≡ flat (clausesOf (block .first + x) gate)
+        places = placed-places (w .here h) ∙ ap (λ (g : Gate). flat (clausesOf (block .first + x) g)) (sym g)
+
+        pub walk-room : Room v m at (flat (clausesBy (definedBy C k block))) → Room v′ m′ b (flat (clausesOf (block .first + x) gate))
+        walk-room r =
+            room (w .sofar) h places
+            (subst (λ (F : List Entry). Room v m at F) (sym (ap (λ (n : ℕ). rows n (placesAt (definedBy C k block))) (w .whole) ∙ by-rows (definedBy C k block))) r)
+
+        pub walk-turn : {v″ m″ : List ℕ} {b″ : ℕ} {q : Position} → Wrote v′ m′ b (flat (clausesOf (block .first + x) gate)) v″ m″ b″ → q ≡ nextOf (block .points) k (block .rule) p
+            → Walked C k block v m at n v″ m″ q b″ (x + 1)
+        walk-turn {q = q} t e = record {
+          whole = w .whole;
+          few = w .few;
+          sofar = turn (w .sofar) h places t;
+          here = λ l. subst (λ (q : Position). Placed (block .points) k (block .rule) (x + 1) (q .row) (q .line) (q .cell)) (sym e)
+              (next-placed (block .points) k (block .rule) x p (w .here h) (omega (arith, w .whole, block-length C k block)));
+        }
+
+-- ---- the inputs of a block's gates are numbers of 32 bits
+
+within-cond : (c : Bool) (g h : Gate) → Within g → Within h → Within (cond c g h)
+within-cond true g h a b = a
+within-cond false g h a b = b
+
+module _ (C k : ℕ) (block : Block) (s : Sound C k block) where
+  pub gate-within : (x a i d : ℕ) → Placed (block .points) k (block .rule) x a i d → Within (gateOf C k block x a i d)
+  unfolding gateOf tripleCountOf
+  gate-within x a i d p = go (block .rule) refl
+    where
+      triples-below : tripleCountOf k ≤ tripleCountOf maxSteps
+      triples-below = triple-count-le maxSteps k (s .steps)
+
+      first : Triple
+      first = record { i = i; m = i; j = i + d }
+
+      go : (r : Rule) → block .rule ≡ r → Within (gateBy C k (block .first) (block .left) (block .right) x a i d r)
+      go (Fixed v) e = tt
+      go (Letter c) e = tt
+      go Negation e = tt
+      go And e = tt
+      go Or e = tt
+      go Chop e =
+          let h = chop-position p e in
+          let t = triples-numbered k .below first (record { starts = omega arith; cut = omega arith; ends = h }) in
+          (omega arith, omega (arith, h, t, triples-below, s .left, s .steps))
+      go (Duration n) e = within-cond (eqb a 0) (Constant true) _ tt (within-cond (eqb d 0) (Constant false) _ tt tt)
+      go Throughout e = within-cond (eqb d 0) (Constant true) _ tt tt
+      go Cut e = tt

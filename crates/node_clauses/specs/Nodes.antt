@@ -1,0 +1,38 @@
+-- What a node defines, by its block, as the code goes by it. No call open to others cites these.
+use mathlib.Core.Bool.{Bool, true, false}
+use mathlib.Core.List.{List, _++_}
+use Prim.Native.Nat.{ℕ, _+_, _≤_}
+use Rattle.interval.specs.Places.{countOf}
+use Rattle.interval.specs.Limits.{maxCount}
+use Rattle.circuit.specs.Circuit.{Definition}
+use Rattle.blocks.specs.Blocks.{isChop, definedBy, Sound}
+use Rattle.blocks.specs.declared.Block.{Block}
+use Rattle.blocks.specs.declared.Rule.the-variants.{Chop, Cut}
+use Rattle.weights.specs.Weights.{maxSum}
+use Rattle.clauses.specs.Clauses.{clausesBy}
+use Rattle.clauses.specs.Entries.{Entry, flat}
+
+-- a chop's triples, from w on, and its intervals, which go by them
+abbrev pub triplesOf : ℕ → Block → Block
+triplesOf w b = record { rule = Cut; points = b .points; first = w; left = b .left; right = b .right }
+
+abbrev pub intervalsOf : ℕ → Block → Block
+intervalsOf w b = record { rule = Chop; points = b .points; first = b .first; left = w; right = b .right }
+
+abbrev pub choppedBy : ℕ → ℕ → ℕ → Block → List Definition
+choppedBy C k w b = definedBy C k (triplesOf w b) ++ definedBy C k (intervalsOf w b)
+
+-- a node's own definitions
+abbrev pub nodeBy : ℕ → ℕ → Block → Bool → List Definition
+nodeBy C k b true = choppedBy C k (b .first + countOf k) b
+nodeBy C k b false = definedBy C k b
+
+-- the places that a node's definitions take
+unfoldable pub nodePlaces : ℕ → ℕ → Block → List Entry
+nodePlaces C k b = flat (clausesBy (nodeBy C k b (isChop (b .rule))))
+
+-- what the code asks of a node's block
+pub record Fine (C k : ℕ) (b : Block) : Type 0 where
+  pub sound : Sound C k b
+  pub points : b .points ≤ maxCount
+  pub first : b .first ≤ maxSum

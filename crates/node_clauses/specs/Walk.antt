@@ -1,0 +1,25 @@
+-- What the walk of a block has written after x positions. No call open to others cites these.
+use mathlib.Core.Path.{_≡_}
+use mathlib.Core.Bool.{false}
+use mathlib.Core.List.{List}
+use Prim.Native.Nat.{ℕ, _≤_, _<_}
+use lib.ListN.{length, getD}
+use Rattle.circuit.specs.Circuit.{Definition, define}
+use Rattle.circuit.specs.declared.Gate.the-variants.{Constant}
+use Rattle.blocks.specs.Blocks.{definedBy, Placed}
+use Rattle.blocks.specs.declared.Block.{Block}
+use Rattle.blocks.specs.declared.Position.{Position}
+use Rattle.weights.specs.Weights.{maxWeight}
+use Rattle.clauses.specs.Clauses.{clausesOf}
+use Rattle.clauses.specs.Entries.{Entry, flat}
+use Rattle.literals.specs.Written.{Sofar}
+
+-- the places of the definition in place x
+abbrev pub placesAt : List Definition → ℕ → List Entry
+placesAt D x = let d = getD D x (define 0 (Constant false)) in flat (clausesOf (d .variable) (d .gate))
+
+pub record Walked (C k : ℕ) (block : Block) (v m : List ℕ) (at n : ℕ) (v′ m′ : List ℕ) (p : Position) (at′ x : ℕ) : Type 0 where
+  pub whole : n ≡ length (definedBy C k block)
+  pub few : n ≤ maxWeight
+  pub sofar : Sofar v m at (placesAt (definedBy C k block)) n v′ m′ at′ x
+  pub here : x < n → Placed (block .points) k (block .rule) x (p .row) (p .line) (p .cell)

@@ -1,0 +1,206 @@
+-- A row weighs what its node's own definitions weigh, since its kind and number tell their rule and how many there are. So the sum over
+-- the rows of nodes that follow each other is what the definitions of these nodes weigh, and in variables it is their blocks.
+use mathlib.Core.Path.{_≡_, refl, sym, ap, ap₂, _∙_}
+use mathlib.Core.Bool.{Bool, cond, true, false, false≢true}
+use mathlib.Core.Logic.{⊎-elim}
+use mathlib.Core.List.{List, [], _∷_, _++_, append-nil}
+use Prim.Native.Nat.{ℕ, zero, suc, _+_, _*_, _%_, _≤_, _<_}
+use native.Mathlib.Nat.{mul-one, suc-mul, zero-add, not-suc-le-zero, eq-or-lt-of-le}
+use native.Mathlib.Numerals.{add-one}
+use native.Mathlib.Decide.{decLt}
+use native.Mathlib.Omega.{arith}
+use lib.ListN.{length, getD, drop}
+use borrow.Author.Tests.{lt-ltb, le-ltb}
+use Rattle.interval.specs.Listing.{sum}
+use Rattle.interval.specs.Places.{countOf}
+use Rattle.interval.specs.Limits.{maxCount}
+use Rattle.interval.proofs.Fill.{Upto}
+use Rattle.grammar.specs.Limits.{maxNodes}
+use Rattle.grammar.specs.Trees.{and, or, chop, Tree, constant, letter, negation, pair, duration, throughout}
+use Rattle.grammar.proofs.Written.{drop-front}
+use Rattle.grammar.specs.declared.Sort.{Sort}
+use Rattle.grammar.specs.declared.Sort.the-variants.{State, Formula}
+use Rattle.formula.specs.Nodes.{Node}
+use Rattle.rows.specs.Table.{sortCode, headOf}
+use Rattle.rows.specs.declared.Row.{Row}
+use Rattle.nodes.proofs.Laws.{field-after}
+use Rattle.nodes.proofs.Standing.{column}
+use Rattle.circuit.specs.Circuit.{pointsOf, widthOf, blocksOf, leftOf, rightOf, ownBy, ownOf, definedFrom}
+use Rattle.blocks.specs.Blocks.{numberOf, isChop, rulesFor, ruleOf, ruleBy, definedBy, blockOf}
+use Rattle.blocks.specs.declared.Rule.{Rule}
+use Rattle.blocks.specs.declared.Rule.the-variants.{Chop, Throughout, Cut}
+use Rattle.blocks.proofs.Positions.{rule-number}
+use Rattle.blocks.proofs.Own.{tripled, own-defined, chop-defined}
+use Rattle.weights.specs.Weights.{weightAll, variableWeight, longerBy, weightBy, Light, Small, pointsBy, rowWeight, weightTo, maxSum, Summed}
+use Rattle.weights.specs.declared.Weight.{Weight}
+use Rattle.weights.proofs.Weights.{weight-append, block-weight, suc-le-count}
+
+-- ---- a row
+
+module _ (k kind : ℕ) where
+  pub points-state : kind < 16 → k ≡ pointsBy k kind
+  unfolding pointsBy
+  points-state h = rw (lt-ltb kind 16 h)
+
+  pub points-formula : 16 ≤ kind → countOf k ≡ pointsBy k kind
+  unfolding pointsBy
+  points-formula h = rw (le-ltb kind 16 h)
+
+module _ (w : Weight) (k : ℕ) where
+  -- by the kind less its sort
+  abbrev rowBy : ℕ → ℕ → ℕ → ℕ
+  rowBy points op n = let r = getD (rulesFor n) op Throughout in let own = weightBy w k points r in cond (isChop r) (own + weightBy w k points Cut) own
+
+  row-by : (s : Sort) (op n : ℕ) → op < 16 → rowWeight w k (sortCode s + op) n ≡ rowBy (pointsOf s k) op n
+  unfolding rowWeight ruleBy
+  row-by s op n h = ap₂ (λ (p o : ℕ). rowBy p o n) (points s) (code s)
+    where
+      points : (s : Sort) → pointsBy k (sortCode s + op) ≡ pointsOf s k
+      points State = sym (points-state k (0 + op) (omega arith))
+      points Formula = sym (points-formula k (16 + op) (omega arith))
+
+      code : (s : Sort) → (sortCode s + op) % 16 ≡ op
+      code State = omega arith
+      code Formula = omega arith
+
+  module _ (C b l r : ℕ) where
+    own-weight : {s : Sort} (x : Tree s) → (ruleOf x ≡ Chop → ⊥) → weightBy w k (pointsOf s k) (ruleOf x) ≡ weightAll w (ownBy C k b l r x)
+    own-weight x n = sym (ap (weightAll w) (own-defined C k b l r x n) ∙ block-weight w C k (blockOf k b l r x))
+
+    -- weighs what its node's own definitions weigh
+    pub row-weight : {s : Sort} (x : Tree s) → rowWeight w k (headOf x .kind) (headOf x .number) ≡ weightAll w (ownBy C k b l r x)
+    row-weight {s} (constant false) = row-by s 0 0 (omega arith) ∙ own-weight {s = s} (constant false) (λ e. false≢true cc)
+    row-weight {s} (constant true) = row-by s 1 0 (omega arith) ∙ own-weight {s = s} (constant true) (λ e. false≢true cc)
+    row-weight (letter c) = row-by State 6 c (omega arith) ∙ own-weight (letter c) (λ e. false≢true cc)
+    row-weight {s} (negation x) = row-by s 2 0 (omega arith) ∙ own-weight (negation x) (λ e. false≢true cc)
+    row-weight {s} (pair and x y) = row-by s 3 0 (omega arith) ∙ own-weight (pair and x y) (λ e. false≢true cc)
+    row-weight {s} (pair or x y) = row-by s 4 0 (omega arith) ∙ own-weight (pair or x y) (λ e. false≢true cc)
+    row-weight (pair chop x y) =
+        let m = tripled k b l r in
+        let n = blockOf k b (b + countOf k) r (pair chop x y) in
+        omega (arith, row-by Formula 5 0 (omega arith), ap (weightAll w) (chop-defined C k b l r x y), weight-append w (definedBy C k m) (definedBy C k n), block-weight w C k m, block-weight w C k n)
+    row-weight (duration x n) = row-by Formula 7 n (omega arith) ∙ own-weight (duration x n) (λ e. false≢true cc)
+    row-weight (throughout x) = row-by Formula 8 0 (omega arith) ∙ own-weight (throughout x) (λ e. false≢true cc)
+
+-- in variables, as many as its node's block
+pub row-width : (k : ℕ) {s : Sort} (x : Tree s) → rowWeight variableWeight k (headOf x .kind) (headOf x .number) ≡ widthOf k x
+unfolding weightBy widthOf
+row-width k {s} (constant false) = row-by variableWeight k s 0 0 (omega arith)
+row-width k {s} (constant true) = row-by variableWeight k s 1 0 (omega arith)
+row-width k (letter c) = row-by variableWeight k State 6 c (omega arith) ∙ mul-one k
+row-width k {s} (negation x) = row-by variableWeight k s 2 0 (omega arith) ∙ mul-one (pointsOf s k)
+row-width k {s} (pair and x y) = row-by variableWeight k s 3 0 (omega arith) ∙ mul-one (pointsOf s k)
+row-width k {s} (pair or x y) = row-by variableWeight k s 4 0 (omega arith) ∙ mul-one (pointsOf s k)
+row-width k (pair chop x y) = row-by variableWeight k Formula 5 0 (omega arith) ∙ omega arith
+row-width k (duration x n) =
+    let e : longerBy k 1 ≡ countOf k = omega (arith, suc-le-count k) in
+    row-by variableWeight k Formula 7 n (omega arith) ∙ omega (arith, ap (λ (m : ℕ). n * m) e, suc-mul n (countOf k))
+row-width k (throughout x) = row-by variableWeight k Formula 8 0 (omega arith) ∙ omega (arith, suc-le-count k)
+
+-- ---- rows
+
+weight-next : (w : Weight) (k : ℕ) (kinds numbers : List ℕ) (x : ℕ)
+    → weightTo w k kinds numbers (x + 1) ≡ weightTo w k kinds numbers x + rowWeight w k (getD kinds x 0) (getD numbers x 0)
+unfolding weightTo sum
+weight-next w k kinds numbers x = rw add-one
+
+-- what the nodes before x weigh
+abbrev pub weightBefore : Weight → ℕ → List Node → ℕ → ℕ
+weightBefore w k l x = weightTo w k (column l (λ (r : Row). r .head .kind)) (column l (λ (r : Row). r .head .number)) x
+
+module _ (w : Weight) (C k : ℕ) (l : List Node) where
+  -- nodes from x on weigh what their definitions weigh, wherever their blocks begin
+  pub part-weight : (b x : ℕ) (A m : List Node) → drop x l ≡ A ++ m → weightBefore w k l (x + length A) ≡ weightBefore w k l x + weightAll w (definedFrom C k b A)
+  unfolding definedFrom ownOf weightAll
+  part-weight b x [] m e = let g : x + 0 ≡ x = omega arith in omega (arith, ap (weightBefore w k l) g)
+  part-weight b x (u ∷ A) m e =
+      let p = b + widthOf k (u .part) in
+      let g : x + suc (length A) ≡ x + 1 + length A = omega arith in
+      let kind = field-after (λ (r : Row). r .head .kind) l (A ++ m) x u e in
+      let number = field-after (λ (r : Row). r .head .number) l (A ++ m) x u e in
+      omega (
+        arith,
+        ap (weightBefore w k l) g,
+        part-weight p (x + 1) A m (drop-front l x (u ∷ []) (A ++ m) e),
+        weight-next w k (column l (λ (r : Row). r .head .kind)) (column l (λ (r : Row). r .head .number)) x,
+        ap₂ (rowWeight w k) kind number,
+        row-weight w k C b (leftOf k p (u .part)) (rightOf k p (u .part)) (u .part),
+        weight-append w (ownOf C k b (u .part)) (definedFrom C k p A),
+      )
+
+  pub all-weight : (b : ℕ) → weightBefore w k l (length l) ≡ weightAll w (definedFrom C k b l)
+  unfolding weightTo sum
+  all-weight b = omega (arith, ap (weightBefore w k l) (zero-add (length l)), part-weight b 0 l [] (sym (append-nil l)))
+
+-- each variable of these nodes has one gate
+blocks-weight : (C k b : ℕ) (A : List Node) → weightAll variableWeight (definedFrom C k b A) ≡ blocksOf k A
+unfolding definedFrom weightAll blocksOf ownOf
+blocks-weight C k b [] = refl
+blocks-weight C k b (u ∷ A) =
+    let p = b + widthOf k (u .part) in
+    omega (
+      arith,
+      weight-append variableWeight (ownOf C k b (u .part)) (definedFrom C k p A),
+      blocks-weight C k p A,
+      row-weight variableWeight k C b (leftOf k p (u .part)) (rightOf k p (u .part)) (u .part),
+      row-width k (u .part),
+    )
+
+-- nodes from x on have their blocks in variables
+pub part-width : (k : ℕ) (l : List Node) (x : ℕ) (A m : List Node) → drop x l ≡ A ++ m
+    → weightBefore variableWeight k l (x + length A) ≡ weightBefore variableWeight k l x + blocksOf k A
+part-width k l x A m e = omega (arith, part-weight variableWeight 0 k l 0 x A m e, blocks-weight 0 k 0 A)
+
+-- ---- what the code comes to
+
+-- what `weigh` asks of a row's block
+pub row-light : {w : Weight} {k points : ℕ} {r : Rule} (kind number : ℕ) → r ≡ ruleBy kind number → Small w k → number ≤ 255 → points ≤ maxCount → Light w k points r
+row-light kind number e s h m =
+    record { copy = s .copy; each = s .each; step = s .step; steps = s .steps; points = m; number = omega (arith, ap numberOf e, rule-number kind number h) }
+
+module _ (w : Weight) (k kind number : ℕ) {points : ℕ} {r : Rule} (p : points ≡ pointsBy k kind) (e : r ≡ ruleBy kind number) where
+  -- a chop's two blocks, or another node's one
+  pub row-chop : {c : Bool} → c ≡ isChop r → c ≡ true → {a d : ℕ} → a ≡ weightBy w k points r → d ≡ weightBy w k points Cut → a + d ≡ rowWeight w k kind number
+  unfolding rowWeight
+  row-chop f g h i = rw (← p, ← e, ← f, g, ← h, ← i) refl
+
+  pub row-other : {c : Bool} → c ≡ isChop r → c ≡ false → {a : ℕ} → a ≡ weightBy w k points r → a ≡ rowWeight w k kind number
+  unfolding rowWeight
+  row-other f g h = rw (← p, ← e, ← f, g, ← h) refl
+
+sum-le : (u : ℕ → ℕ) (n i : ℕ) → i ≤ n → sum u i ≤ sum u n
+unfolding sum
+sum-le u zero zero h = omega arith
+sum-le u zero (suc i) h = absurd (not-suc-le-zero h)
+sum-le u (suc n) i h = ⊎-elim (λ (e : i ≡ suc n). omega (arith, ap (sum u) e)) (λ (l : i < suc n). omega (arith, sum-le u n i (omega arith))) (eq-or-lt-of-le h)
+
+module _ (w : Weight) (k : ℕ) (kinds numbers : List ℕ) (start : ℕ) where
+  -- the total before the first row, and before the next
+  pub total-first : start ≡ start + weightTo w k kinds numbers 0
+  unfolding weightTo sum
+  total-first = omega arith
+
+  pub total-next : (x : ℕ) {t v : ℕ} → t ≡ start + weightTo w k kinds numbers x → v ≡ rowWeight w k (getD kinds x 0) (getD numbers x 0) → t + v ≡ start + weightTo w k kinds numbers (x + 1)
+  total-next x e f = omega (arith, weight-next w k kinds numbers x)
+
+  -- all rows are passed
+  pub summed : (count : ℕ) (old new : List ℕ) (x r : ℕ) → x ≡ count → r ≡ start + weightTo w k kinds numbers x → r ≤ maxSum
+      → Upto maxNodes (λ y. start + weightTo w k kinds numbers y) (λ y. getD old y 0) x new → Summed w k kinds numbers start count old new r
+  unfolding weightTo
+  summed count old new x r e t m u = record {
+    total = t ∙ ap (λ (x : ℕ). start + weightTo w k kinds numbers x) e;
+    most = m;
+    below = λ y h. u .below y (omega arith);
+    within = λ y h. omega (arith, u .below y (omega arith), sum-le (λ y. rowWeight w k (getD kinds y 0) (getD numbers y 0)) x y (omega arith));
+    beyond = λ y h. u .beyond y (omega arith);
+    whole = u .whole;
+  }
+
+-- no entry is more than the limit if none beyond the rows was
+pub all-low : {w : Weight} {k : ℕ} {kinds numbers : List ℕ} {start count : ℕ} {old new : List ℕ} {r : ℕ} → Summed w k kinds numbers start count old new r
+    → ((y : ℕ) → getD old y 0 ≤ maxSum) → (y : ℕ) → getD new y 0 ≤ maxSum
+all-low {count = count} {new = new} s h y = go (decLt y count)
+  where
+    go : Dec (y < count) → getD new y 0 ≤ maxSum
+    go (yes l) = omega (arith, s .within y l, s .most)
+    go (no l) = omega (arith, s .beyond y (omega arith), h y)

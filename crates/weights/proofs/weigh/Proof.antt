@@ -1,0 +1,190 @@
+-- Each rule has its own formula, which the code computes as the definition says it;
+-- what each comes to at the most steps is bounded, so that no product or sum wraps.
+use native.Mathlib.Omega.{arith}
+use mathlib.Core.Path.{refl, ap}
+use Prim.Native.Nat.{_≤_}
+use Rattle.weights.specs.Weights.{weightBy}
+use Rattle.blocks.specs.Blocks.{numberOf}
+use Rattle.weights.proofs.Weights.{product-fits, sum-fits, weighed}
+use Rattle.blocks.specs.declared.Rule.the-variants.{Fixed, Letter, Negation, And, Or, Chop, Duration, Throughout, Cut}
+use borrow.Author.Needs.{needs}
+use Rattle.weights.proofs.weigh.Statement.{statement}
+use Rattle.weights.proofs.weigh.Tie as tie
+use Rattle.weights.proofs.weigh.Reads as reads
+use Rattle.weights.proofs.weigh.Lts as lts
+use Rattle.weights.proofs.longer.Reads as longer-reads
+use Rattle.interval.proofs.Interval.count.Reads as Interval-count-reads
+use Rattle.interval.proofs.Triple.count.Reads as Triple-count-reads
+
+mul-both : tie.Need-mul-both
+mul-both c = search needs
+
+add-both : tie.Need-add-both
+add-both c = search needs
+
+enum-told : tie.Need-enum-told
+enum-told c = search needs
+
+enum-told-2 : tie.Need-enum-told-2
+enum-told-2 c = search needs
+
+mul-result : tie.Need-mul-result
+mul-result c = product-fits _ _ (search needs) (search needs)
+
+enum-told-3 : tie.Need-enum-told-3
+enum-told-3 c = search needs
+
+mul-result-2 : tie.Need-mul-result-2
+mul-result-2 c = product-fits _ _ (search needs) (search needs)
+
+enum-told-4 : tie.Need-enum-told-4
+enum-told-4 c = search needs
+
+mul-result-3 : tie.Need-mul-result-3
+mul-result-3 c = product-fits _ _ (search needs) (search needs)
+
+enum-told-5 : tie.Need-enum-told-5
+enum-told-5 c = search needs
+
+mul-result-4 : tie.Need-mul-result-4
+mul-result-4 c = product-fits _ _ (search needs) (search needs)
+
+enum-told-6 : tie.Need-enum-told-6
+enum-told-6 c = search needs
+
+count-requires : tie.Need-count-requires
+count-requires c κs = search needs
+
+cast-result : tie.Need-cast-result
+cast-result c = search needs
+
+count-requires-2 : tie.Need-count-requires-2
+count-requires-2 c κs = search needs
+
+cast-result-2 : tie.Need-cast-result-2
+cast-result-2 c = search needs
+
+mul-result-5 : tie.Need-mul-result-5
+mul-result-5 c = product-fits _ _ (search needs) (search needs)
+
+add-result : tie.Need-add-result
+add-result c = sum-fits _ _ _ (search needs) (search needs) (search needs)
+
+enum-known-rule : tie.Need-enum-known-rule
+enum-known-rule c = search needs
+
+count-requires-3 : tie.Need-count-requires-3
+count-requires-3 c κs = search needs
+
+cast-result-3 : tie.Need-cast-result-3
+cast-result-3 c = search needs
+
+longer-requires : tie.Need-longer-requires
+longer-requires c κs = search needs
+
+level-small : (c : lts.After-longer (Interval-count-reads.Asked, Interval-count-reads.Learnt, Triple-count-reads.Asked, Triple-count-reads.Learnt, longer-reads.Asked, longer-reads.Learnt) reads.Pre reads.Post) → c .before .before .before .rule .given .0 .0 ≤ 65535
+level-small c = omega (arith, ap numberOf (c .before .before .before .rule .given .1))
+
+mul-result-6 : tie.Need-mul-result-6
+mul-result-6 c = product-fits _ _ (level-small c) (search needs)
+
+add-result-2 : tie.Need-add-result-2
+add-result-2 c = sum-fits _ _ _ (search needs) (level-small c) (search needs)
+
+enum-told-7 : tie.Need-enum-told-7
+enum-told-7 c = search needs
+
+longer-requires-2 : tie.Need-longer-requires-2
+longer-requires-2 c κs = search needs
+
+enum-told-8 : tie.Need-enum-told-8
+enum-told-8 c = search needs
+
+count-requires-4 : tie.Need-count-requires-4
+count-requires-4 c κs = search needs
+
+cast-result-4 : tie.Need-cast-result-4
+cast-result-4 c = search needs
+
+mul-result-7 : tie.Need-mul-result-7
+mul-result-7 c = product-fits _ _ (search needs) (search needs)
+
+returns : tie.Need-returns
+unfolding weightBy
+returns c = weighed (search needs) (Fixed _) (c .enum-told .given .1) refl
+
+returns-2 : tie.Need-returns-2
+unfolding weightBy
+returns-2 c = weighed (search needs) (Letter _) (c .before .enum-told2 .given .1) refl
+
+returns-3 : tie.Need-returns-3
+unfolding weightBy
+returns-3 c = weighed (search needs) Negation (c .before .enum-told3 .given .1) refl
+
+returns-4 : tie.Need-returns-4
+unfolding weightBy
+returns-4 c = weighed (search needs) And (c .enum-told4 .given .1) refl
+
+returns-5 : tie.Need-returns-5
+unfolding weightBy
+returns-5 c = weighed (search needs) Or (c .enum-told5 .given .1) refl
+
+returns-6 : tie.Need-returns-6
+unfolding weightBy
+returns-6 c = weighed (search needs) Chop (c .before .before .before .enum-told6 .given .1) cc
+
+returns-7 : tie.Need-returns-7
+unfolding weightBy
+returns-7 c = weighed (search needs) (Duration _) (c .before .before .before .rule .given .1) cc
+
+returns-8 : tie.Need-returns-8
+unfolding weightBy
+returns-8 c = weighed (search needs) Throughout (c .before .enum-told7 .given .1) cc
+
+returns-9 : tie.Need-returns-9
+unfolding weightBy
+returns-9 c = weighed (search needs) Cut (c .before .enum-told8 .given .1) cc
+
+pub weigh-spec : {M : Type 1} → statement M
+weigh-spec =
+    tie.close
+    (tie.spec
+    mul-both
+    add-both
+    enum-told
+    enum-told-2
+    mul-result
+    enum-told-3
+    mul-result-2
+    enum-told-4
+    mul-result-3
+    enum-told-5
+    mul-result-4
+    enum-told-6
+    count-requires
+    cast-result
+    count-requires-2
+    cast-result-2
+    mul-result-5
+    add-result
+    enum-known-rule
+    count-requires-3
+    cast-result-3
+    longer-requires
+    mul-result-6
+    add-result-2
+    enum-told-7
+    longer-requires-2
+    enum-told-8
+    count-requires-4
+    cast-result-4
+    mul-result-7
+    returns
+    returns-2
+    returns-3
+    returns-4
+    returns-5
+    returns-6
+    returns-7
+    returns-8
+    returns-9)
