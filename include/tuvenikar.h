@@ -2,7 +2,9 @@
  *
  * An array is lent: a pointer to its first element, then how many elements, a size_t; NULL is fine where that is 0.
  * A call reads what it is lent, writes only where it says so, and keeps nothing: there is no global state, no heap, and
- * nothing to open or close. Threads may call at the same time, as long as nobody writes what is lent.
+ * nothing to open or close. Threads may call at the same time, as long as nobody writes what another is lent.
+ * An array to be written may be longer than needed, and overlaps nothing else that is lent; in a refused call it stays as
+ * it was, and so do always its places beyond those written.
  * Whatever the numbers and bytes are, a call has an answer to them; nothing needs to be checked before it.
  *
  * A formula's text is its bytes alone, with no 0 at the end. c is the number of channels, k the number of steps.
@@ -51,13 +53,15 @@ enum tuv_refusal {
     TUV_NODE = 8,              /* Is the node number from 1 to the node count? */
     TUV_INTERVAL = 9,          /* Is i <= j <= k? */
     TUV_RECORDING_LENGTH = 10, /* Has the recording k bytes? */
-    TUV_RECORDING = 11         /* Is each of its bytes below 2 to the power c? Place: the first that isn't. */
+    TUV_RECORDING = 11,        /* Is each of its bytes below 2 to the power c? Place: the first that isn't. */
+    TUV_ROOM = 18              /* Is every array to be written long enough? */
 };
 
 /* Any other answer. */
 enum tuv_answer {
     TUV_NO = 64,       /* the formula does not hold; value 0 */
     TUV_YES = 65,      /* it holds; value 0 */
+    TUV_WRITTEN = 66,  /* what was asked for is written; value 0 */
     TUV_NODE_TEXT = 71 /* where a node's own text is; value first byte + 256 * length */
 };
 
@@ -84,6 +88,43 @@ uint64_t tuv_node_text(const uint8_t *text, size_t text_length, uint32_t c, uint
 /* The two numbers in the value of TUV_NODE_TEXT. */
 static inline uint32_t tuv_node_first(uint64_t answer) { return tuv_value(answer) % 256u; }
 static inline uint32_t tuv_node_length(uint64_t answer) { return tuv_value(answer) / 256u; }
+
+/* What stands where in a table's sizes, and how many they are. */
+enum tuv_size {
+    TUV_C = 0, /* channels */
+    TUV_K = 1, /* steps */
+    TUV_V = 2, /* variables, numbered from 1; the first c * k are the channels', instant by instant */
+    TUV_M = 3, /* clauses */
+    TUV_L = 4, /* literals */
+    TUV_SIZES = 5
+};
+
+/* A literal's mark: these two, added. */
+enum tuv_mark {
+    TUV_PLAIN = 1,  /* the variable itself, and not its negation */
+    TUV_CLOSING = 2 /* the last literal of its clause */
+};
+
+/* The most that a table can have. One text has the most of all three, c 8, k 32: 21 times `(#a>=32;`, `T`, 21 times `)`. */
+enum tuv_most {
+    TUV_MOST_VARIABLES = 539488,
+    TUV_MOST_CLAUSES = 2016688,
+    TUV_MOST_LITERALS = 5326414
+};
+
+/* Which clauses say that the formula holds of a recording of k steps? (It holds on the whole of one exactly when the values that
+ * this gives the channels' variables, 1 for high, extend to values of all variables that meet every clause.)
+ * Lent:    the text; sizes, TUV_SIZES places; variables and marks, a place each for every literal. TUV_MOST_LITERALS places are
+ *          enough for any formula; a call for which there are too few does not say how many it needs.
+ * Written: on TUV_WRITTEN the five sizes, and the literals, clause after clause: in variables the number of the literal's
+ *          variable, in marks its mark. For `#a>=1`, c 1, k 1: sizes 1, 1, 8, 12, 21, and 21 places of the other two, which
+ *          begin with 2, 3, 4, 5, 6, 5, 2 and 3, 3, 3, 2, 0, 1, 3: four clauses of one literal and one of three.
+ * Answers: TUV_WRITTEN, a refusal 1 to 7 or 18.
+ * Stack:   47,000 bytes for any input: 176 for each level of brackets and signs (measured: 46,256 for 255 `(`; 12,464 for the
+ *          deepest text that is accepted).
+ */
+uint64_t tuv_table(const uint8_t *text, size_t text_length, uint32_t c, uint32_t k, uint32_t *sizes, size_t sizes_length,
+                   uint32_t *variables, size_t variables_length, uint8_t *marks, size_t marks_length);
 
 #ifdef __cplusplus
 }

@@ -1,12 +1,14 @@
-/* The calls as the firmware of an oscilloscope uses them, and each answer that they can give. Text and recording are heap blocks
-   of exact size, null where empty, and compared after every call. The answers are worked out by hand from document 01. */
+/* The calls as the firmware of an oscilloscope uses them, and each answer that they can give. What is lent are heap blocks of
+   exact size, null where empty, and compared after every call. The answers are worked out by hand from document 01. */
 #include "tuvenikar.h"
 
 #include <stdio.h>
 #include <stdlib.h>
 #include <string.h>
 
-_Static_assert(TUV_NO == 64 && TUV_YES == 65 && TUV_NODE_TEXT == 71, "the numbers that firmware in the field is built with");
+_Static_assert(TUV_NO == 64 && TUV_YES == 65 && TUV_WRITTEN == 66 && TUV_NODE_TEXT == 71 && TUV_ROOM == 18 && TUV_SIZES == 5 &&
+                   TUV_PLAIN == 1 && TUV_CLOSING == 2,
+               "the numbers that firmware in the field is built with");
 
 static unsigned passed, failed;
 
@@ -69,15 +71,71 @@ static void whole(const char *text, uint32_t c, const char *recording, uint32_t 
     evaluate(text, c, k, 0, k, recording, k, code, 0);
 }
 
-/* A text that is refused, or not, before anything else is asked: by both calls alike. */
+/* An array to be written is filled with a byte that no table has. */
+enum { UNWRITTEN = 0xa5 };
+
+static void *lend_output(size_t size)
+{
+    if (size == 0)
+        return NULL;
+    void *block = malloc(size);
+    if (block == NULL)
+        abort();
+    return memset(block, UNWRITTEN, size);
+}
+
+/* Does the block have these bytes first, and is it beyond them as it was lent? It is freed. */
+static int written(void *block, const void *bytes, size_t length, size_t size)
+{
+    const uint8_t *at = block;
+    int same = length == 0 || memcmp(at, bytes, length) == 0;
+    for (size_t x = length; x < size; x++)
+        same &= at[x] == UNWRITTEN;
+    free(block);
+    return same;
+}
+
+/* What is to be written of a table, and how many places: none where it is refused. */
+struct table {
+    size_t sizes_written, literals;
+    uint32_t sizes[TUV_SIZES], variables[50];
+    uint8_t marks[50];
+};
+
+static void table(const char *text, uint32_t c, uint32_t k, size_t sizes, size_t variables, size_t marks, uint32_t code,
+                  uint32_t value, const struct table *wanted)
+{
+    trying("table", text);
+    uint8_t *lent_text = lend(text, strlen(text)), *lent_marks = lend_output(marks);
+    uint32_t *lent_sizes = lend_output(4 * sizes), *lent_variables = lend_output(4 * variables);
+    uint64_t answer =
+        tuv_table(lent_text, strlen(text), c, k, lent_sizes, sizes, lent_variables, variables, lent_marks, marks);
+    int same = unchanged(lent_text, text, strlen(text)) &
+               written(lent_sizes, wanted->sizes, 4 * wanted->sizes_written, 4 * sizes) &
+               written(lent_variables, wanted->variables, 4 * wanted->literals, 4 * variables) &
+               written(lent_marks, wanted->marks, wanted->literals, marks);
+    check(text, answer, same, code, value);
+}
+
+static void refused_table(const char *text, uint32_t c, uint32_t k, size_t sizes, size_t variables, size_t marks, uint32_t code,
+                          uint32_t value)
+{
+    static const struct table nothing;
+    table(text, c, k, sizes, variables, marks, code, value, &nothing);
+}
+
+/* A text that is refused, or not, before anything else is asked: by all calls alike. */
 static void text_alone(const char *text, uint32_t c, uint32_t k, uint32_t code, uint32_t value)
 {
     trying("node text", text);
     uint8_t *lent = lend(text, strlen(text));
     uint64_t answer = tuv_node_text(lent, strlen(text), c, k, 1);
     check(text, answer, unchanged(lent, text, strlen(text)), code, value);
-    if (code != TUV_NODE_TEXT)
+    if (code != TUV_NODE_TEXT) {
         evaluate(text, c, k, 1, 0, "\377", 1, code, value);
+        refused_table(text, c, k, 0, 0, 0, code, value);
+        refused_table(text, c, k, TUV_SIZES, 50, 50, code, value);
+    }
 }
 
 /* The Exercise key: the student's formula on what was recorded, and then its parts, one by one. */
@@ -103,6 +161,96 @@ static void exercise(void)
         count(is_so, "each part has its own text");
     }
     count(node == 6 && tuv_code(answer) == 8, "there are five parts");
+}
+
+/* Whether the values of eight variables, from 1, meet every clause of a table, as a reader of it goes about it. */
+static int meets(const uint32_t *sizes, const uint32_t *variables, const uint8_t *marks, const uint8_t values[9])
+{
+    uint32_t clauses = 0;
+    int met = 0, all = 1;
+    for (uint32_t x = 0; x < sizes[TUV_L]; x++) {
+        if (variables[x] > 8)
+            return 0;
+        met |= values[variables[x]] == (marks[x] & TUV_PLAIN);
+        if (marks[x] & TUV_CLOSING) {
+            all &= met;
+            met = 0;
+            clauses++;
+        }
+    }
+    return all && clauses == sizes[TUV_M];
+}
+
+/* Tables of one formula after another, in arrays that firmware has once and for all. */
+static void tables_in_turn(void)
+{
+    enum { ROOM = 64 };
+    static uint32_t sizes[TUV_SIZES], variables[ROOM];
+    static uint8_t marks[ROOM];
+    /* By variable, from 1: channel a at its one instant; level 0 on the three intervals; level 1 on them; the node `a`. */
+    static const uint8_t high[] = {0, 1, 1, 1, 1, 0, 1, 0, 1}, low[] = {0, 0, 1, 1, 1, 0, 0, 0, 0};
+    const uint8_t *long_one = (const uint8_t *)"(#a>=1;!#a>=1)", *short_one = (const uint8_t *)"#a>=1";
+
+    trying("tables", "#a>=1");
+    for (int turn = 0; turn < 2; turn++) {
+        uint64_t answer = tuv_table(short_one, 5, 1, 1, sizes, TUV_SIZES, variables, ROOM, marks, ROOM);
+        int is_so = answer == TUV_WRITTEN && sizes[TUV_V] == 8 && sizes[TUV_L] == 21;
+        count(is_so, "a table is written, whatever came before");
+        if (!is_so)
+            return;
+        count(meets(sizes, variables, marks, high), "a high recording meets its clauses");
+        count(!meets(sizes, variables, marks, low), "a low recording does not");
+        answer = tuv_table(long_one, 14, 1, 1, sizes, TUV_SIZES, variables, ROOM, marks, ROOM);
+        count(answer == TUV_ROOM && sizes[TUV_L] == 21, "a longer table has no room, and the other still stands");
+        count(meets(sizes, variables, marks, high), "with every literal");
+    }
+}
+
+static void tables(void)
+{
+    static const struct table t = {TUV_SIZES, 2, {1, 0, 1, 2, 2}, {1, 1}, {3, 3}};
+    static const struct table duration = {TUV_SIZES,
+                                          21,
+                                          {1, 1, 8, 12, 21},
+                                          {2, 3, 4, 5, 6, 5, 2, 6, 5, 8, 6, 5, 6, 2, 8, 7, 8, 1, 8, 1, 6},
+                                          {3, 3, 3, 2, 0, 1, 3, 0, 1, 3, 1, 2, 1, 0, 2, 2, 0, 3, 1, 2, 3}};
+
+    table("T", 1, 0, TUV_SIZES, 2, 2, TUV_WRITTEN, 0, &t);
+    table("T", 1, 0, 9, 50, 3, TUV_WRITTEN, 0, &t);
+    table("#a>=1", 1, 1, TUV_SIZES, 21, 21, TUV_WRITTEN, 0, &duration);
+    table("#a>=1", 1, 1, 9, 22, 50, TUV_WRITTEN, 0, &duration);
+    refused_table("#a>=1", 1, 1, TUV_SIZES - 1, 21, 21, TUV_ROOM, 0);
+    refused_table("#a>=1", 1, 1, TUV_SIZES, 20, 21, TUV_ROOM, 0);
+    refused_table("#a>=1", 1, 1, TUV_SIZES, 21, 20, TUV_ROOM, 0);
+    refused_table("#a>=1", 1, 1, TUV_SIZES, 0, 21, TUV_ROOM, 0);
+    refused_table("#a>=1", 1, 1, TUV_SIZES, 21, 0, TUV_ROOM, 0);
+    refused_table("#a>=1", 1, 1, 0, 0, 0, TUV_ROOM, 0);
+}
+
+/* The header's numbers for a firmware that has room for every formula. */
+static void largest_table(void)
+{
+    char text[21 * 8 + 1 + 21 + 1] = "";
+    uint32_t sizes[TUV_SIZES], *variables = lend_output(4 * (size_t)TUV_MOST_LITERALS);
+    uint8_t *marks = lend_output(TUV_MOST_LITERALS);
+    uint64_t answer;
+
+    for (int i = 0; i < 21; i++)
+        strcat(text, "(#a>=32;");
+    strcat(text, "T");
+    for (int i = 0; i < 21; i++)
+        strcat(text, ")");
+    trying("table", text);
+    answer = tuv_table((const uint8_t *)text, strlen(text), 8, 32, sizes, TUV_SIZES, variables, TUV_MOST_LITERALS, marks,
+                       TUV_MOST_LITERALS);
+    count(answer == TUV_WRITTEN && sizes[TUV_C] == 8 && sizes[TUV_K] == 32 && sizes[TUV_V] == TUV_MOST_VARIABLES &&
+              sizes[TUV_M] == TUV_MOST_CLAUSES && sizes[TUV_L] == TUV_MOST_LITERALS,
+          "the largest table is as large as the header says");
+    answer = tuv_table((const uint8_t *)text, strlen(text), 8, 32, sizes, TUV_SIZES, variables, TUV_MOST_LITERALS - 1, marks,
+                       TUV_MOST_LITERALS);
+    count(answer == TUV_ROOM, "and no smaller");
+    free(variables);
+    free(marks);
 }
 
 /* Document 01's edges, and what they say of evaluation. */
@@ -166,6 +314,9 @@ static void other_refusals(void)
 int main(void)
 {
     exercise();
+    tables_in_turn();
+    tables();
+    largest_table();
     edges();
     other_refusals();
     printf("%u passed, %u failed\n", passed, failed);

@@ -4,6 +4,8 @@ use Prim.Native.Nat.{ℕ, _+_, _*_, _^_}
 use Rattle.refusal.specs.declared.Refusal.{Refusal}
 use Rattle.evaluator.specs.declared.Verdict.{Verdict}
 use Rattle.evaluator.specs.declared.Verdict.the-variants as verdict
+use Rattle.clause_table.specs.declared.Written.{Written}
+use Rattle.clause_table.specs.declared.Written.the-variants as written
 use Rattle.nodes.specs.declared.Located.{Located}
 use Rattle.nodes.specs.declared.Located.the-variants as located
 
@@ -20,6 +22,11 @@ unfoldable pub packVerdict : Verdict → ℕ
 packVerdict verdict.No = packed 64 0
 packVerdict verdict.Yes = packed 65 0
 packVerdict (verdict.Refused r) = packRefusal r
+
+-- a table: 66 once it is written
+unfoldable pub packWritten : Written → ℕ
+packWritten written.Done = packed 66 0
+packWritten (written.Refused r) = packRefusal r
 
 -- a node's own text: 71, and its first byte + 256 · its length
 unfoldable pub packLocated : Located → ℕ

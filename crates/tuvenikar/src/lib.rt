@@ -1,11 +1,13 @@
 // The calls for C, on numbers and slices. Each answers with one number: its low half says what, its high half the place or the
 // value; include/tuvenikar.h has the same for C.
+use clause_table::Written;
 use evaluator::Verdict;
 use nodes::Located;
 ghost use mathlib.Core.Path.{_≡_};
 ghost use Rattle.evaluator.specs.Evaluation.{evaluated};
 ghost use Rattle.nodes.specs.Calls.{nodePlaceOf};
-ghost use Rattle.tuvenikar.specs.Answers.{packed, packVerdict, packLocated};
+ghost use Rattle.clause_table.specs.Table.{tabled};
+ghost use Rattle.tuvenikar.specs.Answers.{packed, packVerdict, packLocated, packWritten};
 
 // What, and the place or the value above it.
 fn pack(code: u32, value: u32) -> u64
@@ -35,6 +37,16 @@ fn pack_verdict(a: Verdict) -> u64
     }
 }
 
+// Written, or the refusal's number and place.
+fn pack_written(a: Written) -> u64
+    ensures { λ r. ⌜ r ≡ packWritten a ⌝ }
+{
+    match a {
+        Written::Done => pack(66, 0),
+        Written::Refused(r) => pack(r.number, r.place),
+    }
+}
+
 // Whether the recording satisfies the formula on [i, j]: questions 1 to 7 and 9 to 11.
 #[no_mangle]
 pub extern "C" fn tuv_evaluate(text: &[u8], c: u32, k: u32, i: u32, j: u32, recording: &[u8]) -> u64
@@ -49,4 +61,22 @@ pub extern "C" fn tuv_node_text(text: &[u8], c: u32, k: u32, node: u32) -> u64
     ensures { λ r. ⌜ r ≡ packLocated (nodePlaceOf c k node (now (text .entry))) ⌝ }
 {
     pack_located(nodes::node_place(text, c, k, node))
+}
+
+// The clause table, in two parallel arrays, and its five sizes: questions 1 to 7 and 18.
+#[no_mangle]
+pub extern "C" fn tuv_table(
+    text: &[u8],
+    c: u32,
+    k: u32,
+    sizes: &mut [u32],
+    variables: &mut [u32],
+    marks: &mut [u8],
+) -> u64
+    ensures { λ r. ⌜ r ≡ packWritten (tabled c k (now (text .entry)) (now (sizes .entry)) (now (variables .entry)) (now (marks .entry)) .answer) ⌝ }
+    ensures { λ r. ⌜ now (sizes .exit) ≡ tabled c k (now (text .entry)) (now (sizes .entry)) (now (variables .entry)) (now (marks .entry)) .sizes ⌝ }
+    ensures { λ r. ⌜ now (variables .exit) ≡ tabled c k (now (text .entry)) (now (sizes .entry)) (now (variables .entry)) (now (marks .entry)) .variables ⌝ }
+    ensures { λ r. ⌜ now (marks .exit) ≡ tabled c k (now (text .entry)) (now (sizes .entry)) (now (variables .entry)) (now (marks .entry)) .marks ⌝ }
+{
+    pack_written(clause_table::table(text, c, k, sizes, variables, marks))
 }

@@ -2,6 +2,8 @@
 
 use std::fmt;
 
+use crate::counts::counts;
+
 /// One call with all that is lent to it.
 pub struct Case {
     pub text: Vec<u8>,
@@ -10,10 +12,26 @@ pub struct Case {
     pub call: Call,
 }
 
+/// What a call takes besides text, C and k; a table's are the lengths of sizes, variables and marks.
 pub enum Call {
     Evaluate { i: u32, j: u32, recording: Vec<u8> },
     NodeText { node: u32 },
+    Table([usize; 3]),
 }
+
+impl Call {
+    pub fn name(&self) -> &'static str {
+        match self {
+            Call::Evaluate { .. } => EVALUATE,
+            Call::NodeText { .. } => NODE_TEXT,
+            Call::Table(_) => TABLE,
+        }
+    }
+}
+
+pub const EVALUATE: &str = "evaluate";
+pub const NODE_TEXT: &str = "node text";
+pub const TABLE: &str = "table";
 
 impl fmt::Display for Case {
     fn fmt(&self, f: &mut fmt::Formatter) -> fmt::Result {
@@ -24,6 +42,9 @@ impl fmt::Display for Case {
                 write!(f, "[{i}, {j}], recording {recording:02x?}")
             }
             Call::NodeText { node } => write!(f, "node {node}"),
+            Call::Table([sizes, variables, marks]) => {
+                write!(f, "table in {sizes} sizes, {variables} variables, {marks} marks")
+            }
         }
     }
 }
@@ -37,14 +58,18 @@ pub struct Family {
 /// The family whose formulas have chops in both parts of a chop.
 pub const DEEP: &str = "chops within both parts of chops";
 
-pub const FAMILIES: [Family; 7] = [
+pub const FAMILIES: [Family; 11] = [
     Family { name: "every interval of short recordings", cases: 120_000, draw: every_interval },
     Family { name: DEEP, cases: 40_000, draw: deep_chops },
     Family { name: "every node's text", cases: 60_000, draw: every_node },
-    Family { name: "texts near the limits", cases: 40_000, draw: near_limits },
-    Family { name: "damaged texts", cases: 60_000, draw: damaged_texts },
-    Family { name: "random bytes as text", cases: 40_000, draw: random_bytes },
-    Family { name: "odd numbers and recordings", cases: 60_000, draw: odd_arguments },
+    Family { name: "texts near the limits", cases: 60_000, draw: near_limits },
+    Family { name: "damaged texts", cases: 90_000, draw: damaged_texts },
+    Family { name: "random bytes as text", cases: 60_000, draw: random_bytes },
+    Family { name: "odd numbers, recordings and lengths", cases: 90_000, draw: odd_arguments },
+    Family { name: "tables of few steps", cases: 100_000, draw: small_tables },
+    Family { name: "tables of few nodes", cases: 8_000, draw: narrow_tables },
+    Family { name: "tables of chops within chops", cases: 1_000, draw: chop_tables },
+    Family { name: "tables of any size", cases: 1_000, draw: any_tables },
 ];
 
 /// splitmix64: a few lines, and the same on every machine.
@@ -257,13 +282,32 @@ fn interval(dice: &mut Dice, k: u32) -> (u32, u32) {
     (dice.from(0, j) as u32, j as u32)
 }
 
-/// Both calls on a text that is more likely refused than not.
-fn both_calls(dice: &mut Dice, text: Vec<u8>, c: u32, k: u32) -> Vec<Case> {
+/// Each call on a text that is more likely refused than not.
+fn each_call(dice: &mut Dice, text: Vec<u8>, c: u32, k: u32) -> Vec<Case> {
     let (i, j) = interval(dice, k);
     let recording = recording(dice, c, k);
     let node = dice.from(0, 5) as u32;
     let node_text = Case { text: text.clone(), c, k, call: Call::NodeText { node } };
-    vec![node_text, Case { text, c, k, call: Call::Evaluate { i, j, recording } }]
+    let evaluation = Case { text: text.clone(), c, k, call: Call::Evaluate { i, j, recording } };
+    // Of few steps, since it is the text that is tried.
+    let k = k % 4;
+    let is_short = dice.one_in(2);
+    vec![node_text, evaluation, table(dice, text, c, k, is_short)]
+}
+
+/// Lends what the table needs, or more; or less in some of the arrays. For a refused text nobody knows what it needs.
+fn table(dice: &mut Dice, text: Vec<u8>, c: u32, k: u32, is_short: bool) -> Case {
+    let literals = counts(&text, c, k).map_or(40, |counts| counts.0[2] as usize);
+    let short_ones = if is_short { dice.from(1, 7) } else { 0 };
+    let needs = [5, literals, literals];
+    let lengths = [0, 1, 2].map(|array| {
+        let need = needs[array];
+        match short_ones >> array & 1 {
+            1 => dice.pick(&[need - 1, need - 1, need / 2, 0]),
+            _ => need + dice.pick(&[0, 0, 1, 4, 3000]),
+        }
+    });
+    Case { text, c, k, call: Call::Table(lengths) }
 }
 
 // Families
@@ -284,6 +328,15 @@ fn every_interval(dice: &mut Dice) -> Vec<Case> {
     let ends = (0..=k).flat_map(|j| (0..=j).map(move |i| (i, j)));
     let no_intervals = [(1, 0), (k + 1, k), (k + 1, k + 1)];
     evaluations(&text, c, &recording(dice, c, k), ends.chain(no_intervals))
+}
+
+/// The whole of a short recording.
+pub fn whole_recording(dice: &mut Dice) -> Case {
+    let (c, k) = (channels(dice), dice.from(0, 6) as u32);
+    let nodes = dice.from(1, 24);
+    let text = formula(dice, c, k, nodes);
+    let call = Call::Evaluate { i: 0, j: k, recording: recording(dice, c, k) };
+    Case { text, c, k, call }
 }
 
 fn deep_chops(dice: &mut Dice) -> Vec<Case> {
@@ -324,7 +377,7 @@ fn near_limits(dice: &mut Dice) -> Vec<Case> {
     } else if more > 0 && dice.one_in(2) {
         text.splice(0..0, vec![b'!'; more as usize]);
     }
-    both_calls(dice, text, c, k)
+    each_call(dice, text, c, k)
 }
 
 fn damaged_texts(dice: &mut Dice) -> Vec<Case> {
@@ -334,7 +387,7 @@ fn damaged_texts(dice: &mut Dice) -> Vec<Case> {
     for _ in 0..dice.from(1, 3) {
         damage(dice, &mut text);
     }
-    both_calls(dice, text, c, k)
+    each_call(dice, text, c, k)
 }
 
 fn random_bytes(dice: &mut Dice) -> Vec<Case> {
@@ -343,7 +396,7 @@ fn random_bytes(dice: &mut Dice) -> Vec<Case> {
     let length = dice.from(0, most);
     let any = dice.one_in(4);
     let text = (0..length).map(|_| if any { dice.next() as u8 } else { dice.pick(SIGNS) }).collect();
-    both_calls(dice, text, c, k)
+    each_call(dice, text, c, k)
 }
 
 /// Up to three arguments that may be refused at once, so that the order of the questions shows.
@@ -351,13 +404,54 @@ fn odd_arguments(dice: &mut Dice) -> Vec<Case> {
     let (c, k) = (channels(dice), dice.from(0, 32) as u32);
     let nodes = dice.from(1, 12);
     let text = formula(dice, c, k, nodes);
-    let mut cases = both_calls(dice, text, c, k);
+    let mut cases = each_call(dice, text, c, k);
     for case in &mut cases {
         for _ in 0..dice.from(1, 3) {
             make_odd(dice, case);
         }
     }
     cases
+}
+
+/// A formula's table where there is room for it, and where there is not.
+fn both_rooms(dice: &mut Dice, text: Vec<u8>, c: u32, k: u32) -> Vec<Case> {
+    vec![table(dice, text.clone(), c, k, false), table(dice, text, c, k, true)]
+}
+
+/// As many levels as an interval has instants, or some that none can reach.
+fn levels(dice: &mut Dice, k: u32) -> u32 {
+    dice.pick(&[k, k, k, 31])
+}
+
+fn small_tables(dice: &mut Dice) -> Vec<Case> {
+    let (c, k) = (channels(dice), dice.pick(&[0, 1, 1, 2, 2, 3, 4, 5]));
+    let (nodes, levels) = (dice.from(1, 24), levels(dice, k));
+    let text = formula(dice, c, levels, nodes);
+    both_rooms(dice, text, c, k)
+}
+
+fn narrow_tables(dice: &mut Dice) -> Vec<Case> {
+    let (c, k) = (channels(dice), dice.from(0, 32) as u32);
+    let (nodes, levels) = (dice.from(1, 6), levels(dice, k));
+    let text = formula(dice, c, levels, nodes);
+    both_rooms(dice, text, c, k)
+}
+
+fn chop_tables(dice: &mut Dice) -> Vec<Case> {
+    let (c, k) = (channels(dice), dice.from(0, 20) as u32);
+    let levels = levels(dice, k / 4);
+    let mut author = Author::new(dice, c, levels);
+    let depth = author.dice.from(2, 3);
+    author.chops(depth);
+    let text = author.text;
+    both_rooms(dice, text, c, k)
+}
+
+fn any_tables(dice: &mut Dice) -> Vec<Case> {
+    let (c, k) = (channels(dice), dice.from(0, 32) as u32);
+    let (nodes, levels) = (dice.from(1, 64), levels(dice, k));
+    let text = formula(dice, c, levels, nodes);
+    both_rooms(dice, text, c, k)
 }
 
 fn make_odd(dice: &mut Dice, case: &mut Case) {
@@ -368,6 +462,10 @@ fn make_odd(dice: &mut Dice, case: &mut Case) {
         (3, _) => damage(dice, &mut case.text),
         (4, _) if dice.one_in(4) => case.text.clear(),
         (_, Call::NodeText { node }) => *node = number,
+        (5, Call::Table([sizes, ..])) => *sizes = number.min(300) as usize,
+        (6, Call::Table([_, variables, _])) => *variables = number.min(300) as usize,
+        (7, Call::Table([_, _, marks])) => *marks = number.min(300) as usize,
+        (_, Call::Table(lengths)) => lengths[dice.from(0, 2)] = 0,
         (5, Call::Evaluate { i, .. }) => *i = number,
         (6, Call::Evaluate { j, .. }) => *j = number,
         (7, Call::Evaluate { recording, .. }) => drop(recording.pop()),

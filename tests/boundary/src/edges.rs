@@ -2,7 +2,9 @@
 //! answers are worked out by hand from the paper, and not by the reference.
 
 use crate::cases::{Call, Case};
+use crate::engine::Wanted;
 use crate::reference::Answer;
+use crate::table::Table;
 
 const NO: Answer = (64, 0);
 const YES: Answer = (65, 0);
@@ -13,12 +15,11 @@ fn part(start: u32, length: u32) -> Answer {
 }
 
 type Edge = (String, Case, Answer);
+type Written = (String, Case, Wanted);
 
-pub fn edges() -> Vec<Edge> {
-    let mut edges = evaluations();
-    edges.extend(refusals());
-    edges.extend(node_texts());
-    edges
+pub fn edges() -> Vec<Written> {
+    let unwritten = [evaluations(), refusals(), node_texts(), refused_tables()].into_iter().flatten();
+    unwritten.map(|(name, case, answer)| (name, case, answer.into())).chain(tables()).collect()
 }
 
 fn evaluate(text: &str, c: u32, k: u32, (i, j): (u32, u32), recording: &[u8], answer: Answer) -> Edge {
@@ -135,5 +136,83 @@ fn node_texts() -> Vec<Edge> {
         node(&most, 65, (8, 0)),
         // A refused text is refused before the node's number is asked for.
         node("(T", 0, (4, 2)),
+    ]
+}
+
+/// What is refused is refused whatever there is room for, and with a text that is accepted only room is missing.
+fn refused_tables() -> Vec<Edge> {
+    let table = |(name, case, answer): &Edge, lengths: [usize; 3]| {
+        let Case { text, c, k, .. } = case;
+        let case = Case { text: text.clone(), c: *c, k: *k, call: Call::Table(lengths) };
+        (format!("table of {name} in {lengths:?}"), case, *answer)
+    };
+    let of_texts = refusals().into_iter().filter(|(_, _, (code, _))| *code <= 7);
+    let mut edges: Vec<Edge> = of_texts.flat_map(|edge| [table(&edge, [0; 3]), table(&edge, [9, 40, 40])]).collect();
+    let truth = ("T".to_string(), Case { text: b"T".to_vec(), c: 1, k: 0, call: Call::Table([0; 3]) }, (18, 0));
+    let too_short = [[4, 2, 2], [5, 1, 2], [5, 2, 1], [0, 2, 2], [5, 0, 2], [5, 2, 0], [9, 9, 1], [0, 0, 0]];
+    edges.extend(too_short.map(|lengths| table(&truth, lengths)));
+    edges
+}
+
+/// Clauses as the paper prints them, `(-2 1)(2 -1)`.
+fn clauses(printed: &str) -> Vec<i32> {
+    let literals = printed.replace('(', "").replace(')', " 0 ");
+    literals.split_whitespace().map(|literal| literal.parse().expect("a literal")).collect()
+}
+
+fn tables() -> Vec<Written> {
+    let written = |text: &str, c, k, table: Table, more: [usize; 3]| {
+        let l = table.variables.len();
+        let lengths = [5 + more[0], l + more[1], l + more[2]];
+        let case = Case { text: text.into(), c, k, call: Call::Table(lengths) };
+        (format!("table of {text}, C {c}, k {k}, in {lengths:?}"), case, Wanted { answer: (66, 0), table: Some(table) })
+    };
+    let edge = |text, [c, k, v, m, l]: [u32; 5], printed| {
+        let table = Table::new(c, k, v, &clauses(printed));
+        assert!(table.sizes == [c, k, v, m, l], "{text}: {:?} by hand", table.sizes);
+        written(text, c, k, table, [0; 3])
+    };
+    // The paper's, array by array.
+    let truth = || Table { sizes: [1, 0, 1, 2, 2], variables: vec![1, 1], marks: vec![3, 3] };
+    let duration = Table {
+        sizes: [1, 1, 8, 12, 21],
+        variables: vec![2, 3, 4, 5, 6, 5, 2, 6, 5, 8, 6, 5, 6, 2, 8, 7, 8, 1, 8, 1, 6],
+        marks: vec![3, 3, 3, 2, 0, 1, 3, 0, 1, 3, 1, 2, 1, 0, 2, 2, 0, 3, 1, 2, 3],
+    };
+    vec![
+        written("T", 1, 0, truth(), [0; 3]),
+        written("T", 1, 0, truth(), [4, 0, 0]),
+        written("T", 1, 0, truth(), [0, 5, 5]),
+        written("T", 1, 0, truth(), [4, 9, 1000]),
+        written("#a>=1", 1, 1, duration, [0; 3]),
+        // Each kind of node, clause by clause.
+        edge("F", [1, 0, 1, 2, 2], "(-1)(1)"),
+        edge("!T", [2, 0, 2, 4, 6], "(1 2)(-1 -2)(2)(1)"),
+        edge("(T&F)", [1, 0, 3, 6, 10], "(-1 2)(-1 3)(1 -2 -3)(2)(-3)(1)"),
+        edge("(T|F)", [1, 0, 3, 6, 10], "(1 -2)(1 -3)(-1 2 3)(2)(-3)(1)"),
+        edge("(T;F)", [1, 0, 4, 8, 14], "(-2 3)(-2 4)(2 -3 -4)(1 -2)(-1 2)(3)(-4)(1)"),
+        edge("[a]", [2, 1, 6, 8, 14], "(3)(-4 3)(-4 6)(4 -3 -6)(5)(-6 1)(6 -1)(4)"),
+        edge("#b>=0", [2, 0, 1, 2, 2], "(1)(1)"),
+        // A duration's truth is its last level, also as a part; two instants of channel b.
+        edge("!#T>=1", [1, 0, 3, 5, 7], "(1 3)(-1 -3)(2)(-3)(1)"),
+        edge(
+            "[!b]",
+            [2, 2, 14, 21, 41],
+            "(5)(-6 5)(-6 11)(6 -5 -11)(-7 6)(-7 12)(7 -6 -12)(8)(-9 8)(-9 12)(9 -8 -12)(10)\
+             (11 13)(-11 -13)(12 14)(-12 -14)(-13 2)(13 -2)(-14 4)(14 -4)(7)",
+        ),
+        edge("[(T|F)]", [1, 1, 7, 11, 19], "(2)(-3 2)(-3 5)(3 -2 -5)(4)(5 -6)(5 -7)(-5 6 7)(6)(-7)(3)"),
+        // Triples go by i, then j, then m: those of [0, 2] are 12, 13 and 14.
+        edge(
+            "(T;F)",
+            [1, 2, 30, 59, 119],
+            "(-9 19)(-9 25)(9 -19 -25)(-10 19)(-10 26)(10 -19 -26)(-11 20)(-11 28)(11 -20 -28)\
+             (-12 19)(-12 27)(12 -19 -27)(-13 20)(-13 29)(13 -20 -29)(-14 21)(-14 30)(14 -21 -30)\
+             (-15 22)(-15 28)(15 -22 -28)(-16 22)(-16 29)(16 -22 -29)(-17 23)(-17 30)(17 -23 -30)\
+             (-18 24)(-18 30)(18 -24 -30)\
+             (3 -9)(-3 9)(4 -10)(4 -11)(-4 10 11)(5 -12)(5 -13)(5 -14)(-5 12 13 14)\
+             (6 -15)(-6 15)(7 -16)(7 -17)(-7 16 17)(8 -18)(-8 18)\
+             (19)(20)(21)(22)(23)(24)(-25)(-26)(-27)(-28)(-29)(-30)(5)",
+        ),
     ]
 }

@@ -1,8 +1,9 @@
-//! Memory to lend: read-only, and with a page on either side that no one may touch. What is lent ends
-//! right before the one or begins right after the other, so a byte read beyond it is a fault, and so is
-//! a byte written anywhere.
+//! Memory to lend, with a page on either side that no one may touch. What is lent ends right before the one
+//! or begins right after the other, so a byte read or written beyond it is a fault. What is lent to be read
+//! is read-only, so there a byte written anywhere is one.
 
 use std::ffi::{c_char, c_int, c_uint, c_void};
+use std::mem::size_of;
 use std::ptr::null_mut;
 
 extern "C" {
@@ -68,8 +69,38 @@ impl Fence {
     }
 }
 
+/// Memory to be written, of numbers that any bytes are.
+pub struct Output<T> {
+    lent: *mut T,
+    room: usize,
+}
+
+impl<T: Copy> Output<T> {
+    /// Room for this many places, of which a page is only there once it is used.
+    pub fn new(room: usize) -> Self {
+        let length = (room * size_of::<T>()).next_multiple_of(ROOM);
+        let fenced = map(null_mut(), length + 2 * ROOM, NOTHING, PRIVATE | ANONYMOUS, -1);
+        let flags = PRIVATE | FIXED | ANONYMOUS | NO_RESERVE;
+        let lent = map(fenced.wrapping_add(ROOM), length, READ | WRITE, flags, -1);
+        Output { lent: lent.cast(), room: length / size_of::<T>() }
+    }
+
+    /// Lends so many places on a side, each of them filled.
+    pub fn lend(&mut self, length: usize, fill: T, side: Side) -> &mut [T] {
+        assert!(length <= self.room);
+        let at = match side {
+            Side::Start => 0,
+            Side::End => self.room - length,
+        };
+        // SAFETY: within the room, which holds numbers throughout, and nothing else points to.
+        let lent = unsafe { std::slice::from_raw_parts_mut(self.lent.add(at), length) };
+        lent.fill(fill);
+        lent
+    }
+}
+
 /// Zeros, so many that their number does not fit 32 bits, after the given bytes.
-pub fn vast(bytes: &[u8], length: usize) -> *const u8 {
+pub fn vast(bytes: &[u8], length: usize) -> *mut u8 {
     let memory = map(null_mut(), length, READ | WRITE, PRIVATE | ANONYMOUS | NO_RESERVE, -1);
     // SAFETY: memory of that length and our own.
     unsafe { memory.copy_from_nonoverlapping(bytes.as_ptr(), bytes.len()) };

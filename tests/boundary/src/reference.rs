@@ -6,7 +6,7 @@
 pub type Answer = (u32, u32);
 
 /// A question's number and the place.
-type Refusal = (u32, usize);
+pub type Refusal = (u32, usize);
 
 pub fn evaluate(text: &[u8], c: u32, k: u32, i: u32, j: u32, recording: &[u8]) -> Answer {
     packed(evaluated(text, c, k, i, j, recording))
@@ -16,13 +16,13 @@ pub fn node_text(text: &[u8], c: u32, k: u32, node: u32) -> Answer {
     packed(node_found(text, c, k, node))
 }
 
-fn packed(answer: Result<Answer, Refusal>) -> Answer {
+pub fn packed(answer: Result<Answer, Refusal>) -> Answer {
     answer.unwrap_or_else(|(number, place)| (number, place as u32))
 }
 
 // Questions in order
 
-fn yes(is_so: bool, number: u32) -> Result<(), Refusal> {
+pub fn yes(is_so: bool, number: u32) -> Result<(), Refusal> {
     if is_so {
         Ok(())
     } else {
@@ -35,7 +35,7 @@ fn none(number: u32, mut places: impl Iterator<Item = usize>) -> Result<(), Refu
     places.next().map_or(Ok(()), |place| Err((number, place)))
 }
 
-fn accepted(text: &[u8], c: u32, k: u32) -> Result<Reading, Refusal> {
+pub fn accepted(text: &[u8], c: u32, k: u32) -> Result<Reading, Refusal> {
     yes((1..=8).contains(&c), 1)?;
     yes(k <= 32, 2)?;
     yes((1..=255).contains(&text.len()), 3)?;
@@ -66,7 +66,7 @@ fn evaluated(text: &[u8], c: u32, k: u32, i: u32, j: u32, recording: &[u8]) -> R
 
 // Formula text
 
-enum State {
+pub enum State {
     Letter(u32),
     Constant(bool),
     Not(Box<State>),
@@ -75,9 +75,9 @@ enum State {
 }
 
 /// A formula, and its own number among the formulas of a text.
-struct Formula(usize, Kind);
+pub struct Formula(usize, pub Kind);
 
-enum Kind {
+pub enum Kind {
     Constant(bool),
     Not(Box<Formula>),
     Both(Box<Formula>, Box<Formula>),
@@ -89,8 +89,8 @@ enum Kind {
 
 /// A text that reads by the grammar: its tree, and each node (first byte, length), letter (place,
 /// channel) and number (first digit, value) by place.
-struct Reading {
-    root: Formula,
+pub struct Reading {
+    pub root: Formula,
     formulas: usize,
     nodes: Vec<(usize, usize)>,
     letters: Vec<(usize, u32)>,
