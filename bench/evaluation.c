@@ -1,26 +1,17 @@
-/* Times the engine beside the straightforward evaluator of plain.c and prints one table. Before a line is timed, both must give
- * the same answers; the status is 1 where they do not. */
-#include "plain.h"
+/* Times the engine's evaluation and reading beside the plain evaluator's and prints one table. Before a line is timed, both
+ * must give the same answers; the status is 1 where they do not. */
+#include "exercises.h"
+#include "plain/plain.h"
+#include "timing.h"
 #include "tuvenikar.h"
 
 #include <stdbool.h>
 #include <stdio.h>
 #include <stdlib.h>
 #include <string.h>
-#include <time.h>
 
 enum { CHANNELS = 8, STEPS = 32, ASKED = 64 /* recordings of a formula, or nodes of a text that is read */ };
-enum { FEWEST_ROUNDS = 9, MOST_ROUNDS = 4000 };
-static const double LINE_SECONDS = 0.9, BATCH_SECONDS = 0.0003;
 static const double GOAL_OF_CHOP = 1.0 / 3, GOAL_ELSEWHERE = 1.0;
-
-#define THRICE(s) s s s
-#define NINEFOLD(s) THRICE(THRICE(s))
-#define TWENTY_ONE(s) THRICE(s s s s s s s)
-
-struct exercise {
-    const char *name, *text;
-};
 
 static const struct exercise EXERCISES[] = {
     {"duration", "#a>=4"},
@@ -106,90 +97,36 @@ static void agree(const struct line *line, uint64_t engine, uint64_t plain)
 static void check(const struct line *line)
 {
     for (uint32_t r = 0; r < ASKED; r++) {
-        agree(line, ask(&ENGINES[0], line, r), ask(&ENGINES[1], line, r));
+        agree(line, ask(&ENGINES[ENGINE], line, r), ask(&ENGINES[PLAIN], line, r));
         uint32_t i = r % (line->k + 1);
         for (uint32_t j = i; !line->is_reading && j <= line->k; j++)
-            agree(line, evaluate(&ENGINES[0], line, r, i, j), evaluate(&ENGINES[1], line, r, i, j));
+            agree(line, evaluate(&ENGINES[ENGINE], line, r, i, j), evaluate(&ENGINES[PLAIN], line, r, i, j));
     }
 }
 
-static double seconds_by(clockid_t clock)
+/* Each of the line's questions, once. */
+static uint64_t ask_all(const void *line, uint32_t contestant)
 {
-    struct timespec t;
-    clock_gettime(clock, &t);
-    return (double)t.tv_sec + 1e-9 * (double)t.tv_nsec;
+    uint64_t answers = 0;
+    for (uint32_t r = 0; r < ASKED; r++)
+        answers += ask(&ENGINES[contestant], line, r);
+    return answers;
 }
 
-/* Seconds a question, over a batch in which each of the line's questions is asked `times` times. The processor's seconds: turns
- * that other programs take on it would fall on the slower of the two more often. */
-static double batch(const struct engine *e, const struct line *line, uint32_t times)
-{
-    volatile uint64_t answers = 0; /* so that no call can be left out */
-    double start = seconds_by(CLOCK_THREAD_CPUTIME_ID);
-    for (uint32_t n = 0; n < times; n++)
-        for (uint32_t r = 0; r < ASKED; r++)
-            answers += ask(e, line, r);
-    return (seconds_by(CLOCK_THREAD_CPUTIME_ID) - start) / times / ASKED;
-}
-
-static int compare(const void *x, const void *y)
-{
-    double a = *(const double *)x, b = *(const double *)y;
-    return (a > b) - (a < b);
-}
-
-struct result {
-    double best[2], ratio;
-};
-
-/* Short batches in turn: the two of a round meet much the same machine, so the median of the rounds' ratios holds on a busy one
- * too. */
-static struct result measure(const struct line *line)
-{
-    static double ratios[MOST_ROUNDS];
-    struct result result = {.best = {1e9, 1e9}};
-    uint32_t rounds = 0, times = 1 + (uint32_t)(BATCH_SECONDS / ASKED / batch(&ENGINES[1], line, 1));
-    double end = seconds_by(CLOCK_MONOTONIC) + LINE_SECONDS;
-    while (rounds < FEWEST_ROUNDS || (rounds < MOST_ROUNDS && seconds_by(CLOCK_MONOTONIC) < end)) {
-        double seconds[2];
-        for (uint32_t n = 0; n < 2; n++) {
-            uint32_t e = (rounds + n) % 2; /* neither always goes first */
-            seconds[e] = batch(&ENGINES[e], line, times);
-            if (seconds[e] < result.best[e])
-                result.best[e] = seconds[e];
-        }
-        ratios[rounds++] = seconds[0] / seconds[1];
-    }
-    qsort(ratios, rounds, sizeof(double), compare);
-    result.ratio = ratios[rounds / 2];
-    return result;
-}
-
-/* The lines that share a goal. */
-struct group {
-    const char *name;
-    double goal, worst;
-    struct line line;
-};
-
-static void show(const struct line *line, struct group *group)
+static void show(const struct line *line, struct goal *goal)
 {
     check(line);
-    struct result result = measure(line);
-    printf("%-18s  %2u  %10.0f  %10.0f  %5.2f%s\n", line->exercise.name, line->k, 1 / result.best[0], 1 / result.best[1],
-           result.ratio, result.ratio > group->goal ? " *" : "");
+    struct timing timing = measure(ask_all, line, 2);
+    bool is_missed = misses(goal, timing.ratio[PLAIN], line->exercise.name, line->k);
+    printf("%-18s  %2u  %10.0f  %10.0f  %5.2f%s\n", line->exercise.name, line->k, ASKED / timing.best[ENGINE],
+           ASKED / timing.best[PLAIN], timing.ratio[PLAIN], is_missed ? " *" : "");
     fflush(stdout);
-    if (result.ratio > group->worst) {
-        group->worst = result.ratio;
-        group->line = *line;
-    }
 }
 
 int main(void)
 {
-    struct group chop = {.name = "with chop at k 32", .goal = GOAL_OF_CHOP};
-    struct group others = {.name = "everywhere else", .goal = GOAL_ELSEWHERE};
-    const struct group *groups[] = {&chop, &others};
+    struct goal chop = {.name = "with chop at k 32", .most = GOAL_OF_CHOP};
+    struct goal others = {.name = "everywhere else", .most = GOAL_ELSEWHERE};
     record();
     puts("Questions a second, each in its best batch. Ratio: the engine's time to the plain evaluator's, the median over");
     puts("pairs of batches timed in turn; * where it misses its goal.");
@@ -200,8 +137,7 @@ int main(void)
             show(&line, line.k == STEPS && strchr(line.exercise.text, ';') ? &chop : &others);
         }
     show(&(struct line){LONG_TEXT, STEPS, true}, &others);
-    for (size_t g = 0; g < 2; g++)
-        printf("worst %s: %.2f (%s, k %u); goal: at most %.2f\n", groups[g]->name, groups[g]->worst,
-               groups[g]->line.exercise.name, groups[g]->line.k, groups[g]->goal);
+    report(&chop);
+    report(&others);
     return 0;
 }

@@ -1,0 +1,15 @@
+/* The straightforward engine that the benchmarks set beside ours. Its calls take and answer what the engine's do, but that a
+ * refusal's place is always 0. */
+#ifndef PLAIN_H
+#define PLAIN_H
+
+#include <stddef.h>
+#include <stdint.h>
+
+uint64_t plain_evaluate(const uint8_t *text, size_t text_length, uint32_t c, uint32_t k, uint32_t i, uint32_t j,
+                        const uint8_t *recording, size_t recording_length);
+uint64_t plain_node_text(const uint8_t *text, size_t text_length, uint32_t c, uint32_t k, uint32_t node);
+uint64_t plain_table(const uint8_t *text, size_t text_length, uint32_t c, uint32_t k, uint32_t *sizes, size_t sizes_length,
+                     uint32_t *variables, size_t variables_length, uint8_t *marks, size_t marks_length);
+
+#endif

@@ -1,0 +1,75 @@
+#include "timing.h"
+
+#include <stdio.h>
+#include <stdlib.h>
+#include <time.h>
+
+enum { FEWEST_ROUNDS = 9, MOST_ROUNDS = 4000 };
+static const double LINE_SECONDS = 0.9, BATCH_SECONDS = 0.0003;
+
+static double seconds_by(clockid_t clock)
+{
+    struct timespec t;
+    clock_gettime(clock, &t);
+    return (double)t.tv_sec + 1e-9 * (double)t.tv_nsec;
+}
+
+/* Seconds of one asking, over a batch of `times`. The processor's seconds: turns that other programs take on it would fall on
+ * the slower of the contestants more often. */
+static double batch(asked *ask, const void *line, uint32_t contestant, uint32_t times)
+{
+    volatile uint64_t answers = 0; /* so that no call can be left out */
+    double start = seconds_by(CLOCK_THREAD_CPUTIME_ID);
+    for (uint32_t n = 0; n < times; n++)
+        answers += ask(line, contestant);
+    return (seconds_by(CLOCK_THREAD_CPUTIME_ID) - start) / times;
+}
+
+static int compare(const void *x, const void *y)
+{
+    double a = *(const double *)x, b = *(const double *)y;
+    return (a > b) - (a < b);
+}
+
+/* Short batches in turn: those of a round meet much the same machine, so the median of the rounds' ratios holds on a busy one
+ * too. */
+struct timing measure(asked *ask, const void *line, uint32_t contestants)
+{
+    static double ratios[MOST_CONTESTANTS][MOST_ROUNDS];
+    struct timing timing = {.best = {1e9, 1e9, 1e9}};
+    uint32_t rounds = 0, times = 1 + (uint32_t)(BATCH_SECONDS / batch(ask, line, PLAIN, 1));
+    double end = seconds_by(CLOCK_MONOTONIC) + LINE_SECONDS;
+    while (rounds < FEWEST_ROUNDS || (rounds < MOST_ROUNDS && seconds_by(CLOCK_MONOTONIC) < end)) {
+        double seconds[MOST_CONTESTANTS];
+        for (uint32_t n = 0; n < contestants; n++) {
+            uint32_t e = (rounds + n) % contestants; /* none always goes first */
+            seconds[e] = batch(ask, line, e, times);
+            if (seconds[e] < timing.best[e])
+                timing.best[e] = seconds[e];
+        }
+        for (uint32_t e = 0; e < contestants; e++)
+            ratios[e][rounds] = seconds[ENGINE] / seconds[e];
+        rounds++;
+    }
+    for (uint32_t e = 0; e < contestants; e++) {
+        qsort(ratios[e], rounds, sizeof(double), compare);
+        timing.ratio[e] = ratios[e][rounds / 2];
+    }
+    return timing;
+}
+
+bool misses(struct goal *goal, double ratio, const char *line, uint32_t k)
+{
+    if (ratio > goal->worst) {
+        goal->worst = ratio;
+        goal->line = line;
+        goal->k = k;
+    }
+    return ratio > goal->most;
+}
+
+void report(const struct goal *goal)
+{
+    printf("worst %s: %.2f (%s, k %u); goal: at most %.2f, %s\n", goal->name, goal->worst, goal->line, goal->k, goal->most,
+           goal->worst > goal->most ? "missed" : "met");
+}
