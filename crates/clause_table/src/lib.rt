@@ -5,7 +5,6 @@ use interval::Interval;
 use refusal::Refusal;
 use refusal::Reply;
 use rows::NodeTable;
-use weights::Weight;
 ghost use mathlib.Core.Path.{_≡_};
 ghost use mathlib.Core.List.{map};
 ghost use Prim.Native.Nat.{ℕ, _+_, _≤_, _<_};
@@ -144,43 +143,16 @@ fn sizes_of<'a>(
     requires { ⌜ (c ≤ maxChannels) × (k ≤ maxSteps) × (count ≤ maxNodes) × (length (now firsts) ≡ maxNodes) × Low (now firsts) ⌝ }
     ensures { λ r. ⌜ Measured c k (now (kinds .entry)) (now (numbers .entry)) count (now (firsts .exit)) r ⌝ }
 {
-    let clauses = weights::sums(
-        kinds,
-        numbers,
-        count,
-        k,
-        Weight {
-            copy: 2,
-            each: 1,
-            step: 4,
-        },
-        1,
-        firsts,
-    );
-    let literals = weights::sums(
-        kinds,
-        numbers,
-        count,
-        k,
-        Weight {
-            copy: 4,
-            each: 3,
-            step: 11,
-        },
-        1,
-        firsts,
-    );
+    let clauses = weights::sums(kinds, numbers, count, k, weights::clauses(), 1, firsts);
+    let literals = weights::sums(kinds, numbers, count, k, weights::literals(), 1, firsts);
+    let start = 1 + k * c;
     let end = weights::sums(
         kinds,
         numbers,
         count,
         k,
-        Weight {
-            copy: 1,
-            each: 0,
-            step: 1,
-        },
-        1 + k * c,
+        weights::variables(),
+        start,
         firsts,
     );
     Sizes {

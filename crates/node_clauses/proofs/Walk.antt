@@ -25,6 +25,7 @@ use Rattle.blocks.specs.declared.Rule.{Rule}
 use Rattle.blocks.specs.declared.Rule.the-variants.{Fixed, Letter, Negation, And, Or, Chop, Duration, Throughout, Cut}
 use Rattle.blocks.proofs.Positions.{first-placed, next-placed, chop-position}
 use Rattle.weights.specs.Weights.{variableWeight, weightBy, maxWeight}
+use Rattle.weights.specs.declared.Weight.{Weight}
 use Rattle.weights.proofs.Weights.{block-length, shape-weight}
 use Rattle.clauses.specs.Clauses.{clausesOf, clausesBy}
 use Rattle.clauses.specs.Entries.{Entry, flat}
@@ -61,9 +62,9 @@ module _ (C k : ℕ) (block : Block) where
 
   -- the loop's laws
   module _ {v m : List ℕ} {at : ℕ} where
-    pub walk-begun : {n : ℕ} → n ≡ weightBy variableWeight k (block .points) (block .rule) → n ≤ maxWeight → Walked C k block v m at n v m (record { row = 0; line = 0; cell = 0 }) at 0
-    walk-begun e l =
-        let c = e ∙ shape-weight k (block .points) (block .rule) in
+    pub walk-begun : {n : ℕ} {one : Weight} → one ≡ variableWeight → n ≡ weightBy one k (block .points) (block .rule) → n ≤ maxWeight → Walked C k block v m at n v m (record { row = 0; line = 0; cell = 0 }) at 0
+    walk-begun o e l =
+        let c = e ∙ ap (λ (w : Weight). weightBy w k (block .points) (block .rule)) o ∙ shape-weight k (block .points) (block .rule) in
         record { whole = c ∙ sym (block-length C k block); few = l; sofar = begun; here = λ h. first-placed (block .points) k (block .rule) (omega (arith, c)) }
 
     module _ {n : ℕ} {v′ m′ : List ℕ} {p : Position} {b x : ℕ} (w : Walked C k block v m at n v′ m′ p b x) where

@@ -3,7 +3,6 @@ use blocks::Block;
 use blocks::Position;
 use blocks::Rule;
 use interval::Interval;
-use weights::Weight;
 ghost use Prim.Native.Nat.{_+_, _≤_};
 ghost use Rattle.interval.specs.Places.{countOf};
 ghost use Rattle.interval.specs.Limits.{maxCount};
@@ -29,12 +28,7 @@ fn walk_block(
     let rule = block.rule;
     let points = block.points;
     let first = block.first;
-    let one = Weight {
-        copy: 1,
-        each: 0,
-        step: 1,
-    };
-    let count = weights::weigh(one, k, points, rule);
+    let count = weights::weigh(weights::variables(), k, points, rule);
     let mut p = Position {
         row: 0,
         line: 0,

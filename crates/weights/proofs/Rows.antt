@@ -1,6 +1,6 @@
 -- A row weighs what its node's own definitions weigh, since its kind and number tell their rule and how many there are. So the sum over
 -- the rows of nodes that follow each other is what the definitions of these nodes weigh, and in variables it is their blocks.
-use mathlib.Core.Path.{_≡_, refl, sym, ap, ap₂, _∙_}
+use mathlib.Core.Path.{_≡_, refl, sym, ap, ap₂, _∙_, subst}
 use mathlib.Core.Bool.{Bool, cond, true, false, false≢true}
 use mathlib.Core.Logic.{⊎-elim}
 use mathlib.Core.List.{List, [], _∷_, _++_, append-nil}
@@ -13,7 +13,7 @@ use lib.ListN.{length, getD, drop}
 use borrow.Author.Tests.{lt-ltb, le-ltb}
 use Rattle.interval.specs.Listing.{sum}
 use Rattle.interval.specs.Places.{countOf}
-use Rattle.interval.specs.Limits.{maxCount}
+use Rattle.interval.specs.Limits.{maxSteps, maxCount}
 use Rattle.interval.proofs.Fill.{Upto}
 use Rattle.grammar.specs.Limits.{maxNodes}
 use Rattle.grammar.specs.Trees.{and, or, chop, Tree, constant, letter, negation, pair, duration, throughout}
@@ -153,10 +153,16 @@ part-width k l x A m e = omega (arith, part-weight variableWeight 0 k l 0 x A m 
 
 -- ---- what the code comes to
 
--- what `weigh` asks of a row's block
+-- a weight that the code has found to be small
+pub small : {w v : Weight} {k : ℕ} → w ≡ v → v .copy ≤ 4 → v .each ≤ 3 → v .step ≤ 11 → k ≤ maxSteps → Small w k
+small {k = k} e x y z h = subst (λ (w : Weight). Small w k) (sym e) (record { copy = x; each = y; step = z; steps = h })
+
+-- what `weigh` asks, of a block and of a row's block
+pub known-light : {w : Weight} {k points : ℕ} {r : Rule} → Small w k → points ≤ maxCount → numberOf r ≤ 255 → Light w k points r
+known-light s m n = record { copy = s .copy; each = s .each; step = s .step; steps = s .steps; points = m; number = n }
+
 pub row-light : {w : Weight} {k points : ℕ} {r : Rule} (kind number : ℕ) → r ≡ ruleBy kind number → Small w k → number ≤ 255 → points ≤ maxCount → Light w k points r
-row-light kind number e s h m =
-    record { copy = s .copy; each = s .each; step = s .step; steps = s .steps; points = m; number = omega (arith, ap numberOf e, rule-number kind number h) }
+row-light kind number e s h m = known-light s m (omega (arith, ap numberOf e, rule-number kind number h))
 
 module _ (w : Weight) (k kind number : ℕ) {points : ℕ} {r : Rule} (p : points ≡ pointsBy k kind) (e : r ≡ ruleBy kind number) where
   -- a chop's two blocks, or another node's one

@@ -8,13 +8,46 @@ ghost use Prim.Native.Nat.{_≤_, _*_, _^_};
 ghost use lib.ListN.{length};
 ghost use Rattle.interval.specs.Limits.{maxSteps, maxCount};
 ghost use Rattle.grammar.specs.Limits.{maxNodes};
-ghost use Rattle.weights.specs.Weights.{longerBy, weightBy, maxWeight, Light, Small, pointsBy, rowWeight, Summed};
+ghost use Rattle.weights.specs.Weights.{variableWeight, clauseWeight, literalWeight, longerBy, weightBy, maxWeight, Light, Small, pointsBy, rowWeight, Summed};
 
 // What gates count: of a copy or an inverse, for each input of the others, and of a step.
 pub struct Weight {
     pub copy: u32,
     pub each: u32,
     pub step: u32,
+}
+
+// Each gate weighs 1: how many variables are defined.
+pub fn variables() -> Weight
+    ensures { λ r. ⌜ r ≡ variableWeight ⌝ }
+{
+    Weight {
+        copy: 1,
+        each: 0,
+        step: 1,
+    }
+}
+
+// How many clauses a gate has.
+pub fn clauses() -> Weight
+    ensures { λ r. ⌜ r ≡ clauseWeight ⌝ }
+{
+    Weight {
+        copy: 2,
+        each: 1,
+        step: 4,
+    }
+}
+
+// How many literals.
+pub fn literals() -> Weight
+    ensures { λ r. ⌜ r ≡ literalWeight ⌝ }
+{
+    Weight {
+        copy: 4,
+        each: 3,
+        step: 11,
+    }
 }
 
 // The weight of the gates on all intervals, those on empty ones weighing 1.

@@ -3,6 +3,7 @@
 use Rattle.node_clauses.specs.Walk.{Walked}
 use Rattle.node_clauses.proofs.Walk.{walk-begun, walk-room, walk-turn, walk-done, gate-within}
 use Rattle.blocks.proofs.Positions.{position-small}
+use Rattle.weights.proofs.Rows.{small, known-light}
 use Rattle.gates.specs.Within.{Within}
 use mathlib.Core.Path.{sym, subst}
 use Prim.Native.Nat.{_-_}
@@ -17,26 +18,29 @@ Inv-loop variables₀ marks₀ at c k block rule points first count p₀ b₀ x�
 abbrev μ-loop : tie.MeasureT-loop
 μ-loop variables₀ marks₀ at c k block rule points first count p₀ b₀ x₀ variables marks p b x = count - x
 
+variables-requires : tie.Need-variables-requires Inv-loop μ-loop
+variables-requires c κs = search needs
+
 weigh-requires : tie.Need-weigh-requires Inv-loop μ-loop
-weigh-requires c κs = let s = c .before .before .pre .1 in record { copy = omega arith; each = omega arith; step = omega arith; steps = s .0 .steps; points = s .1; number = s .0 .number }
+weigh-requires c κs = let s = c .before .before .before .pre .1 in known-light (small (c .variables .ensures) (omega arith) (omega arith) (omega arith) (s .0 .steps)) (s .1) (s .0 .number)
 
 loop-holds : tie.Need-loop-holds Inv-loop μ-loop
-loop-holds c = walk-begun _ _ _ (c .weigh .ensures .0) (c .weigh .ensures .1)
+loop-holds c = walk-begun _ _ _ (c .before .variables .ensures) (c .weigh .ensures .0) (c .weigh .ensures .1)
 
 gate-at-requires : tie.Need-gate-at-requires Inv-loop μ-loop
-gate-at-requires c κs = let w = c .before .loop .inv in ((c .before .before .before .before .before .pre .1 .0, omega (arith, w .few, c .loop-test .taken)), w .here (search needs))
+gate-at-requires c κs = let w = c .before .loop .inv in ((c .before .before .before .before .before .before .pre .1 .0, omega (arith, w .few, c .loop-test .taken)), w .here (search needs))
 
 add-put-gate : tie.Need-add-put-gate Inv-loop μ-loop
-add-put-gate c = let w = c .before .before .before .before .loop .inv in omega (arith, w .few, c .before .before .before .loop-test .taken, c .before .before .before .before .before .before .before .before .pre .1 .0 .first)
+add-put-gate c = let w = c .before .before .before .before .loop .inv in omega (arith, w .few, c .before .before .before .loop-test .taken, c .before .before .before .before .before .before .before .before .before .pre .1 .0 .first)
 
 put-gate-requires : tie.Need-put-gate-requires Inv-loop μ-loop
 put-gate-requires c κs = let w = c .before .before .before .before .loop .inv in
     let g = c .before .before .gate-at .ensures in
-    (walk-room _ _ _ w (search needs) g (c .before .before .before .before .before .before .before .before .pre .0), subst Within (sym g) (gate-within _ _ _ (c .before .before .before .before .before .before .before .before .pre .1 .0) _ _ _ _ (w .here (search needs))))
+    (walk-room _ _ _ w (search needs) g (c .before .before .before .before .before .before .before .before .before .pre .0), subst Within (sym g) (gate-within _ _ _ (c .before .before .before .before .before .before .before .before .before .pre .1 .0) _ _ _ _ (w .here (search needs))))
 
 next-requires : tie.Need-next-requires Inv-loop μ-loop
 next-requires c κs = let w = c .before .before .before .before .before .before .before .before .before .loop .inv in
-    let s = c .before .before .before .before .before .before .before .before .before .before .before .before .before .pre .1 in
+    let s = c .before .before .before .before .before .before .before .before .before .before .before .before .before .before .pre .1 in
     omega (arith, s .0 .steps, position-small (w .here (search needs)) (s .0 .number) (s .0 .steps) (s .1))
 
 add-x : tie.Need-add-x Inv-loop μ-loop
@@ -63,6 +67,7 @@ walk-block-spec =
     (tie.spec
     Inv-loop
     μ-loop
+    variables-requires
     weigh-requires
     loop-holds
     gate-at-requires
