@@ -1,6 +1,7 @@
 -- A clause of a gate is a literal of v and then literals of some of the inputs, in their order. So it is not empty, it names what v and
 -- the inputs are, and where those have no number twice, neither has the clause.
 use mathlib.Core.Logic.{_≢_}
+use mathlib.Core.Path.{_≡_, refl}
 use mathlib.Core.Bool.{Bool}
 use mathlib.Core.List.{List, [], _∷_, map, flatMap}
 use Prim.Native.Nat.{ℕ, _+_}
@@ -15,6 +16,12 @@ use Rattle.circuit.specs.declared.Gate.{Gate}
 use Rattle.circuit.specs.declared.Gate.the-variants.{Constant, Copy, Inverse, Both, Either, AnyOf, Step}
 use Rattle.circuit.proofs.Inputs.{Distinct}
 use Rattle.clauses.specs.Clauses.{Literal, literal, plain, negated, Clause, anyClauses, clausesOf, clausesBy, clauseTable}
+
+-- of two inputs "any" is what document 01 prints for `|`: (v −x)(v −y)(−v x y)
+pub either-printed : (v x y : ℕ)
+    → clausesOf v (Either x y) ≡ (plain v ∷ negated x ∷ []) ∷ (plain v ∷ negated y ∷ []) ∷ (negated v ∷ plain x ∷ plain y ∷ []) ∷ []
+unfolding clausesOf
+either-printed v x y = refl
 
 -- not empty
 abbrev pub Full : Clause → Type 0
