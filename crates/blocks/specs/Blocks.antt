@@ -157,7 +157,7 @@ numberOf Throughout = 0
 numberOf Cut = 0
 
 -- what the code asks of a block; a number in the node table is a byte
-pub record Sound (C k : ℕ) (b : Block) : Type 0 where
+pub record Bounded (C k : ℕ) (b : Block) : Type 0 where
   pub channels : C ≤ maxChannels
   pub steps : k ≤ maxSteps
   pub number : numberOf (b .rule) ≤ 255

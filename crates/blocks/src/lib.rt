@@ -6,7 +6,7 @@ ghost use mathlib.Core.Path.{_≡_};
 ghost use Prim.Native.Nat.{_+_, _-_, _^_, _≤_, _<_};
 ghost use Rattle.interval.specs.Places.{countOf, placeOf};
 ghost use Rattle.interval.specs.Limits.{maxSteps};
-ghost use Rattle.blocks.specs.Blocks.{ruleBy, isChop, formOf, linesOf, cellsOf, nextOf, bound, Placed, Sound, chopBy, levelBy, throughoutBy, tripleBy, gateOf};
+ghost use Rattle.blocks.specs.Blocks.{ruleBy, isChop, formOf, linesOf, cellsOf, nextOf, bound, Placed, Bounded, chopBy, levelBy, throughoutBy, tripleBy, gateOf};
 
 // What the gates of a block go by. A chop has two blocks: its intervals, and its triples, which cut an interval in two.
 pub enum Rule {
@@ -221,7 +221,7 @@ fn triple_gate(k: u32, l: u32, r: u32, a: u32, i: u32, d: u32) -> Gate
 
 // The gate in place x of a block, at position p.
 pub fn gate_at(c: u32, k: u32, block: Block, x: u32, p: Position) -> Gate
-    requires { ⌜ Sound c k block × (x < 2 ^ 24) ⌝ }
+    requires { ⌜ Bounded c k block × (x < 2 ^ 24) ⌝ }
     requires { ⌜ Placed (block .points) k (block .rule) x (p .row) (p .line) (p .cell) ⌝ }
     ensures { λ r. ⌜ r ≡ gateOf c k block x (p .row) (p .line) (p .cell) ⌝ }
 {

@@ -88,7 +88,7 @@ module _ (w : Weight) (k : ℕ) (h : Small w k) where
   few-points kind = cond-elim (λ n. n ≤ maxCount) (ltb kind 16) (λ e. omega (arith, h .steps)) (λ e. count-le maxSteps k (h .steps))
 
   light-cut : {points : ℕ} → points ≤ maxCount → Light w k points Cut
-  light-cut p = omega (arith, h)
+  light-cut p = record { small = h; points = p; number = omega arith }
 
   -- one block, or a chop's two
   row-le : (kind number : ℕ) → number ≤ 255 → rowWeight w k kind number ≤ 2 * maxWeight

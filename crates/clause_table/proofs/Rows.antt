@@ -46,7 +46,7 @@ module _ (kinds numbers sizes firsts : List ℕ) (k x kind : ℕ) {number : ℕ}
 
   pub block-fine : number ≤ 255 → k ≤ maxSteps → Low firsts → b .points ≤ maxCount → b .left < bound → b .right < bound → (C : ℕ) → C ≤ maxChannels → Fine C k b
   block-fine n h low p l r C c = record {
-    sound = record { channels = c; steps = h; number = subst (λ (r : Rule). numberOf r ≤ 255) (sym rule) (rule-number kind number n); first = omega (arith, first, low x); left = l; right = r };
+    bounded = record { channels = c; steps = h; number = subst (λ (r : Rule). numberOf r ≤ 255) (sym rule) (rule-number kind number n); first = omega (arith, first, low x); left = l; right = r };
     points = p;
     first = omega (arith, first, low x);
   }

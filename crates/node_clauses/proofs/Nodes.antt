@@ -1,5 +1,5 @@
 -- A node's definitions are those of its one block, or of a chop's two, one after the other; so are their clauses' places.
--- The blocks of a node whose block is fine are sound.
+-- The blocks of a node whose block is fine are bounded.
 use mathlib.Core.Path.{_≡_, refl, sym, ap, ap₂, _∙_}
 use mathlib.Core.Bool.{Bool}
 use mathlib.Core.List.{List, [], _∷_, _++_, flatMap}
@@ -13,7 +13,7 @@ use Rattle.formula.proofs.Lists.{flat-append}
 use Rattle.meaning.specs.Meaning.{bit}
 use Rattle.circuit.specs.Circuit.{Definition, define}
 use Rattle.circuit.specs.declared.Gate.the-variants.{Constant}
-use Rattle.blocks.specs.Blocks.{isChop, gateOf, definedBy, Sound, bound}
+use Rattle.blocks.specs.Blocks.{isChop, gateOf, definedBy, Bounded, bound}
 use Rattle.blocks.specs.declared.Block.{Block}
 use Rattle.blocks.specs.declared.Rule.the-variants.{Fixed}
 use Rattle.clauses.specs.Clauses.{clausesOf, clausesBy}
@@ -57,14 +57,14 @@ module _ (C k : ℕ) (b : Block) {w : ℕ} (e : w ≡ b .first + countOf k) wher
   module _ (f : Fine C k b) where
     beyond : w < bound
     unfolding countOf
-    beyond = omega (arith, e, f .first, count-le maxSteps k (f .sound .steps))
+    beyond = omega (arith, e, f .first, count-le maxSteps k (f .bounded .steps))
 
-    pub triples-sound : Sound C k (triplesOf w b) × (b .points ≤ maxCount)
-    triples-sound = (record { channels = f .sound .channels; steps = f .sound .steps; number = omega arith; first = beyond; left = f .sound .left; right = f .sound .right }, f .points)
+    pub triples-bounded : Bounded C k (triplesOf w b) × (b .points ≤ maxCount)
+    triples-bounded = (record { channels = f .bounded .channels; steps = f .bounded .steps; number = omega arith; first = beyond; left = f .bounded .left; right = f .bounded .right }, f .points)
 
-    pub intervals-sound : Sound C k (intervalsOf w b) × (b .points ≤ maxCount)
-    intervals-sound =
-        (record { channels = f .sound .channels; steps = f .sound .steps; number = omega arith; first = f .sound .first; left = beyond; right = f .sound .right }, f .points)
+    pub intervals-bounded : Bounded C k (intervalsOf w b) × (b .points ≤ maxCount)
+    intervals-bounded =
+        (record { channels = f .bounded .channels; steps = f .bounded .steps; number = omega arith; first = f .bounded .first; left = beyond; right = f .bounded .right }, f .points)
 
   module _ {v m : List ℕ} {at : ℕ} (r : Room v m at (flat (clausesBy (choppedBy C k (b .first + countOf k) b)))) where
     pub room-triples : Room v m at triples

@@ -18,7 +18,7 @@ use Rattle.interval.proofs.Laws.{triples-numbered}
 use Rattle.circuit.specs.Circuit.{Definition, define}
 use Rattle.circuit.specs.declared.Gate.{Gate}
 use Rattle.circuit.specs.declared.Gate.the-variants.{Constant}
-use Rattle.blocks.specs.Blocks.{shapeOf, gateBy, gateOf, definedBy, Placed, Sound, nextOf}
+use Rattle.blocks.specs.Blocks.{shapeOf, gateBy, gateOf, definedBy, Placed, Bounded, nextOf}
 use Rattle.blocks.specs.declared.Block.{Block}
 use Rattle.blocks.specs.declared.Position.{Position}
 use Rattle.blocks.specs.declared.Rule.{Rule}
@@ -96,7 +96,7 @@ within-cond : (c : Bool) (g h : Gate) → Within g → Within h → Within (cond
 within-cond true g h a b = a
 within-cond false g h a b = b
 
-module _ (C k : ℕ) (block : Block) (s : Sound C k block) where
+module _ (C k : ℕ) (block : Block) (s : Bounded C k block) where
   pub gate-within : (x a i d : ℕ) → Placed (block .points) k (block .rule) x a i d → Within (gateOf C k block x a i d)
   unfolding gateOf tripleCountOf
   gate-within x a i d p = go (block .rule) refl

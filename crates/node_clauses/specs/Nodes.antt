@@ -5,7 +5,7 @@ use Prim.Native.Nat.{ℕ, _+_, _≤_}
 use Rattle.interval.specs.Places.{countOf}
 use Rattle.interval.specs.Limits.{maxCount}
 use Rattle.circuit.specs.Circuit.{Definition}
-use Rattle.blocks.specs.Blocks.{isChop, definedBy, Sound}
+use Rattle.blocks.specs.Blocks.{isChop, definedBy, Bounded}
 use Rattle.blocks.specs.declared.Block.{Block}
 use Rattle.blocks.specs.declared.Rule.the-variants.{Chop, Cut}
 use Rattle.weights.specs.Weights.{maxSum}
@@ -33,6 +33,6 @@ nodePlaces C k b = flat (clausesBy (nodeBy C k b (isChop (b .rule))))
 
 -- what the code asks of a node's block
 pub record Fine (C k : ℕ) (b : Block) : Type 0 where
-  pub sound : Sound C k b
+  pub bounded : Bounded C k b
   pub points : b .points ≤ maxCount
   pub first : b .first ≤ maxSum

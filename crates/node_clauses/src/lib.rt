@@ -6,7 +6,7 @@ use interval::Interval;
 ghost use Prim.Native.Nat.{_+_, _≤_};
 ghost use Rattle.interval.specs.Places.{countOf};
 ghost use Rattle.interval.specs.Limits.{maxCount};
-ghost use Rattle.blocks.specs.Blocks.{definedBy, Sound};
+ghost use Rattle.blocks.specs.Blocks.{definedBy, Bounded};
 ghost use Rattle.clauses.specs.Clauses.{clausesBy};
 ghost use Rattle.clauses.specs.Entries.{flat};
 ghost use Rattle.literals.specs.Written.{Room, Wrote};
@@ -22,7 +22,7 @@ fn walk_block(
     block: Block,
 ) -> usize
     requires { ⌜ Room (now variables) (now marks) at (flat (clausesBy (definedBy c k block))) ⌝ }
-    requires { ⌜ Sound c k block × (block .points ≤ maxCount) ⌝ }
+    requires { ⌜ Bounded c k block × (block .points ≤ maxCount) ⌝ }
     ensures { λ r. ⌜ Wrote (now (variables .entry)) (now (marks .entry)) at (flat (clausesBy (definedBy c k block))) (now (variables .exit)) (now (marks .exit)) r ⌝ }
 {
     let rule = block.rule;
@@ -53,7 +53,7 @@ fn put_block(
     block: Block,
 ) -> usize
     requires { ⌜ Room (now variables) (now marks) at (flat (clausesBy (definedBy c k block))) ⌝ }
-    requires { ⌜ Sound c k block × (block .points ≤ maxCount) ⌝ }
+    requires { ⌜ Bounded c k block × (block .points ≤ maxCount) ⌝ }
     ensures { λ r. ⌜ Wrote (now (variables .entry)) (now (marks .entry)) at (flat (clausesBy (definedBy c k block))) (now (variables .exit)) (now (marks .exit)) r ⌝ }
 {
     let rule = block.rule;

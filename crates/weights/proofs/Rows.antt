@@ -157,12 +157,9 @@ part-width k l x A m e = omega (arith, part-weight variableWeight 0 k l 0 x A m 
 pub small : {w v : Weight} {k : ℕ} → w ≡ v → v .copy ≤ 4 → v .each ≤ 3 → v .step ≤ 11 → k ≤ maxSteps → Small w k
 small {k = k} e x y z h = subst (λ (w : Weight). Small w k) (sym e) (record { copy = x; each = y; step = z; steps = h })
 
--- what `weigh` asks, of a block and of a row's block
-pub known-light : {w : Weight} {k points : ℕ} {r : Rule} → Small w k → points ≤ maxCount → numberOf r ≤ 255 → Light w k points r
-known-light s m n = record { copy = s .copy; each = s .each; step = s .step; steps = s .steps; points = m; number = n }
-
+-- what `weigh` asks of a row's block
 pub row-light : {w : Weight} {k points : ℕ} {r : Rule} (kind number : ℕ) → r ≡ ruleBy kind number → Small w k → number ≤ 255 → points ≤ maxCount → Light w k points r
-row-light kind number e s h m = known-light s m (omega (arith, ap numberOf e, rule-number kind number h))
+row-light kind number e s h m = record { small = s; points = m; number = omega (arith, ap numberOf e, rule-number kind number h) }
 
 module _ (w : Weight) (k kind number : ℕ) {points : ℕ} {r : Rule} (p : points ≡ pointsBy k kind) (e : r ≡ ruleBy kind number) where
   -- a chop's two blocks, or another node's one

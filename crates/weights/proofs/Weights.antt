@@ -176,14 +176,14 @@ module _ {w : Weight} {k points : ℕ} {r : Rule} (l : Light w k points r) where
   weight-le : (s : Rule) → r ≡ s → weightBy w k points s ≤ maxWeight
   unfolding weightBy
   weight-le (Fixed v) e = omega (arith, l .points)
-  weight-le (Letter c) e = omega (arith, points-le points (w .copy) (l .points) (omega (arith, l .copy)))
-  weight-le Negation e = omega (arith, points-le points (w .copy) (l .points) (omega (arith, l .copy)))
-  weight-le And e = omega (arith, points-le points (2 * w .each + 1) (l .points) (omega (arith, l .each)))
-  weight-le Or e = omega (arith, points-le points (2 * w .each + 1) (l .points) (omega (arith, l .each)))
-  weight-le Chop e = triples-le k (w .each) (l .steps) (omega (arith, l .each))
-  weight-le (Duration n) e = levels-le k (w .step) (l .steps) (l .step) n (omega (arith, l .number, ap numberOf e))
-  weight-le Throughout e = omega (arith, longer-le k (2 * w .each + 1) (l .steps) (omega (arith, l .each)))
-  weight-le Cut e = omega (arith, triples-le k (2 * w .each + 1) (l .steps) (omega (arith, l .each)))
+  weight-le (Letter c) e = omega (arith, points-le points (w .copy) (l .points) (omega (arith, l .small .copy)))
+  weight-le Negation e = omega (arith, points-le points (w .copy) (l .points) (omega (arith, l .small .copy)))
+  weight-le And e = omega (arith, points-le points (2 * w .each + 1) (l .points) (omega (arith, l .small .each)))
+  weight-le Or e = omega (arith, points-le points (2 * w .each + 1) (l .points) (omega (arith, l .small .each)))
+  weight-le Chop e = triples-le k (w .each) (l .small .steps) (omega (arith, l .small .each))
+  weight-le (Duration n) e = levels-le k (w .step) (l .small .steps) (l .small .step) n (omega (arith, l .number, ap numberOf e))
+  weight-le Throughout e = omega (arith, longer-le k (2 * w .each + 1) (l .small .steps) (omega (arith, l .small .each)))
+  weight-le Cut e = omega (arith, triples-le k (2 * w .each + 1) (l .small .steps) (omega (arith, l .small .each)))
 
   -- a block's weight, its rule being known
   pub weighed : (s : Rule) {v : ℕ} → r ≡ s → v ≡ weightBy w k points s → (v ≡ weightBy w k points r) × (v ≤ maxWeight)

@@ -57,26 +57,23 @@ weightBy w k points (Duration n) = countOf k + n * longerBy k (w .step)
 weightBy w k points Throughout = longerBy k (2 * w .each + 1)
 weightBy w k points Cut = tripleCountOf k * (2 * w .each + 1)
 
--- no block weighs more (the law `weight-le`), for a weight of copy up to 4, each up to 3 and step up to 11, levels up to 255, and
+-- no block weighs more (the law `weighed`), for a weight of copy up to 4, each up to 3 and step up to 11, levels up to 255, and
 -- the most steps, were they 64
 abbrev pub maxWeight : ℕ
 maxWeight = 2 ^ 23
 
--- what the code asks of a weight and a block
-pub record Light (w : Weight) (k n : ℕ) (r : Rule) : Type 0 where
-  pub copy : w .copy ≤ 4
-  pub each : w .each ≤ 3
-  pub step : w .step ≤ 11
-  pub steps : k ≤ maxSteps
-  pub points : n ≤ maxCount
-  pub number : numberOf r ≤ 255
-
--- the same of the weight alone
+-- what the code asks of a weight
 pub record Small (w : Weight) (k : ℕ) : Type 0 where
   pub copy : w .copy ≤ 4
   pub each : w .each ≤ 3
   pub step : w .step ≤ 11
   pub steps : k ≤ maxSteps
+
+-- and of a block beside it
+pub record Light (w : Weight) (k n : ℕ) (r : Rule) : Type 0 where
+  pub small : Small w k
+  pub points : n ≤ maxCount
+  pub number : numberOf r ≤ 255
 
 -- ---- by the rows of the node table
 

@@ -1,6 +1,6 @@
 -- The triples' block is written, then the intervals', as the definition lists them;
--- both are sound, since the node's block is fine (Nodes.antt).
-use Rattle.node_clauses.proofs.Nodes.{room-triples, room-intervals, wrote-chopped, triples-sound, intervals-sound}
+-- both are bounded, since the node's block is fine (Nodes.antt).
+use Rattle.node_clauses.proofs.Nodes.{room-triples, room-intervals, wrote-chopped, triples-bounded, intervals-bounded}
 use mathlib.Core.Path.{ap}
 use Prim.Native.Nat.{_+_}
 use borrow.Author.Needs.{needs}
@@ -18,11 +18,11 @@ add-w c = search needs
 
 put-block-requires : tie.Need-put-block-requires
 put-block-requires c κs = let e = ap (λ n. c .before .before .before .before .before .args .block .first + n) (c .before .before .count .ensures .0) in
-    (room-triples _ _ (c .before .before .before .before .before .args .block) e (c .before .before .before .before .before .pre .0), triples-sound _ _ (c .before .before .before .before .before .args .block) e (c .before .before .before .before .before .pre .1))
+    (room-triples _ _ (c .before .before .before .before .before .args .block) e (c .before .before .before .before .before .pre .0), triples-bounded _ _ (c .before .before .before .before .before .args .block) e (c .before .before .before .before .before .pre .1))
 
 put-block-requires-2 : tie.Need-put-block-requires-2
 put-block-requires-2 c κs = let e = ap (λ n. c .before .before .before .before .before .before .before .before .before .before .before .before .args .block .first + n) (c .before .before .before .before .before .before .before .before .before .count .ensures .0) in
-    (room-intervals _ _ (c .before .before .before .before .before .before .before .before .before .before .before .before .args .block) e (c .before .before .before .before .before .before .before .before .before .before .before .before .pre .0) (c .before .before .before .before .before .before .put-block .ensures), intervals-sound _ _ (c .before .before .before .before .before .before .before .before .before .before .before .before .args .block) e (c .before .before .before .before .before .before .before .before .before .before .before .before .pre .1))
+    (room-intervals _ _ (c .before .before .before .before .before .before .before .before .before .before .before .before .args .block) e (c .before .before .before .before .before .before .before .before .before .before .before .before .pre .0) (c .before .before .before .before .before .before .put-block .ensures), intervals-bounded _ _ (c .before .before .before .before .before .before .before .before .before .before .before .before .args .block) e (c .before .before .before .before .before .before .before .before .before .before .before .before .pre .1))
 
 same-length : tie.Need-same-length
 same-length c = search needs

@@ -24,7 +24,7 @@ returns : tie.Need-returns
 returns c = named (places-known _ _ _ (c .before .before .before .before .before .before .before .before .is-chop .ensures) (c .before .before .before .before .before .before .before .if1 .taken)) (c .before .before .before .before .put-chop .ensures)
 
 put-block-requires : tie.Need-put-block-requires
-put-block-requires c κs = (subst (Room _ _ _) (sym (places-known _ _ _ (c .before .before .before .is-chop .ensures) (c .before .before .if1 .left))) (c .before .before .before .before .before .before .pre .0), (c .before .before .before .before .before .before .pre .1 .sound, c .before .before .before .before .before .before .pre .1 .points))
+put-block-requires c κs = (subst (Room _ _ _) (sym (places-known _ _ _ (c .before .before .before .is-chop .ensures) (c .before .before .if1 .left))) (c .before .before .before .before .before .before .pre .0), (c .before .before .before .before .before .before .pre .1 .bounded, c .before .before .before .before .before .before .pre .1 .points))
 
 same-length-3 : tie.Need-same-length-3
 same-length-3 c = search needs

@@ -3,7 +3,7 @@
 use Rattle.node_clauses.specs.Walk.{Walked}
 use Rattle.node_clauses.proofs.Walk.{walk-begun, walk-room, walk-turn, walk-done, gate-within}
 use Rattle.blocks.proofs.Positions.{position-small}
-use Rattle.weights.proofs.Rows.{small, known-light}
+use Rattle.weights.proofs.Rows.{small}
 use Rattle.gates.specs.Within.{Within}
 use mathlib.Core.Path.{sym, subst}
 use Prim.Native.Nat.{_-_}
@@ -22,7 +22,7 @@ variables-requires : tie.Need-variables-requires Inv-loop μ-loop
 variables-requires c κs = search needs
 
 weigh-requires : tie.Need-weigh-requires Inv-loop μ-loop
-weigh-requires c κs = let s = c .before .before .before .pre .1 in known-light (small (c .variables .ensures) (omega arith) (omega arith) (omega arith) (s .0 .steps)) (s .1) (s .0 .number)
+weigh-requires c κs = let s = c .before .before .before .pre .1 in record { small = small (c .variables .ensures) (omega arith) (omega arith) (omega arith) (s .0 .steps); points = s .1; number = s .0 .number }
 
 loop-holds : tie.Need-loop-holds Inv-loop μ-loop
 loop-holds c = walk-begun _ _ _ (c .before .variables .ensures) (c .weigh .ensures .0) (c .weigh .ensures .1)
