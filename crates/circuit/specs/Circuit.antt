@@ -120,6 +120,7 @@ rightOf k p (pair l x y) = p + blocksOf k (nodesOf x 0) + truthOf k y
 rightOf k p (duration x n) = 0
 rightOf k p (throughout x) = 0
 
+-- a node's own definitions, its block from b on and its parts' blocks after it
 unfoldable pub ownOf : {s : Sort} → ℕ → ℕ → ℕ → Tree s → List Definition
 ownOf C k b x = let p = b + widthOf k x in ownBy C k b (leftOf k p x) (rightOf k p x) x
 

@@ -61,6 +61,7 @@ refused sizes variables marks r = record { answer = Refused r; sizes = sizes; va
 abbrev pub written : List ℕ → List Entry → List ℕ → List ℕ → List ℕ → After
 written five F sizes variables marks = record { answer = Done; sizes = over five sizes; variables = over (variablesIn F) variables; marks = over (marksIn F) marks }
 
+-- the call: "the first no gives number and place"; where there is none, the table is written
 unfoldable pub tabled : ℕ → ℕ → List ℕ → List ℕ → List ℕ → List ℕ → After
 tabled C k t sizes variables marks =
     asked (tableQuestions C k t sizes variables marks) (refused sizes variables marks) (written (sizesIn C k t) (placesIn C k t) sizes variables marks)

@@ -172,6 +172,10 @@ module _ (k c : ℕ) (h : k ≤ maxSteps) (g : c ≤ 11) where
   unfolding tripleCountOf
   triples-le = omega (arith, counts, mul-le-mul {m₂ = 11} (triple-count-le maxSteps k h) g)
 
+-- a duration's n is its rule's number
+pub level-le : {r : Rule} {n : ℕ} → numberOf r ≤ 255 → r ≡ Duration n → n ≤ 255
+level-le h e = omega (arith, h, ap numberOf e)
+
 module _ {w : Weight} {k points : ℕ} {r : Rule} (l : Light w k points r) where
   weight-le : (s : Rule) → r ≡ s → weightBy w k points s ≤ maxWeight
   unfolding weightBy
@@ -181,7 +185,7 @@ module _ {w : Weight} {k points : ℕ} {r : Rule} (l : Light w k points r) where
   weight-le And e = omega (arith, points-le points (2 * w .each + 1) (l .points) (omega (arith, l .small .each)))
   weight-le Or e = omega (arith, points-le points (2 * w .each + 1) (l .points) (omega (arith, l .small .each)))
   weight-le Chop e = triples-le k (w .each) (l .small .steps) (omega (arith, l .small .each))
-  weight-le (Duration n) e = levels-le k (w .step) (l .small .steps) (l .small .step) n (omega (arith, l .number, ap numberOf e))
+  weight-le (Duration n) e = levels-le k (w .step) (l .small .steps) (l .small .step) n (level-le (l .number) e)
   weight-le Throughout e = omega (arith, longer-le k (2 * w .each + 1) (l .small .steps) (omega (arith, l .small .each)))
   weight-le Cut e = omega (arith, triples-le k (2 * w .each + 1) (l .small .steps) (omega (arith, l .small .each)))
 

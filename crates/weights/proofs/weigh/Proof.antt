@@ -1,20 +1,13 @@
 -- Each rule has its own formula, which the code computes as the definition says it;
 -- what each comes to at the most steps is bounded, so that no product or sum wraps.
 use native.Mathlib.Omega.{arith}
-use mathlib.Core.Path.{refl, ap}
-use Prim.Native.Nat.{_≤_}
+use mathlib.Core.Path.{refl}
 use Rattle.weights.specs.Weights.{weightBy}
-use Rattle.blocks.specs.Blocks.{numberOf}
-use Rattle.weights.proofs.Weights.{product-fits, sum-fits, weighed}
+use Rattle.weights.proofs.Weights.{weighed, level-le, product-fits, sum-fits}
 use Rattle.blocks.specs.declared.Rule.the-variants.{Fixed, Letter, Negation, And, Or, Chop, Duration, Throughout, Cut}
 use borrow.Author.Needs.{needs}
 use Rattle.weights.proofs.weigh.Statement.{statement}
 use Rattle.weights.proofs.weigh.Tie as tie
-use Rattle.weights.proofs.weigh.Reads as reads
-use Rattle.weights.proofs.weigh.Lts as lts
-use Rattle.weights.proofs.longer.Reads as longer-reads
-use Rattle.interval.proofs.Interval.count.Reads as Interval-count-reads
-use Rattle.interval.proofs.Triple.count.Reads as Triple-count-reads
 
 mul-both : tie.Need-mul-both
 mul-both c = search needs
@@ -82,14 +75,11 @@ cast-result-3 c = search needs
 longer-requires : tie.Need-longer-requires
 longer-requires c κs = search needs
 
-level-small : (c : lts.After-longer (Interval-count-reads.Asked, Interval-count-reads.Learnt, Triple-count-reads.Asked, Triple-count-reads.Learnt, longer-reads.Asked, longer-reads.Learnt) reads.Pre reads.Post) → c .before .before .before .rule .given .0 .0 ≤ 65535
-level-small c = omega (arith, ap numberOf (c .before .before .before .rule .given .1))
-
 mul-result-6 : tie.Need-mul-result-6
-mul-result-6 c = product-fits _ _ (level-small c) (search needs)
+mul-result-6 c = product-fits _ _ (omega (arith, level-le (search needs) (c .before .before .before .rule .given .1))) (search needs)
 
 add-result-2 : tie.Need-add-result-2
-add-result-2 c = sum-fits _ _ _ (search needs) (level-small c) (search needs)
+add-result-2 c = sum-fits _ _ _ (search needs) (omega (arith, level-le (search needs) (c .before .before .before .rule .given .1))) (search needs)
 
 enum-told-7 : tie.Need-enum-told-7
 enum-told-7 c = search needs
