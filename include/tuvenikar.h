@@ -54,6 +54,10 @@ enum tuv_refusal {
     TUV_INTERVAL = 9,          /* Is i <= j <= k? */
     TUV_RECORDING_LENGTH = 10, /* Has the recording k bytes? */
     TUV_RECORDING = 11,        /* Is each of its bytes below 2 to the power c? Place: the first that isn't. */
+    TUV_FILE_LENGTH = 15,      /* Reader: has the file 20 bytes or more, and exactly 20 + 5l? Writer: are both arrays exactly l
+                                  long? */
+    TUV_FILE_NUMBERS = 16,     /* Is c from 1 to 8 and k at most 32, each variable from 1 to v, each mark at most 3? */
+    TUV_FILE_CLAUSES = 17,     /* Is m the number of closing marks, and the final literal (if l > 0) closing? */
     TUV_ROOM = 18              /* Is every array to be written long enough? */
 };
 
@@ -125,6 +129,34 @@ enum tuv_most {
  */
 uint64_t tuv_table(const uint8_t *text, size_t text_length, uint32_t c, uint32_t k, uint32_t *sizes, size_t sizes_length,
                    uint32_t *variables, size_t variables_length, uint8_t *marks, size_t marks_length);
+
+/* How many bytes the file of a table with l literals has: in 64 bits, since for some l it does not fit 32. */
+#define TUV_FILE_BYTES(l) (20 + 5 * (uint64_t)(l))
+
+/* Which bytes are the file of a table? (Its five sizes, its variables, its marks, one after another: four bytes a number, the low
+ * byte first, and one byte a mark. Two engines write one file.)
+ * Lent:    c, k, v, m and l, the table's sizes; variables and marks, exactly l places each (of longer arrays, lend the first l);
+ *          the file, TUV_FILE_BYTES(l) bytes.
+ * Written: on TUV_WRITTEN TUV_FILE_BYTES(l) bytes of the file. For the table of `#a>=1`, c 1, k 1: 125 bytes, which begin with
+ *          1, 0, 0, 0, 1, 0, 0, 0, 8, 0, 0, 0, 12, 0, 0, 0, 21, 0, 0, 0, 2, 0, 0, 0, 3, 0, 0, 0.
+ * Answers: TUV_WRITTEN, a refusal 15 to 18. What tuv_table wrote is never refused, but for want of room (18). Whether there is a
+ *          formula with this table is not asked; l and m may be 0.
+ * Stack:   less than 64 bytes for any input.
+ */
+uint64_t tuv_write_file(uint32_t c, uint32_t k, uint32_t v, uint32_t m, uint32_t l, const uint32_t *variables,
+                        size_t variables_length, const uint8_t *marks, size_t marks_length, uint8_t *file, size_t file_length);
+
+/* Which table has this file?
+ * Lent:    the file, all of its bytes and no more; sizes, TUV_SIZES places; variables and marks, a place each for every literal:
+ *          of a file with n bytes, 20 or more, (n - 20) / 5 places are enough. The file may begin at any address.
+ * Written: on TUV_WRITTEN the five sizes, and l places of variables and of marks, as tuv_table writes them. tuv_write_file gives
+ *          back the same file for them, byte for byte.
+ * Answers: TUV_WRITTEN, a refusal 15 to 18. Whatever the bytes are, a table that is read has its variables from 1 to v and its
+ *          last clause closed.
+ * Stack:   less than 64 bytes for any input.
+ */
+uint64_t tuv_read_file(const uint8_t *file, size_t file_length, uint32_t *sizes, size_t sizes_length, uint32_t *variables,
+                       size_t variables_length, uint8_t *marks, size_t marks_length);
 
 #ifdef __cplusplus
 }

@@ -6,9 +6,11 @@
 #include <stdlib.h>
 #include <string.h>
 
-_Static_assert(TUV_NO == 64 && TUV_YES == 65 && TUV_WRITTEN == 66 && TUV_NODE_TEXT == 71 && TUV_ROOM == 18 && TUV_SIZES == 5 &&
-                   TUV_PLAIN == 1 && TUV_CLOSING == 2,
+_Static_assert(TUV_NO == 64 && TUV_YES == 65 && TUV_WRITTEN == 66 && TUV_NODE_TEXT == 71 && TUV_FILE_LENGTH == 15 &&
+                   TUV_FILE_NUMBERS == 16 && TUV_FILE_CLAUSES == 17 && TUV_ROOM == 18 && TUV_SIZES == 5 && TUV_PLAIN == 1 &&
+                   TUV_CLOSING == 2,
                "the numbers that firmware in the field is built with");
+_Static_assert(TUV_FILE_BYTES(21) == 125 && TUV_FILE_BYTES(UINT32_MAX) == 21474836495, "the bytes of a file, of the longest too");
 
 static unsigned passed, failed;
 
@@ -102,6 +104,14 @@ struct table {
     uint8_t marks[50];
 };
 
+static const struct table truth = {TUV_SIZES, 2, {1, 0, 1, 2, 2}, {1, 1}, {3, 3}};
+static const struct table duration = {TUV_SIZES,
+                                      21,
+                                      {1, 1, 8, 12, 21},
+                                      {2, 3, 4, 5, 6, 5, 2, 6, 5, 8, 6, 5, 6, 2, 8, 7, 8, 1, 8, 1, 6},
+                                      {3, 3, 3, 2, 0, 1, 3, 0, 1, 3, 1, 2, 1, 0, 2, 2, 0, 3, 1, 2, 3}};
+static const struct table nothing;
+
 static void table(const char *text, uint32_t c, uint32_t k, size_t sizes, size_t variables, size_t marks, uint32_t code,
                   uint32_t value, const struct table *wanted)
 {
@@ -120,7 +130,6 @@ static void table(const char *text, uint32_t c, uint32_t k, size_t sizes, size_t
 static void refused_table(const char *text, uint32_t c, uint32_t k, size_t sizes, size_t variables, size_t marks, uint32_t code,
                           uint32_t value)
 {
-    static const struct table nothing;
     table(text, c, k, sizes, variables, marks, code, value, &nothing);
 }
 
@@ -208,15 +217,8 @@ static void tables_in_turn(void)
 
 static void tables(void)
 {
-    static const struct table t = {TUV_SIZES, 2, {1, 0, 1, 2, 2}, {1, 1}, {3, 3}};
-    static const struct table duration = {TUV_SIZES,
-                                          21,
-                                          {1, 1, 8, 12, 21},
-                                          {2, 3, 4, 5, 6, 5, 2, 6, 5, 8, 6, 5, 6, 2, 8, 7, 8, 1, 8, 1, 6},
-                                          {3, 3, 3, 2, 0, 1, 3, 0, 1, 3, 1, 2, 1, 0, 2, 2, 0, 3, 1, 2, 3}};
-
-    table("T", 1, 0, TUV_SIZES, 2, 2, TUV_WRITTEN, 0, &t);
-    table("T", 1, 0, 9, 50, 3, TUV_WRITTEN, 0, &t);
+    table("T", 1, 0, TUV_SIZES, 2, 2, TUV_WRITTEN, 0, &truth);
+    table("T", 1, 0, 9, 50, 3, TUV_WRITTEN, 0, &truth);
     table("#a>=1", 1, 1, TUV_SIZES, 21, 21, TUV_WRITTEN, 0, &duration);
     table("#a>=1", 1, 1, 9, 22, 50, TUV_WRITTEN, 0, &duration);
     refused_table("#a>=1", 1, 1, TUV_SIZES - 1, 21, 21, TUV_ROOM, 0);
@@ -251,6 +253,142 @@ static void largest_table(void)
     count(answer == TUV_ROOM, "and no smaller");
     free(variables);
     free(marks);
+}
+
+/* Puts down the file of a table whose numbers are all below 256, and gives its length. */
+static size_t small_file(const struct table *table, uint8_t *file)
+{
+    const size_t l = table->literals;
+
+    memset(file, 0, 20 + 4 * l);
+    for (size_t x = 0; x < TUV_SIZES; x++)
+        file[4 * x] = (uint8_t)table->sizes[x];
+    for (size_t x = 0; x < l; x++)
+        file[20 + 4 * x] = (uint8_t)table->variables[x];
+    memcpy(file + 20 + 4 * l, table->marks, l);
+    return 20 + 5 * l;
+}
+
+/* A table's sizes and so many of its variables and marks, to a file that has so many bytes. */
+static void write_file(const char *name, const struct table *table, size_t variables, size_t marks, size_t length, uint32_t code)
+{
+    const uint32_t *sizes = table->sizes;
+    uint8_t bytes[300];
+    size_t wanted = small_file(table, bytes);
+
+    trying("writing", name);
+    uint8_t *lent_variables = lend(table->variables, 4 * variables), *lent_marks = lend(table->marks, marks);
+    uint8_t *file = lend_output(length);
+    uint64_t answer = tuv_write_file(sizes[TUV_C], sizes[TUV_K], sizes[TUV_V], sizes[TUV_M], sizes[TUV_L],
+                                     (const uint32_t *)lent_variables, variables, lent_marks, marks, file, length);
+    int same = unchanged(lent_variables, table->variables, 4 * variables) & unchanged(lent_marks, table->marks, marks) &
+               written(file, bytes, code == TUV_WRITTEN ? wanted : 0, length);
+    check(name, answer, same, code, 0);
+}
+
+/* So many bytes of a table's file, to arrays of these lengths. */
+static void read_file(const char *name, const struct table *table, size_t length, size_t sizes, size_t variables, size_t marks,
+                      uint32_t code)
+{
+    const struct table *wanted = code == TUV_WRITTEN ? table : &nothing;
+    uint8_t bytes[300] = {0};
+    small_file(table, bytes);
+
+    trying("reading", name);
+    uint8_t *file = lend(bytes, length), *lent_marks = lend_output(marks);
+    uint32_t *lent_sizes = lend_output(4 * sizes), *lent_variables = lend_output(4 * variables);
+    uint64_t answer = tuv_read_file(file, length, lent_sizes, sizes, lent_variables, variables, lent_marks, marks);
+    int same = unchanged(file, bytes, length) & written(lent_sizes, wanted->sizes, 4 * wanted->sizes_written, 4 * sizes) &
+               written(lent_variables, wanted->variables, 4 * wanted->literals, 4 * variables) &
+               written(lent_marks, wanted->marks, wanted->literals, marks);
+    check(name, answer, same, code, 0);
+}
+
+/* The same numbers, refused by writer and reader whether there is room or not. */
+static void refused_file(const char *name, const struct table *table, uint32_t code)
+{
+    const size_t l = table->literals;
+
+    write_file(name, table, l, l, 0, code);
+    write_file(name, table, l, l, 300, code);
+    read_file(name, table, 20 + 5 * l, 0, 0, 0, code);
+    read_file(name, table, 20 + 5 * l, TUV_SIZES, l, l, code);
+}
+
+static void files(void)
+{
+    static const struct table empty = {TUV_SIZES, 0, {1, 0, 0, 0, 0}, {0}, {0}};
+
+    write_file("#a>=1", &duration, 21, 21, 125, TUV_WRITTEN);
+    write_file("#a>=1", &duration, 21, 21, 200, TUV_WRITTEN);
+    write_file("#a>=1", &duration, 21, 21, 124, TUV_ROOM);
+    write_file("#a>=1", &duration, 21, 21, 0, TUV_ROOM);
+    write_file("#a>=1", &duration, 20, 21, 125, TUV_FILE_LENGTH);
+    write_file("#a>=1", &duration, 21, 22, 125, TUV_FILE_LENGTH);
+    write_file("#a>=1", &duration, 0, 0, 125, TUV_FILE_LENGTH);
+    read_file("#a>=1", &duration, 125, TUV_SIZES, 21, 21, TUV_WRITTEN);
+    read_file("#a>=1", &duration, 125, 9, 50, 22, TUV_WRITTEN);
+    read_file("#a>=1", &duration, 125, TUV_SIZES - 1, 21, 21, TUV_ROOM);
+    read_file("#a>=1", &duration, 125, TUV_SIZES, 20, 21, TUV_ROOM);
+    read_file("#a>=1", &duration, 125, TUV_SIZES, 21, 20, TUV_ROOM);
+    read_file("#a>=1", &duration, 125, 0, 0, 0, TUV_ROOM);
+    read_file("#a>=1", &duration, 124, TUV_SIZES, 21, 21, TUV_FILE_LENGTH);
+    read_file("#a>=1", &duration, 126, TUV_SIZES, 21, 21, TUV_FILE_LENGTH);
+    read_file("#a>=1", &duration, 19, TUV_SIZES, 21, 21, TUV_FILE_LENGTH);
+    read_file("no file", &duration, 0, 0, 0, 0, TUV_FILE_LENGTH);
+
+    write_file("no literals", &empty, 0, 0, 20, TUV_WRITTEN);
+    write_file("no literals", &empty, 0, 0, 19, TUV_ROOM);
+    read_file("no literals", &empty, 20, TUV_SIZES, 0, 0, TUV_WRITTEN);
+    read_file("no literals", &empty, 20, TUV_SIZES - 1, 0, 0, TUV_ROOM);
+}
+
+static void refused_files(void)
+{
+    static const struct {
+        const char *name;
+        uint32_t code;
+        struct table table;
+    } refused[] = {
+        {"no channels", TUV_FILE_NUMBERS, {TUV_SIZES, 2, {0, 0, 1, 2, 2}, {1, 1}, {3, 3}}},
+        {"9 channels", TUV_FILE_NUMBERS, {TUV_SIZES, 2, {9, 0, 1, 2, 2}, {1, 1}, {3, 3}}},
+        {"33 steps", TUV_FILE_NUMBERS, {TUV_SIZES, 2, {1, 33, 1, 2, 2}, {1, 1}, {3, 3}}},
+        {"variable 0", TUV_FILE_NUMBERS, {TUV_SIZES, 2, {1, 0, 1, 2, 2}, {1, 0}, {3, 3}}},
+        {"variable 2 of 1", TUV_FILE_NUMBERS, {TUV_SIZES, 2, {1, 0, 1, 2, 2}, {2, 1}, {3, 3}}},
+        {"mark 4", TUV_FILE_NUMBERS, {TUV_SIZES, 2, {1, 0, 1, 2, 2}, {1, 1}, {4, 3}}},
+        {"a clause too few", TUV_FILE_CLAUSES, {TUV_SIZES, 2, {1, 0, 1, 1, 2}, {1, 1}, {3, 3}}},
+        {"a clause too many", TUV_FILE_CLAUSES, {TUV_SIZES, 2, {1, 0, 1, 3, 2}, {1, 1}, {3, 3}}},
+        {"a clause without literals", TUV_FILE_CLAUSES, {TUV_SIZES, 0, {1, 0, 1, 1, 0}, {0}, {0}}},
+        {"an open clause", TUV_FILE_CLAUSES, {TUV_SIZES, 2, {1, 0, 1, 1, 2}, {1, 1}, {3, 1}}},
+    };
+
+    for (size_t x = 0; x < sizeof refused / sizeof *refused; x++)
+        refused_file(refused[x].name, &refused[x].table, refused[x].code);
+}
+
+/* An exercise leaves one oscilloscope as a file, and another reads it, in arrays that firmware has once and for all. */
+static void table_to_file_to_table(void)
+{
+    enum { ROOM = 64 };
+    static uint32_t sizes[TUV_SIZES], variables[ROOM], read_sizes[TUV_SIZES], read_variables[ROOM];
+    static uint8_t marks[ROOM], read_marks[ROOM], file[TUV_FILE_BYTES(ROOM)];
+
+    trying("file", "(T;F)");
+    uint64_t answer = tuv_table((const uint8_t *)"(T;F)", 5, 2, 1, sizes, TUV_SIZES, variables, ROOM, marks, ROOM);
+    const uint32_t c = sizes[TUV_C], k = sizes[TUV_K], v = sizes[TUV_V], m = sizes[TUV_M], l = sizes[TUV_L];
+    count(answer == TUV_WRITTEN, "there is a table");
+    if (answer != TUV_WRITTEN)
+        return;
+    answer = tuv_write_file(c, k, v, m, l, variables, l, marks, l, file, sizeof file);
+    count(answer == TUV_WRITTEN, "a table is written to a file");
+    answer = tuv_read_file(file, TUV_FILE_BYTES(l), read_sizes, TUV_SIZES, read_variables, ROOM, read_marks, ROOM);
+    count(answer == TUV_WRITTEN && memcmp(read_sizes, sizes, sizeof sizes) == 0 &&
+              memcmp(read_variables, variables, sizeof variables) == 0 && memcmp(read_marks, marks, sizeof marks) == 0,
+          "and read from it as it was");
+    answer = tuv_read_file(file, sizeof file, read_sizes, TUV_SIZES, read_variables, ROOM, read_marks, ROOM);
+    count(answer == TUV_FILE_LENGTH, "the buffer is longer than the file");
+    answer = tuv_write_file(c, k, v, m, l, variables, ROOM, marks, ROOM, file, sizeof file);
+    count(answer == TUV_FILE_LENGTH, "and the arrays are longer than the table");
 }
 
 /* Document 01's edges, and what they say of evaluation. */
@@ -317,6 +455,9 @@ int main(void)
     tables_in_turn();
     tables();
     largest_table();
+    table_to_file_to_table();
+    files();
+    refused_files();
     edges();
     other_refusals();
     printf("%u passed, %u failed\n", passed, failed);

@@ -1,5 +1,7 @@
-// What the lines of an exercise say, or what is wrong with them: the number of channels, a formula, and channels like `a=0110`.
+// What the lines of an exercise say, or what is wrong with them: the number of channels, a formula, and then either channels like
+// `a=0110`, or `steps=8` and `file=` with the path of a clause file, in any order.
 use grammar::MAX_CHANNELS;
+use reader::Got;
 ghost use mathlib.Core.Path.{_≡_};
 ghost use Prim.Native.Nat.{_-_, _≤_};
 ghost use lib.ListN.{length};
@@ -10,28 +12,52 @@ pub enum Fault {
     Long,
     Few,
     Count,
+    // A number with a zero before it.
+    Zero,
     Form,
     // A channel, and the number of channels that it is not among.
     Outside(usize, u32),
     Twice(usize),
     Level(usize),
     Uneven(usize),
+    // No number after steps=.
+    Steps,
+    StepsTwice,
+    // No path after file=.
+    Path,
+    FileTwice,
+    // What must not stand together, or alone.
+    StepsAndLevels,
+    StepsAlone,
+    FileAndLevels,
+    FileAlone,
 }
 
 pub enum Number {
     Of(u32),
+    // It has a zero before it.
+    Zero,
     Not,
 }
 
-// What the channels so far say: how many steps, and a bit for each channel that is given.
-pub struct Given {
-    pub steps: usize,
-    pub channels: u8,
+// What the lines so far say: a bit for each channel that is given, and how many levels each has; the steps; whether there is a path.
+struct Given {
+    channels: u8,
+    levels: usize,
+    steps: Number,
+    file: bool,
 }
 
-pub enum Taken {
+enum Taken {
     Good(Given),
     Bad(Fault),
+}
+
+// What is to be done: a recording of so many steps judged, or the clause file of so many written.
+pub enum Task {
+    Judge(usize),
+    File(u32),
+    Wrong(Fault),
 }
 
 // The first n, or all where there are no more.
@@ -75,33 +101,22 @@ pub fn after_line(input: &[u8]) -> &[u8]
     &input[next..]
 }
 
-// One digit more. All numbers from a thousand on are alike here.
-fn with_digit(n: u32, b: u8) -> Number {
-    match b {
-        b'0'..=b'9' => {
-            if n < 1000 {
-                Number::Of(n * 10 + (b - b'0') as u32)
-            } else {
-                Number::Of(n)
-            }
-        }
-        _ => Number::Not,
-    }
-}
-
-// A decimal number.
+// A number, written like a formula's n. The engine's own reader reads it, as it does for the file program, so that both take the same:
+// all above n's limit are one above it here, too much for the channels and for the steps alike.
 pub fn decimal(text: &[u8]) -> Number {
-    if text.len() == 0 {
+    let read = reader::numbered_by(text, Got::Good(0));
+    let Got::Good(end) = read else {
         return Number::Not;
-    }
-    let mut n: u32 = 0;
-    for at in 0..text.len() {
-        let Number::Of(more) = with_digit(n, text[at]) else {
-            return Number::Not;
+    };
+    if end < text.len() {
+        // Of digits only a 0 ends before the last.
+        return if grammar::is_digit(text[end]) {
+            Number::Zero
+        } else {
+            Number::Not
         };
-        n = more;
     }
-    Number::Of(n)
+    Number::Of(scan::number_at(text, 0) as u32)
 }
 
 // The channel that a line like `a=0110` names.
@@ -119,12 +134,25 @@ fn named(line: &[u8]) -> Number {
     }
 }
 
-// The levels of such a line.
-fn levels(line: &[u8]) -> &[u8] {
-    if line.len() < 2 {
-        return line;
+// Whether a line begins with a word.
+fn begins(line: &[u8], word: &[u8]) -> bool {
+    if line.len() < word.len() {
+        return false;
     }
-    &line[2..]
+    for at in 0..word.len() {
+        if line[at] != word[at] {
+            return false;
+        }
+    }
+    true
+}
+
+// What follows the first n bytes, or all where there are no more.
+fn after(line: &[u8], n: usize) -> &[u8] {
+    if n <= line.len() {
+        return &line[n..];
+    }
+    line
 }
 
 // The bit of a channel in a recording's bytes.
@@ -163,19 +191,22 @@ fn raise(recording: &mut [u8], levels: &[u8], bit: u8)
 }
 
 // One channel more, of the first C.
-fn with_channel(given: Given, channel: usize, c: u32, steps: usize) -> Taken {
+fn with_channel(given: Given, channel: usize, c: u32, levels: usize) -> Taken {
     if channel >= c as usize {
         return Taken::Bad(Fault::Outside(channel, c));
     }
     if given.channels & bit(channel) != 0 {
         return Taken::Bad(Fault::Twice(channel));
     }
-    if given.channels != 0 && steps != given.steps {
+    if given.channels != 0 && levels != given.levels {
         return Taken::Bad(Fault::Uneven(channel));
     }
+    let steps = given.steps;
     Taken::Good(Given {
-        steps,
         channels: given.channels | bit(channel),
+        levels,
+        steps,
+        file: given.file,
     })
 }
 
@@ -185,7 +216,7 @@ fn take_channel(recording: &mut [u8], line: &[u8], c: u32, given: Given) -> Take
         return Taken::Bad(Fault::Form);
     };
     let channel = n as usize;
-    let levels = levels(line);
+    let levels = after(line, 2);
     if !are_levels(levels) {
         return Taken::Bad(Fault::Level(channel));
     }
@@ -193,16 +224,89 @@ fn take_channel(recording: &mut [u8], line: &[u8], c: u32, given: Given) -> Take
     with_channel(given, channel, c, levels.len())
 }
 
-// Reads all lines so.
-pub fn take_channels(recording: &mut [u8], input: &[u8], c: u32) -> Taken {
+// The number after steps=.
+fn with_steps(given: Given, text: &[u8]) -> Taken {
+    let before = given.steps;
+    if let Number::Of(_) = before {
+        return Taken::Bad(Fault::StepsTwice);
+    }
+    let steps = decimal(text);
+    match steps {
+        Number::Of(_) => Taken::Good(Given {
+            channels: given.channels,
+            levels: given.levels,
+            steps,
+            file: given.file,
+        }),
+        Number::Zero => Taken::Bad(Fault::Zero),
+        Number::Not => Taken::Bad(Fault::Steps),
+    }
+}
+
+// The path after file=.
+fn with_file(given: Given, path: &[u8]) -> Taken {
+    if given.file {
+        return Taken::Bad(Fault::FileTwice);
+    }
+    if path.len() == 0 {
+        return Taken::Bad(Fault::Path);
+    }
+    let steps = given.steps;
+    Taken::Good(Given {
+        channels: given.channels,
+        levels: given.levels,
+        steps,
+        file: true,
+    })
+}
+
+fn take_line(recording: &mut [u8], line: &[u8], c: u32, given: Given) -> Taken {
+    if begins(line, b"steps=") {
+        return with_steps(given, after(line, 6));
+    }
+    if begins(line, b"file=") {
+        return with_file(given, after(line, 5));
+    }
+    take_channel(recording, line, c, given)
+}
+
+// What all lines ask for. A recording has its steps by its levels; a file has its steps and no levels.
+fn task_of(given: Given) -> Task {
+    let steps = given.steps;
+    if given.channels != 0 {
+        if given.file {
+            return Task::Wrong(Fault::FileAndLevels);
+        }
+        if let Number::Of(_) = steps {
+            return Task::Wrong(Fault::StepsAndLevels);
+        }
+        return Task::Judge(given.levels);
+    }
+    if let Number::Of(k) = steps {
+        return if given.file {
+            Task::File(k)
+        } else {
+            Task::Wrong(Fault::StepsAlone)
+        };
+    }
+    if given.file {
+        return Task::Wrong(Fault::FileAlone);
+    }
+    Task::Judge(0)
+}
+
+// Reads all lines so, the levels into the recording.
+fn take_lines(recording: &mut [u8], input: &[u8], c: u32) -> Taken {
     let mut given = Given {
-        steps: 0,
         channels: 0,
+        levels: 0,
+        steps: Number::Not,
+        file: false,
     };
     let mut at = 0;
     while at < input.len() {
         let rest = &input[at..];
-        let taken = take_channel(recording, line(rest), c, given);
+        let taken = take_line(recording, line(rest), c, given);
         let Taken::Good(more) = taken else {
             return taken;
         };
@@ -210,4 +314,13 @@ pub fn take_channels(recording: &mut [u8], input: &[u8], c: u32) -> Taken {
         at = input.len() - after_line(rest).len();
     }
     Taken::Good(given)
+}
+
+// The task that the lines after the formula set, with the recording.
+pub fn take_task(recording: &mut [u8], input: &[u8], c: u32) -> Task {
+    let taken = take_lines(recording, input, c);
+    match taken {
+        Taken::Good(given) => task_of(given),
+        Taken::Bad(fault) => Task::Wrong(fault),
+    }
 }

@@ -46,9 +46,9 @@ use Rattle.clauses.specs.Clauses.{plain, clausesBy, clauseTable}
 use Rattle.clauses.specs.Entries.{Entry, entriesOf, flat, variablesIn, marksIn}
 use Rattle.literals.specs.Written.{Room, Wrote}
 use Rattle.clauses.proofs.Sizes.{length-flat-join, clauses-by, literals-by}
-use Rattle.clause_table.specs.Table.{After, onTree, sizesOf, sizesIn, placesIn, askRoom, over, refused, written, tabled}
+use Rattle.clause_table.specs.Table.{After, onTree, sizesOf, sizesIn, placesIn, askRoom, over, refused, writtenTable, fiveOf, tabled}
 use Rattle.node_clauses.specs.Nodes.{triplesOf, intervalsOf, nodeBy, nodePlaces}
-use Rattle.clause_table.specs.Rows.{blockBy, rowPlaces, tablePlaces, fiveOf, Low, Measured, tabledBy}
+use Rattle.clause_table.specs.Rows.{blockBy, rowPlaces, tablePlaces, Low, Measured, tabledBy}
 use Rattle.clause_table.specs.declared.Sizes.{Sizes}
 use Rattle.clause_table.specs.declared.Written.the-variants.{Done}
 use Rattle.clause_table.proofs.Measure.{stored-over}
@@ -154,12 +154,12 @@ module _ (C k : ℕ) (f : Tree Formula) where
     literals-known : s .literals ≡ length places
     literals-known = known .literals ∙ sym literals-are
 
-    five-known : fiveOf C k s ≡ sizesOf C k f
+    five-known : fiveOf s ≡ sizesOf C k f
     unfolding sizesOf
     five-known =
         let v = known .variables ∙ sym variables-are in
         let m = known .clauses ∙ sym clauses-are in
-        λ i. C ∷ k ∷ v i ∷ m i ∷ literals-known i ∷ []
+        λ i. known .channels i ∷ known .steps i ∷ v i ∷ m i ∷ literals-known i ∷ []
 
     places-known : tablePlaces C k (T .kinds) (T .numbers) (T .sizes) F (T .count) ≡ places
     unfolding tableOf
@@ -175,9 +175,9 @@ module _ (C k : ℕ) (f : Tree Formula) where
       pub refused-known : (r : Refusal) → question (s .literals) ≡ No r → refused five variables marks r ≡ tabledBy C k f five variables marks
       unfolding tabledBy
       refused-known r q =
-          ap (λ (a : Reply). asked (a ∷ []) (refused five variables marks) (written (sizesOf C k f) places five variables marks)) (sym (ap question (sym literals-known) ∙ q))
+          ap (λ (a : Reply). asked (a ∷ []) (refused five variables marks) (writtenTable (sizesOf C k f) places five variables marks)) (sym (ap question (sym literals-known) ∙ q))
 
-      pub written-known : question (s .literals) ≡ Yes → {five′ variables′ marks′ : List ℕ} {at : ℕ} → five′ ≡ over (fiveOf C k s) five
+      pub written-known : question (s .literals) ≡ Yes → {five′ variables′ marks′ : List ℕ} {at : ℕ} → five′ ≡ over (fiveOf s) five
           → Wrote variables marks 0 (tablePlaces C k (T .kinds) (T .numbers) (T .sizes) F (T .count)) variables′ marks′ at
           → record { answer = Done; sizes = five′; variables = variables′; marks = marks′ } ≡ tabledBy C k f five variables marks
       unfolding tabledBy
@@ -191,7 +191,7 @@ module _ (C k : ℕ) (f : Tree Formula) where
           stored-over (marksIn places) marks (t .marks ∙ ap (λ (F : List Entry). sets marks 0 (marksIn F)) p) (omega (arith, g .2, literals-known, length-map places (λ (e : Entry). e .mark))) in
           let d : question (length places) ≡ Yes = ap question (sym literals-known) ∙ q in
           (λ i. record { answer = Done; sizes = a i; variables = b i; marks = c i })
-          ∙ ap (λ (a : Reply). asked (a ∷ []) (refused five variables marks) (written (sizesOf C k f) places five variables marks)) (sym d)
+          ∙ ap (λ (a : Reply). asked (a ∷ []) (refused five variables marks) (writtenTable (sizesOf C k f) places five variables marks)) (sym d)
 
 -- ---- the whole call
 
@@ -199,7 +199,7 @@ module _ (C k : ℕ) (t five variables marks : List ℕ) where
   tabled-is : tabled C k t five variables marks
       ≡ asked (formulaQuestions C k t) (refused five variables marks)
       (asked (askRoom (length (placesIn C k t)) (length five) (length variables) (length marks) ∷ []) (refused five variables marks)
-      (written (sizesIn C k t) (placesIn C k t) five variables marks))
+      (writtenTable (sizesIn C k t) (placesIn C k t) five variables marks))
   unfolding tabled
   tabled-is = asked-append (refused five variables marks) _ (formulaQuestions C k t) (askRoom (length (placesIn C k t)) (length five) (length variables) (length marks) ∷ [])
 
@@ -212,7 +212,7 @@ module _ (C k : ℕ) (t five variables marks : List ℕ) where
   of-tree f e r =
       sym (tabled-is ∙ replied-yes (refused five variables marks) _ (formulaQuestions C k t) e
       ∙ ap (λ (x : Read Formula). asked (askRoom (length (onTree (λ f. flat (clauseTable C k f)) x)) (length five) (length variables) (length marks) ∷ []) (refused five variables marks)
-      (written (onTree (sizesOf C k) x) (onTree (λ f. flat (clauseTable C k f)) x) five variables marks)) r)
+      (writtenTable (onTree (sizesOf C k) x) (onTree (λ f. flat (clauseTable C k f)) x) five variables marks)) r)
 
 -- what the node table of an accepted text gives
 module _ (C k : ℕ) (t : List ℕ) (T : Tabled) (e : T ≡ nodeTabled C k t) (y : T .reply ≡ Yes) where

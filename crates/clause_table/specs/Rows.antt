@@ -17,7 +17,7 @@ use Rattle.clauses.specs.Clauses.{clauseTable}
 use Rattle.clauses.specs.Entries.{Entry, flat}
 use Rattle.literals.specs.Written.{runOf}
 use Rattle.node_clauses.specs.Nodes.{nodePlaces}
-use Rattle.clause_table.specs.Table.{After, sizesOf, askRoom, refused, written}
+use Rattle.clause_table.specs.Table.{After, sizesOf, askRoom, refused, writtenTable}
 use Rattle.clause_table.specs.declared.Sizes.{Sizes}
 
 -- where in its block a node's truth begins: a duration, 23, has its levels below it
@@ -53,12 +53,10 @@ tablePlaces C k kinds numbers sizes firsts n = rows n (rowPlaces C k kinds numbe
 abbrev pub Low : List ℕ → Type 0
 Low firsts = (y : ℕ) → getD firsts y 0 ≤ maxSum
 
--- the sizes, as the code hands them on
-abbrev pub fiveOf : ℕ → ℕ → Sizes → List ℕ
-fiveOf C k s = C ∷ k ∷ s .variables ∷ s .clauses ∷ s .literals ∷ []
-
 -- what a node table measures, and the first variable of each node
 pub record Measured (C k : ℕ) (kinds numbers : List ℕ) (n : ℕ) (firsts : List ℕ) (s : Sizes) : Type 0 where
+  pub channels : s .channels ≡ C
+  pub steps : s .steps ≡ k
   pub variables : s .variables ≡ k * C + weightTo variableWeight k kinds numbers n
   pub clauses : s .clauses ≡ 1 + weightTo clauseWeight k kinds numbers n
   pub literals : s .literals ≡ 1 + weightTo literalWeight k kinds numbers n
@@ -69,4 +67,4 @@ pub record Measured (C k : ℕ) (kinds numbers : List ℕ) (n : ℕ) (firsts : L
 unfoldable pub tabledBy : ℕ → ℕ → Tree Formula → List ℕ → List ℕ → List ℕ → After
 tabledBy C k f sizes variables marks =
     asked (askRoom (length (flat (clauseTable C k f))) (length sizes) (length variables) (length marks) ∷ []) (refused sizes variables marks)
-    (written (sizesOf C k f) (flat (clauseTable C k f)) sizes variables marks)
+    (writtenTable (sizesOf C k f) (flat (clauseTable C k f)) sizes variables marks)

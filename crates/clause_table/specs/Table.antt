@@ -15,12 +15,17 @@ use Rattle.formula.specs.Questions.{formulaQuestions}
 use Rattle.circuit.specs.Circuit.{variablesOf}
 use Rattle.clauses.specs.Clauses.{clauseTable}
 use Rattle.clauses.specs.Entries.{Entry, flat, variablesIn, marksIn}
+use Rattle.clause_table.specs.declared.Sizes.{Sizes}
 use Rattle.clause_table.specs.declared.Written.{Written}
 use Rattle.clause_table.specs.declared.Written.the-variants.{Done, Refused}
 
 -- "five 32-bit unsigned numbers [..]: C, k, variables V, clauses M, literals L"
 unfoldable pub sizesOf : ℕ → ℕ → Tree Formula → List ℕ
 sizesOf C k f = C ∷ k ∷ variablesOf C k (nodesOf f 0) ∷ length (clauseTable C k f) ∷ length (flat (clauseTable C k f)) ∷ []
+
+-- the same, as the code hands them on
+abbrev pub fiveOf : Sizes → List ℕ
+fiveOf s = s .channels ∷ s .steps ∷ s .variables ∷ s .clauses ∷ s .literals ∷ []
 
 -- of the tree that a text reads as; a text that does not read is refused before
 abbrev pub onTree : {A : Type 0} → (Tree Formula → List A) → Read Formula → List A
@@ -57,11 +62,15 @@ pub record After : Type 0 where
 abbrev pub refused : List ℕ → List ℕ → List ℕ → Refusal → After
 refused sizes variables marks r = record { answer = Refused r; sizes = sizes; variables = variables; marks = marks }
 
+-- the sizes and the two arrays written
+abbrev pub written : List ℕ → List ℕ → List ℕ → List ℕ → List ℕ → List ℕ → After
+written five v m sizes variables marks = record { answer = Done; sizes = over five sizes; variables = over v variables; marks = over m marks }
+
 -- "A table in memory is the same two arrays."
-abbrev pub written : List ℕ → List Entry → List ℕ → List ℕ → List ℕ → After
-written five F sizes variables marks = record { answer = Done; sizes = over five sizes; variables = over (variablesIn F) variables; marks = over (marksIn F) marks }
+abbrev pub writtenTable : List ℕ → List Entry → List ℕ → List ℕ → List ℕ → After
+writtenTable five F sizes variables marks = written five (variablesIn F) (marksIn F) sizes variables marks
 
 -- the call: "the first no gives number and place"; where there is none, the table is written
 unfoldable pub tabled : ℕ → ℕ → List ℕ → List ℕ → List ℕ → List ℕ → After
 tabled C k t sizes variables marks =
-    asked (tableQuestions C k t sizes variables marks) (refused sizes variables marks) (written (sizesIn C k t) (placesIn C k t) sizes variables marks)
+    asked (tableQuestions C k t sizes variables marks) (refused sizes variables marks) (writtenTable (sizesIn C k t) (placesIn C k t) sizes variables marks)

@@ -18,9 +18,9 @@ ghost use Rattle.formula.specs.Nodes.{nodesOf};
 ghost use Rattle.rows.specs.Table.{rowOf, tableOf};
 ghost use Rattle.blocks.specs.Blocks.{bound};
 ghost use Rattle.literals.specs.Written.{Room, Wrote};
-ghost use Rattle.clause_table.specs.Table.{askRoom, over, tabled};
+ghost use Rattle.clause_table.specs.Table.{askRoom, fiveOf, over, tabled};
 ghost use Rattle.node_clauses.specs.Nodes.{Fine};
-ghost use Rattle.clause_table.specs.Rows.{Low, seatBy, blockBy, rowPlaces, tablePlaces, Measured, fiveOf, tabledBy};
+ghost use Rattle.clause_table.specs.Rows.{Low, seatBy, blockBy, rowPlaces, tablePlaces, Measured, tabledBy};
 
 // What the call answers.
 pub enum Written {
@@ -28,8 +28,10 @@ pub enum Written {
     Refused(Refusal),
 }
 
-// V, M and L.
+// C, k, V, M and L.
 pub struct Sizes {
+    pub channels: u32,
+    pub steps: u32,
     pub variables: u32,
     pub clauses: u32,
     pub literals: u32,
@@ -156,6 +158,8 @@ fn sizes_of<'a>(
         firsts,
     );
     Sizes {
+        channels: c,
+        steps: k,
         variables: end - 1,
         clauses,
         literals,
@@ -163,7 +167,7 @@ fn sizes_of<'a>(
 }
 
 // Question 18, by the arrays' lengths.
-fn ask_room(literals: u32, sizes: usize, variables: usize, marks: usize) -> Reply
+pub fn ask_room(literals: u32, sizes: usize, variables: usize, marks: usize) -> Reply
     ensures { λ r. ⌜ r ≡ askRoom literals sizes variables marks ⌝ }
 {
     let l = literals as usize;
@@ -181,11 +185,15 @@ fn ask_room(literals: u32, sizes: usize, variables: usize, marks: usize) -> Repl
 }
 
 // The five sizes.
-fn put_sizes(sizes: &mut [u32], c: u32, k: u32, s: Sizes)
+pub fn put_sizes(sizes: &mut [u32], s: Sizes)
     requires { ⌜ 5 ≤ length (now sizes) ⌝ }
-    ensures { λ _. ⌜ now (sizes .exit) ≡ over (fiveOf c k s) (now (sizes .entry)) ⌝ }
+    ensures { λ _. ⌜ now (sizes .exit) ≡ over (fiveOf s) (now (sizes .entry)) ⌝ }
 {
-    literals::put_numbers(sizes, 0, &[c, k, s.variables, s.clauses, s.literals]);
+    literals::put_numbers(
+        sizes,
+        0,
+        &[s.channels, s.steps, s.variables, s.clauses, s.literals],
+    );
 }
 
 // The table of an accepted formula, from its node table: question 18, and then every place.
@@ -205,7 +213,7 @@ fn write_table(
     if let Reply::No(r) = ask_room(s.literals, sizes.len(), variables.len(), marks.len()) {
         return Written::Refused(r);
     }
-    put_sizes(sizes, c, k, s);
+    put_sizes(sizes, s);
     put_table(
         variables,
         marks,

@@ -1,6 +1,10 @@
 // Tries document 01's edges that are not starred, and its wrong turns, and writes a line each: what was asked, the answer to
-// questions 1 to 7 with the node count, and node x: the refusal's number and place, or its own text.
+// questions 1 to 7 with the node count, and node x: the refusal's number and place, or its own text. Then lines of the file program:
+// how many bytes it writes, and whether the rest of its array is as it was.
+use file_line::FILE_BYTES;
 use refusal::Reply;
+ghost use Prim.Native.Nat.{_≤_};
+ghost use lib.ListN.{length};
 
 fn put(bytes: &[u8]) {
     io::write_all(1, bytes);
@@ -122,6 +126,110 @@ fn node_numbers(text: &[u8]) {
     own(text, 2, 32, 4294967295);
 }
 
+// Whether every byte from a place on is 7.
+fn sevens_from(bytes: &[u8; FILE_BYTES], at: usize) -> bool {
+    let mut i = at;
+    while i < FILE_BYTES {
+        if bytes[i] != 7 {
+            return false;
+        }
+        i += 1;
+    }
+    true
+}
+
+// One line of the file program.
+fn file(label: &[u8], input: &[u8]) {
+    let mut file = [7u8; FILE_BYTES];
+    let n = file_line::file_of_input(input, &mut file);
+    put(label);
+    put(b" | ");
+    io::print_decimal(1, n as u64);
+    if sevens_from(&file, n) {
+        put(b" bytes | the rest as it was\n");
+    } else {
+        put(b" bytes | the rest changed\n");
+    }
+}
+
+// Where the part of a list that begins at a place ends: before a bar, or with the list.
+fn end_of(list: &[u8], from: usize) -> usize
+    requires { ⌜ from ≤ length (now list) ⌝ }
+    ensures { λ r. ⌜ (from ≤ r) × (r ≤ length (now (list .entry))) ⌝ }
+{
+    let mut i = from;
+    while i < list.len() {
+        if list[i] == b'|' {
+            return i;
+        }
+        i += 1;
+    }
+    i
+}
+
+// Labels and inputs in turn, each with a bar after it.
+fn files(list: &[u8]) {
+    let mut at = 0;
+    while at < list.len() {
+        let bar = end_of(list, at);
+        if bar == list.len() {
+            return;
+        }
+        let first = bar + 1;
+        let end = end_of(list, first);
+        file(&list[at..bar], &list[first..end]);
+        if end == list.len() {
+            return;
+        }
+        at = end + 1;
+    }
+}
+
+fn good_lines() {
+    files(
+        b"the example|1 1 #a>=1\n|\
+C 1, k 0|1 0 T\n|\
+C 8, k 32|8 32 T\n|\
+8,192 literals|1 27 !!#!!!T>=1\n|\
+8,193 literals|1 7 !#!!!a>=25\n|",
+    );
+}
+
+fn bad_lines() {
+    files(
+        b"empty input||\
+a line feed alone|\n|\
+no line feed|1 1 #a>=1|\
+two line feeds|1 1 #a>=1\n\n|\
+a second line|1 1 #a>=1\n1 1 #a>=1\n|\
+a carriage return|1 1 #a>=1\r\n|\
+a blank first| 1 1 #a>=1\n|\
+two blanks after C|1  1 #a>=1\n|\
+two blanks after k|1 1  #a>=1\n|\
+a blank last|1 1 #a>=1 \n|\
+TAB after C|1\t1 #a>=1\n|\
+TAB after k|1 1\t#a>=1\n|\
+no text|1 1 \n|\
+no text and no blank|1 1\n|\
+no k|1 #a>=1\n|\
+#a>=01|1 1 #a>=01\n|\
+#b>=1|1 1 #b>=1\n|\
+#a>=33|1 1 #a>=33\n|",
+    );
+}
+
+fn bad_numbers() {
+    files(
+        b"C 01|01 1 #a>=1\n|\
+k 01|1 01 #a>=1\n|\
+C 4294967297|4294967297 1 #a>=1\n|\
+k 4294967297|1 4294967297 #a>=1\n|\
+C 0|0 1 #a>=1\n|\
+C 9|9 1 #a>=1\n|\
+k 33|1 33 #a>=1\n|",
+    );
+}
+
 fn main() {
     unstarred();
     long_texts();
@@ -129,4 +237,7 @@ fn main() {
     many_digits();
     wrong_turns();
     node_numbers(b"((T;F)|#a>=12)");
+    good_lines();
+    bad_lines();
+    bad_numbers();
 }

@@ -1,12 +1,14 @@
 // One exercise. It reads, one to a line, the number of channels, a formula, and a channel's levels as `a=0110`; it draws the
-// recording and writes whether it satisfies the formula, or why there is no answer.
+// recording and writes whether it satisfies the formula. Given `steps=8` and `file=` instead, it writes the sizes of the formula's
+// clause table, and a small table's clauses. Or it writes why there is no answer.
+mod clauses;
 mod drawing;
 mod print;
 mod words;
 
 use arguments::Fault;
 use arguments::Number;
-use arguments::Taken;
+use arguments::Task;
 use evaluator::Verdict;
 use grammar::MAX_CHANNELS;
 use interval::Interval;
@@ -22,7 +24,7 @@ fn main() {
     exercise(&input[..n]);
 }
 
-// The lines in order: the number of channels, the formula, the channels.
+// The lines in order: the number of channels, the formula, the others.
 fn exercise(input: &[u8]) {
     if input.len() == INPUT {
         return words::put_fault(Fault::Long);
@@ -34,23 +36,27 @@ fn exercise(input: &[u8]) {
     let count = arguments::decimal(arguments::line(input));
     match count {
         Number::Of(c) => answer(arguments::line(rest), c, arguments::after_line(rest)),
+        Number::Zero => words::put_fault(Fault::Zero),
         Number::Not => words::put_fault(Fault::Count),
     }
 }
 
-// Question 1 first, as the channels are read by C; then the channels; then the evaluator asks all its questions in order.
-fn answer(text: &[u8], c: u32, channels: &[u8]) {
+// Question 1 first, as the channels are read by C; then the other lines; then the evaluator or the table asks its questions in order.
+fn answer(text: &[u8], c: u32, lines: &[u8]) {
     if let Reply::No(r) = refusal::ask_within(1, c as usize, 1, MAX_CHANNELS) {
         return words::put_refusal(text, c, r);
     }
     let mut recording = [0u8; Interval::MAX_STEPS];
-    let taken = arguments::take_channels(&mut recording, channels, c);
-    match taken {
-        Taken::Good(given) => {
-            let steps = given.steps;
-            put_verdict(text, c, narrow(steps), arguments::first(&recording, steps))
-        }
-        Taken::Bad(fault) => words::put_fault(fault),
+    let task = arguments::take_task(&mut recording, lines, c);
+    match task {
+        Task::Judge(steps) => put_verdict(
+            text,
+            c,
+            narrow(steps),
+            arguments::first(&recording, steps),
+        ),
+        Task::File(k) => clauses::put_table(text, c, k),
+        Task::Wrong(fault) => words::put_fault(fault),
     }
 }
 

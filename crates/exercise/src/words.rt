@@ -5,6 +5,7 @@ use crate::print::put;
 use crate::print::put_byte;
 use crate::print::put_number;
 use arguments::Fault;
+use file_line::MAX_LITERALS;
 use grammar::MAX_CHANNELS;
 use grammar::MAX_LENGTH;
 use grammar::MAX_NODES;
@@ -36,6 +37,7 @@ fn put_wrong(fault: Fault) {
             b"the number of channels and the formula are needed, the formula in single quotes",
         ),
         Fault::Count => put(b"the number of channels comes first"),
+        Fault::Zero => put(b"a number is written without a zero before it: 8, not 08"),
         Fault::Form => put(b"a channel is given by its letter, = and its levels, as in a=0110"),
         Fault::Outside(channel, c) => put_outside(drawing::letter(channel), c),
         Fault::Twice(channel) => put_channel(channel, b" is given twice"),
@@ -44,6 +46,27 @@ fn put_wrong(fault: Fault) {
             channel,
             b" has more or fewer levels than the channels before it",
         ),
+        _ => put_wrong_file(fault),
+    }
+}
+
+// The same of the arguments for a clause file.
+fn put_wrong_file(fault: Fault) {
+    match fault {
+        Fault::Steps => put(b"steps= is followed by the number of steps, as in steps=8"),
+        Fault::StepsTwice => put(b"steps= is given twice"),
+        Fault::Path => put(b"file= is followed by a path, as in file=once.clauses"),
+        Fault::FileTwice => put(b"file= is given twice"),
+        Fault::StepsAndLevels => put(
+            b"the levels say how many steps there are, so steps= is left out",
+        ),
+        Fault::StepsAlone => put(
+            b"steps= is for a clause file, which needs file= too, as in file=once.clauses",
+        ),
+        Fault::FileAndLevels => put(
+            b"a clause file is of the formula alone, so the levels are left out",
+        ),
+        _ => put(b"a clause file is for a number of steps, which steps= gives, as in steps=8"),
     }
 }
 
@@ -51,7 +74,9 @@ fn put_usage() {
     put_limit(
         b"\n\n\
 usage:    ./exercise CHANNELS FORMULA [LETTER=LEVELS]..\n\
-example:  ./exercise 2 '(#a>=2;[b])' a=0110 b=0011\n\n\
+\x20         ./exercise CHANNELS FORMULA steps=STEPS file=PATH\n\
+example:  ./exercise 2 '(#a>=2;[b])' a=0110 b=0011\n\
+\x20         ./exercise 1 '#a>=1' steps=1 file=once.clauses\n\n\
 CHANNELS  how many channels there are, from 1 to ",
         MAX_CHANNELS,
     );
@@ -67,7 +92,13 @@ FORMULA   without blanks, in single quotes:\n\
 LEVELS    0 for low and 1 for high, one for each instant, at most ",
         Interval::MAX_STEPS,
     );
-    put(b";\n          a channel that is not given is low throughout\n");
+    put_limit(
+        b";\n\
+\x20         a channel that is not given is low throughout\n\
+STEPS     how many instants there are, at most ",
+        Interval::MAX_STEPS,
+    );
+    put(b"\nPATH      where to write the formula's clause file for so many instants\n");
 }
 
 // What is wrong with the arguments, and how to write them.
@@ -113,6 +144,10 @@ fn put_why(text: &[u8], c: u32, number: u32, place: usize) {
         5 => put_outside(rows::byte_at(text, place), c),
         6 => put_limit(b"the number after >= is at most ", MAX_NUMBER),
         7 => put_limit(b"one part too many begins here: the most is ", MAX_NODES),
+        18 => put_limit(
+            b"the clause table has too many literals for a file: the most is ",
+            MAX_LITERALS,
+        ),
         _ => put(b"the recording does not fit the number of channels and of steps"),
     }
 }

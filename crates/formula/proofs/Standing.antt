@@ -57,7 +57,7 @@ digits-read = by-digits (λ n. (q : List ℕ) → numberFrom 0 (decimal n ++ q) 
     (λ m d p h ih q. let e : 48 + d - 48 ≡ d = omega arith in
     rw (decimal-more m d p h, append-assoc (decimal m) ((48 + d) ∷ []) q) (ih ((48 + d) ∷ q) ∙ rw (digit-is d h, e) (ap (λ (v : ℕ). numberFrom v q) (limited-more m d h))))
 
-read-number : (n : ℕ) (q : List ℕ) → Clear q → numberFrom 0 (decimal n ++ q) ≡ limited n
+pub read-number : (n : ℕ) (q : List ℕ) → Clear q → numberFrom 0 (decimal n ++ q) ≡ limited n
 unfolding numberFrom
 read-number n [] c = digits-read n []
 read-number n (b ∷ q) c = digits-read n (b ∷ q) ∙ rw c

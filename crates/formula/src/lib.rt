@@ -27,7 +27,7 @@ fn no(number: u32, place: usize) -> Reply
 }
 
 // Question 1.
-fn ask_channels(c: u32) -> Reply
+pub fn ask_channels(c: u32) -> Reply
     ensures { λ r. ⌜ r ≡ askChannels c ⌝ }
 {
     refusal::ask_within(1, c as usize, 1, MAX_CHANNELS)

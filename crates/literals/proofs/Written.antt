@@ -1,48 +1,76 @@
 -- To write F and then G from where F ends is to write F ++ G, since storing a list from a place on goes place by place. So a loop
 -- that writes f 0, f 1, .. has written the first i of them after i turns.
 use mathlib.Core.Path.{_≡_, refl, sym, ap, _∙_, subst}
-use mathlib.Core.List.{List, [], _∷_, _++_, map, map-append}
-use Prim.Native.Nat.{ℕ, zero, suc, _+_, _≤_, _<_}
-use native.Mathlib.Nat.{not-suc-le-zero}
+use mathlib.Core.List.{List, [], _∷_, _++_, map, map-append, append-nil, flatMap}
+use Prim.Native.Nat.{ℕ, zero, suc, _+_, _*_, _≤_, _<_}
+use native.Mathlib.Nat.{not-suc-le-zero, zero-mul, suc-mul}
 use native.Mathlib.Numerals.{add-one}
 use native.Mathlib.Omega.{arith}
-use lib.ListN.{length, getD, take, set, length-append, length-map, length-set}
+use lib.ListN.{length, getD, take, set, length-append, length-map}
 use lib.Seq.{sets, length-sets, take-suc, take-all, length-take-le}
 use Rattle.interval.specs.Listing.{rows}
 use Rattle.interval.proofs.Listing.{below-suc}
+use Rattle.formula.proofs.Lists.{flat-append}
 use Rattle.clauses.specs.Entries.{Entry, entry, variablesIn, marksIn}
 use Rattle.literals.specs.Written.{Room, Wrote, Sofar}
 
-sets-append : (s : List ℕ) (i : ℕ) (A B : List ℕ) → sets s i (A ++ B) ≡ sets (sets s i A) (i + length A) B
+pub sets-append : (s : List ℕ) (i : ℕ) (A B : List ℕ) → sets s i (A ++ B) ≡ sets (sets s i A) (i + length A) B
 sets-append s i [] B = let e : i ≡ i + 0 = omega arith in ap (λ (j : ℕ). sets s j B) e
 sets-append s i (a ∷ A) B =
     let e : suc i + length A ≡ i + suc (length A) = omega arith in
     sets-append _ (suc i) A B ∙ ap (λ (j : ℕ). sets (sets s i (a ∷ A)) j B) e
 
--- ---- a copy: the first e are stored, then one more
+-- ---- lists that all have w entries, joined
 
-pub record Copied (s : List ℕ) (i : ℕ) (l : List ℕ) (n : ℕ) (s′ : List ℕ) (e : ℕ) : Type 0 where
+pub flat-length : (g : ℕ → List ℕ) (w : ℕ) → ((x : ℕ) → length (g x) ≡ w) → (l : List ℕ) → length (flatMap g l) ≡ length l * w
+unfolding flatMap
+flat-length g w even [] = sym (zero-mul w)
+flat-length g w even (x ∷ l) = length-append (g x) (flatMap g l) ∙ omega (arith, even x, flat-length g w even l, suc-mul (length l) w)
+
+-- ---- a copy, each entry as so many of its own: those of the first e are stored, then those of one more
+
+pub record Copied (g : ℕ → List ℕ) (s : List ℕ) (i : ℕ) (l : List ℕ) (n : ℕ) (s′ : List ℕ) (e : ℕ) : Type 0 where
   pub whole : n ≡ length l
   pub upto : e ≤ length l
   pub long : length s′ ≡ length s
-  pub stored : s′ ≡ sets s i (take e l)
+  pub stored : s′ ≡ sets s i (flatMap g (take e l))
 
-pub copy-begun : {s : List ℕ} {i : ℕ} {l : List ℕ} → Copied s i l (length l) s 0
-copy-begun = record { whole = refl; upto = omega arith; long = refl; stored = refl }
+-- an entry as it is
+abbrev pub same : ℕ → List ℕ
+same x = x ∷ []
 
-module _ {s : List ℕ} {i : ℕ} {l : List ℕ} {n : ℕ} {s′ : List ℕ} {e : ℕ} (c : Copied s i l n s′ e) where
-  pub copy-turn : e < length l → Copied s i l n (set s′ (i + e) (getD l e 0)) (e + 1)
-  copy-turn h =
-      let m : length (take e l) ≡ e = length-take-le e l (omega arith) in
-      record {
-        whole = c .whole;
-        upto = omega arith;
-        long = length-set s′ (i + e) (getD l e 0) ∙ c .long;
-        stored = rw (add-one e, take-suc l e 0 h, sets-append s i (take e l) (getD l e 0 ∷ []), m, c .stored) refl;
-      }
+module _ {g : ℕ → List ℕ} {s : List ℕ} {i : ℕ} {l : List ℕ} where
+  pub copy-begun : {n : ℕ} → n ≡ length l → Copied g s i l n s 0
+  unfolding flatMap
+  copy-begun h = record { whole = h; upto = omega arith; long = refl; stored = refl }
 
-  pub copy-done : n ≤ e → s′ ≡ sets s i l
-  copy-done h = c .stored ∙ ap (sets s i) (take-all e l (omega (arith, c .whole)))
+  module _ {n : ℕ} {s′ : List ℕ} {e : ℕ} (c : Copied g s i l n s′ e) where
+    pub copy-turn : (w : ℕ) → ((x : ℕ) → length (g x) ≡ w) → e < length l → {b : ℕ} → b ≡ i + e * w → {s″ : List ℕ} → s″ ≡ sets s′ b (g (getD l e 0)) → Copied g s i l n s″ (e + 1)
+    unfolding flatMap
+    copy-turn w even h {b} p {s″} d =
+        let m : length (flatMap g (take e l)) ≡ e * w = flat-length g w even (take e l) ∙ ap (λ (n : ℕ). n * w) (length-take-le e l (omega arith)) in
+        record {
+          whole = c .whole;
+          upto = omega arith;
+          long = ap length d ∙ length-sets s′ b (g (getD l e 0)) ∙ c .long;
+          stored = d ∙ rw (p, add-one e, take-suc l e 0 h, flat-append g (take e l) (getD l e 0 ∷ []), append-nil (g (getD l e 0)), sets-append s i (flatMap g (take e l)) (g (getD l e 0)), m, c .stored) refl;
+        }
+
+    pub copy-done : n ≤ e → s′ ≡ sets s i (flatMap g l)
+    copy-done h = c .stored ∙ ap (λ (k : List ℕ). sets s i (flatMap g k)) (take-all e l (omega (arith, c .whole)))
+
+-- a copy of the entries as they are
+module _ {s : List ℕ} {i : ℕ} {l : List ℕ} {n : ℕ} {s′ : List ℕ} {e : ℕ} (c : Copied same s i l n s′ e) where
+  pub same-turn : e < length l → {b x : ℕ} → b ≡ i + e → x ≡ getD l e 0 → Copied same s i l n (set s′ b x) (e + 1)
+  same-turn h {b} p q = copy-turn c 1 (λ x. refl) h (omega (arith, p)) (ap (set s′ b) q)
+
+  pub same-done : n ≤ e → s′ ≡ sets s i l
+  unfolding flatMap
+  same-done h = copy-done c h ∙ ap (sets s i) (joined l)
+    where
+      joined : (l : List ℕ) → flatMap same l ≡ l
+      joined [] = refl
+      joined (x ∷ l) = ap (λ (k : List ℕ). x ∷ k) (joined l)
 
 -- numbers and marks that are F's
 pub both-stored : {v m v′ m′ : List ℕ} {at : ℕ} {n l : List ℕ} → v′ ≡ sets v at n → m′ ≡ sets m at l → (F : List Entry) → variablesIn F ≡ n → marksIn F ≡ l

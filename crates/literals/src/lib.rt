@@ -21,13 +21,13 @@ pub fn put_numbers(variables: &mut [u32], at: usize, new: &[u32])
     }
 }
 
-// Stores marks from a place on.
-fn put_marks(marks: &mut [u8], at: usize, new: &[u8])
-    requires { ⌜ at + length (now new) ≤ length (now marks) ⌝ }
-    ensures { λ _. ⌜ now (marks .exit) ≡ sets (now (marks .entry)) at (now (new .entry)) ⌝ }
+// Stores bytes from a place on.
+pub fn put_bytes(bytes: &mut [u8], at: usize, new: &[u8])
+    requires { ⌜ at + length (now new) ≤ length (now bytes) ⌝ }
+    ensures { λ _. ⌜ now (bytes .exit) ≡ sets (now (bytes .entry)) at (now (new .entry)) ⌝ }
 {
     for e in 0..new.len() {
-        marks[at + e] = new[e];
+        bytes[at + e] = new[e];
     }
 }
 
@@ -37,7 +37,7 @@ pub fn put(variables: &mut [u32], marks: &mut [u8], at: usize, n: &[u32], m: &[u
     ensures { λ r. ⌜ ((F : List Entry) → variablesIn F ≡ now (n .entry) → marksIn F ≡ now (m .entry) → Wrote (now (variables .entry)) (now (marks .entry)) at F (now (variables .exit)) (now (marks .exit)) r) ⌝ }
 {
     put_numbers(variables, at, n);
-    put_marks(marks, at, m);
+    put_bytes(marks, at, m);
     at + n.len()
 }
 

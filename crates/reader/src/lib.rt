@@ -20,7 +20,7 @@ pub enum Checked {
 }
 
 // A good read with the byte v after it.
-fn signed_by(text: &[u8], v: u8, g: Got) -> Got
+pub fn signed_by(text: &[u8], v: u8, g: Got) -> Got
     ensures { λ r. ⌜ r ≡ onGood (now (text .entry)) (testAt (isSign v)) g ⌝ }
 {
     let Got::Good(n) = g else {
@@ -65,7 +65,7 @@ fn digits_end(text: &[u8], at: usize) -> usize
 }
 
 // A good read with a number after it.
-fn numbered_by(text: &[u8], g: Got) -> Got
+pub fn numbered_by(text: &[u8], g: Got) -> Got
     ensures { λ r. ⌜ r ≡ onGood (now (text .entry)) numberAt g ⌝ }
 {
     let Got::Good(n) = g else {

@@ -1,6 +1,6 @@
 -- The first no answers: a list of questions either has no no, and then the call gives its answer, or it is some yeses, a no
 -- and the rest, and then the call is refused by that no, whatever the rest would say. Both by induction on the list.
-use mathlib.Core.Path.{_≡_, refl, ap}
+use mathlib.Core.Path.{_≡_, refl, sym, ap, _∙_}
 use mathlib.Core.Bool.{false≢true}
 use mathlib.Core.List.{List, [], _∷_, _++_}
 use mathlib.Core.Logic.{_⊎_, inl, inr, ⊎-elim}
@@ -57,3 +57,17 @@ pub asked-map : {A B : Type 0} (f : A → B) (refused : Refusal → A) (answer :
 asked-map f refused answer [] = refl
 asked-map f refused answer (Yes ∷ q) = asked-map f refused answer q
 asked-map f refused answer (No r ∷ q) = refl
+
+-- a call's last question, asked once the others are answered with yes
+module _ {A : Type 0} (refused : Refusal → A) (answer : A) (questions : List Reply) (last : Reply) where
+  pub earlier-no : {r : Refusal} → asked questions No Yes ≡ No r → refused r ≡ asked (questions ++ last ∷ []) refused answer
+  earlier-no {r} e = sym (asked-append refused answer questions (last ∷ []) ∙ replied-no refused _ questions r e)
+
+  last-asked : asked questions No Yes ≡ Yes → asked (questions ++ last ∷ []) refused answer ≡ asked (last ∷ []) refused answer
+  last-asked e = asked-append refused answer questions (last ∷ []) ∙ replied-yes refused _ questions e
+
+  pub last-no : asked questions No Yes ≡ Yes → {r : Refusal} → last ≡ No r → refused r ≡ asked (questions ++ last ∷ []) refused answer
+  last-no e f = sym (last-asked e ∙ ap (λ (q : Reply). asked (q ∷ []) refused answer) f)
+
+  pub last-yes : asked questions No Yes ≡ Yes → last ≡ Yes → answer ≡ asked (questions ++ last ∷ []) refused answer
+  last-yes e f = sym (last-asked e ∙ ap (λ (q : Reply). asked (q ∷ []) refused answer) f)

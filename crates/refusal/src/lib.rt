@@ -18,7 +18,17 @@ pub enum Reply {
     No(Refusal),
 }
 
-// The reply to a question that names no place: is x from low to high?
+// The reply to a question that names no place, by its test.
+pub fn ask(number: u32, test: bool) -> Reply
+    ensures { λ r. ⌜ r ≡ question number 0 test ⌝ }
+{
+    if test {
+        return Reply::Yes;
+    }
+    Reply::No(Refusal { number, place: 0 })
+}
+
+// The same: is x from low to high?
 pub fn ask_within(number: u32, x: usize, low: usize, high: usize) -> Reply
     ensures { λ r. ⌜ r ≡ question number 0 (leb low x && leb x high) ⌝ }
 {

@@ -23,7 +23,7 @@ packVerdict verdict.No = packed 64 0
 packVerdict verdict.Yes = packed 65 0
 packVerdict (verdict.Refused r) = packRefusal r
 
--- a table: 66 once it is written
+-- a table or a file: 66 once it is written or read
 unfoldable pub packWritten : Written → ℕ
 packWritten written.Done = packed 66 0
 packWritten (written.Refused r) = packRefusal r

@@ -1,12 +1,16 @@
 // The calls for C, on numbers and slices. Each answers with one number: its low half says what, its high half the place or the
 // value; include/tuvenikar.h has the same for C.
+use clause_table::Sizes;
 use clause_table::Written;
 use evaluator::Verdict;
 use nodes::Located;
 ghost use mathlib.Core.Path.{_≡_};
+ghost use mathlib.Core.List.{[], _∷_};
 ghost use Rattle.evaluator.specs.Evaluation.{evaluated};
 ghost use Rattle.nodes.specs.Calls.{nodePlaceOf};
 ghost use Rattle.clause_table.specs.Table.{tabled};
+ghost use Rattle.clause_file.specs.File.{sizesBy};
+ghost use Rattle.clause_file.specs.Calls.{fileWritten, fileRead};
 ghost use Rattle.tuvenikar.specs.Answers.{packed, packVerdict, packLocated, packWritten};
 
 // What, and the place or the value above it.
@@ -79,4 +83,45 @@ pub extern "C" fn tuv_table(
     ensures { λ r. ⌜ now (marks .exit) ≡ tabled c k (now (text .entry)) (now (sizes .entry)) (now (variables .entry)) (now (marks .entry)) .marks ⌝ }
 {
     pack_written(clause_table::table(text, c, k, sizes, variables, marks))
+}
+
+// A table's file, from its five sizes and its two arrays: questions 15 to 18.
+#[no_mangle]
+pub extern "C" fn tuv_write_file(
+    c: u32,
+    k: u32,
+    v: u32,
+    m: u32,
+    l: u32,
+    variables: &[u32],
+    marks: &[u8],
+    file: &mut [u8],
+) -> u64
+    ensures { λ r. ⌜ r ≡ packWritten (fileWritten (sizesBy (c ∷ k ∷ v ∷ m ∷ l ∷ [])) (now (variables .entry)) (now (marks .entry)) (now (file .entry)) .answer) ⌝ }
+    ensures { λ r. ⌜ now (file .exit) ≡ fileWritten (sizesBy (c ∷ k ∷ v ∷ m ∷ l ∷ [])) (now (variables .entry)) (now (marks .entry)) (now (file .entry)) .file ⌝ }
+{
+    let s = Sizes {
+        channels: c,
+        steps: k,
+        variables: v,
+        clauses: m,
+        literals: l,
+    };
+    pack_written(clause_file::write(s, variables, marks, file))
+}
+
+// A file's five sizes and two arrays: questions 15 to 18.
+#[no_mangle]
+pub extern "C" fn tuv_read_file(
+    file: &[u8],
+    sizes: &mut [u32],
+    variables: &mut [u32],
+    marks: &mut [u8],
+) -> u64
+    ensures { λ r. ⌜ r ≡ packWritten (fileRead (now (file .entry)) (now (sizes .entry)) (now (variables .entry)) (now (marks .entry)) .answer) ⌝ }
+    ensures { λ r. ⌜ now (sizes .exit) ≡ fileRead (now (file .entry)) (now (sizes .entry)) (now (variables .entry)) (now (marks .entry)) .sizes ⌝ }
+    ensures { λ r. ⌜ now (variables .exit) ≡ fileRead (now (file .entry)) (now (sizes .entry)) (now (variables .entry)) (now (marks .entry)) .variables ⌝ }
+    ensures { λ r. ⌜ now (marks .exit) ≡ fileRead (now (file .entry)) (now (sizes .entry)) (now (variables .entry)) (now (marks .entry)) .marks ⌝ }
+{
+    pack_written(clause_file::read(file, sizes, variables, marks))
 }

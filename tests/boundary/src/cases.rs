@@ -49,16 +49,16 @@ impl fmt::Display for Case {
     }
 }
 
-pub struct Family {
+pub struct Family<C> {
     pub name: &'static str,
     pub cases: usize,
-    pub draw: fn(&mut Dice) -> Vec<Case>,
+    pub draw: fn(&mut Dice) -> Vec<C>,
 }
 
 /// The family whose formulas have chops in both parts of a chop.
 pub const DEEP: &str = "chops within both parts of chops";
 
-pub const FAMILIES: [Family; 11] = [
+pub const FAMILIES: [Family<Case>; 11] = [
     Family { name: "every interval of short recordings", cases: 120_000, draw: every_interval },
     Family { name: DEEP, cases: 40_000, draw: deep_chops },
     Family { name: "every node's text", cases: 60_000, draw: every_node },
@@ -81,7 +81,7 @@ impl Dice {
         Dice(Dice(seed).next() ^ (family as u64) << 56 ^ draw)
     }
 
-    fn next(&mut self) -> u64 {
+    pub fn next(&mut self) -> u64 {
         self.0 = self.0.wrapping_add(0x9e37_79b9_7f4a_7c15);
         let x = (self.0 ^ self.0 >> 30).wrapping_mul(0xbf58_476d_1ce4_e5b9);
         let x = (x ^ x >> 27).wrapping_mul(0x94d0_49bb_1331_11eb);
@@ -89,21 +89,21 @@ impl Dice {
     }
 
     /// From low to high, both included.
-    fn from(&mut self, low: usize, high: usize) -> usize {
+    pub fn from(&mut self, low: usize, high: usize) -> usize {
         low + (self.next() % (high - low + 1) as u64) as usize
     }
 
-    fn one_in(&mut self, n: usize) -> bool {
+    pub fn one_in(&mut self, n: usize) -> bool {
         self.from(1, n) == 1
     }
 
-    fn pick<T: Copy>(&mut self, from: &[T]) -> T {
+    pub fn pick<T: Copy>(&mut self, from: &[T]) -> T {
         from[self.from(0, from.len() - 1)]
     }
 }
 
 const SIGNS: &[u8] = b"abhiTF!((((&|;))))###>=[[]]0123 ";
-const ODD_NUMBERS: [u32; 18] = [0, 1, 2, 7, 8, 9, 31, 32, 33, 34, 63, 65, 255, 256, 257, 65_537, u32::MAX - 31, u32::MAX];
+pub const ODD_NUMBERS: [u32; 18] = [0, 1, 2, 7, 8, 9, 31, 32, 33, 34, 63, 65, 255, 256, 257, 65_537, u32::MAX - 31, u32::MAX];
 /// Among them some that are small modulo 2^8, 2^32 or 2^64.
 #[rustfmt::skip]
 const ODD_DIGITS: [&str; 16] = [
@@ -260,7 +260,7 @@ fn damage(dice: &mut Dice, text: &mut Vec<u8>) {
 
 // What is lent beside the text
 
-fn channels(dice: &mut Dice) -> u32 {
+pub fn channels(dice: &mut Dice) -> u32 {
     dice.pick(&[1, 1, 2, 2, 3, 4, 5, 6, 7, 8])
 }
 
@@ -423,7 +423,7 @@ fn levels(dice: &mut Dice, k: u32) -> u32 {
     dice.pick(&[k, k, k, 31])
 }
 
-fn small_tables(dice: &mut Dice) -> Vec<Case> {
+pub fn small_tables(dice: &mut Dice) -> Vec<Case> {
     let (c, k) = (channels(dice), dice.pick(&[0, 1, 1, 2, 2, 3, 4, 5]));
     let (nodes, levels) = (dice.from(1, 24), levels(dice, k));
     let text = formula(dice, c, levels, nodes);
@@ -447,7 +447,7 @@ fn chop_tables(dice: &mut Dice) -> Vec<Case> {
     both_rooms(dice, text, c, k)
 }
 
-fn any_tables(dice: &mut Dice) -> Vec<Case> {
+pub fn any_tables(dice: &mut Dice) -> Vec<Case> {
     let (c, k) = (channels(dice), dice.from(0, 32) as u32);
     let (nodes, levels) = (dice.from(1, 64), levels(dice, k));
     let text = formula(dice, c, levels, nodes);

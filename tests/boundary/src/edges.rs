@@ -2,7 +2,7 @@
 //! answers are worked out by hand from the paper, and not by the reference.
 
 use crate::cases::{Call, Case};
-use crate::engine::Wanted;
+use crate::lent::{Wanted, Written};
 use crate::reference::Answer;
 use crate::table::Table;
 
@@ -15,9 +15,9 @@ fn part(start: u32, length: u32) -> Answer {
 }
 
 type Edge = (String, Case, Answer);
-type Written = (String, Case, Wanted);
+type Tried = (String, Case, Wanted);
 
-pub fn edges() -> Vec<Written> {
+pub fn edges() -> Vec<Tried> {
     let unwritten = [evaluations(), refusals(), node_texts(), refused_tables()].into_iter().flatten();
     unwritten.map(|(name, case, answer)| (name, case, answer.into())).chain(tables()).collect()
 }
@@ -160,12 +160,12 @@ fn clauses(printed: &str) -> Vec<i32> {
     literals.split_whitespace().map(|literal| literal.parse().expect("a literal")).collect()
 }
 
-fn tables() -> Vec<Written> {
+fn tables() -> Vec<Tried> {
     let written = |text: &str, c, k, table: Table, more: [usize; 3]| {
         let l = table.variables.len();
         let lengths = [5 + more[0], l + more[1], l + more[2]];
         let case = Case { text: text.into(), c, k, call: Call::Table(lengths) };
-        (format!("table of {text}, C {c}, k {k}, in {lengths:?}"), case, Wanted { answer: (66, 0), table: Some(table) })
+        (format!("table of {text}, C {c}, k {k}, in {lengths:?}"), case, Ok(Written::Table(table)).into())
     };
     let edge = |text, [c, k, v, m, l]: [u32; 5], printed| {
         let table = Table::new(c, k, v, &clauses(printed));

@@ -1,11 +1,11 @@
-//! The archive's calls, on memory that is lent.
+//! The archive's calls on a formula's text, on memory that is lent.
 
-use std::ptr::{null, null_mut};
-use std::sync::atomic::Ordering::Relaxed;
+use std::ptr::null_mut;
 
 use crate::cases::{Call, Case};
-use crate::fault::CASE;
-use crate::fence::{vast, Fence, Output, Side};
+use crate::fault;
+use crate::fence::{vast, Fence, Side};
+use crate::lent::{lend, start, unpacked, wrong_answer, LentTable, TableOutput, Wanted};
 use crate::readback;
 use crate::reference::Answer;
 use crate::table::Table;
@@ -36,50 +36,25 @@ extern "C" {
     ) -> u64;
 }
 
-/// What a call should come to: its answer, and the table if it writes one.
-pub struct Wanted {
-    pub answer: Answer,
-    pub table: Option<Table>,
-}
-
-impl From<Answer> for Wanted {
-    fn from(answer: Answer) -> Self {
-        Wanted { answer, table: None }
-    }
-}
-
-/// Sizes, variables and marks.
-type Arrays<'a> = (&'a [u32], &'a [u32], &'a [u8]);
-
-/// More than the largest table has literals.
-const ROOM: usize = 6_000_000;
-/// The same for the short recordings on which table and evaluation are compared.
+/// More bytes than any text has that is tried.
+const TEXT_ROOM: usize = 1 << 16;
+/// More literals than the tables have whose recordings are short.
 const FEW_STEPS: usize = 1 << 15;
 
 pub struct Engine {
-    text: Fence,
-    recording: Fence,
-    sizes: Output<u32>,
-    variables: Output<u32>,
-    marks: Output<u8>,
+    text: Fence<u8>,
+    recording: Fence<u8>,
+    table: TableOutput,
 }
 
 impl Engine {
     pub fn new() -> Self {
-        Engine {
-            text: Fence::new(),
-            recording: Fence::new(),
-            sizes: Output::new(ROOM),
-            variables: Output::new(ROOM),
-            marks: Output::new(ROOM),
-        }
+        Engine { text: Fence::new(TEXT_ROOM), recording: Fence::new(TEXT_ROOM), table: TableOutput::new() }
     }
 
     /// What is wrong with the engine's answer or with what it wrote, on one side of the fence or the other.
     pub fn wrong(&mut self, case: &Case, wanted: &Wanted) -> Option<String> {
-        CASE.store((case as *const Case).cast_mut(), Relaxed);
-        let wrong = [Side::Start, Side::End].into_iter().find_map(|side| self.wrong_on(side, case, wanted));
-        CASE.store(null_mut(), Relaxed);
+        let wrong = fault::during(case, || Side::BOTH.into_iter().find_map(|side| self.wrong_on(side, case, wanted)));
         wrong.map(|wrong| format!("{case}: {wrong}"))
     }
 
@@ -106,89 +81,40 @@ impl Engine {
         })
     }
 
-    /// The answer of a table's call, and the arrays after it: sizes, variables and marks, filled with a byte before.
-    fn table(&mut self, side: Side, case: &Case, [sizes, variables, marks]: [usize; 3], fill: u8) -> (Answer, Arrays<'_>) {
-        let Case { text, c, k, .. } = case;
-        let lent = lend(&mut self.text, text, side);
-        let number = u32::from_ne_bytes([fill; 4]);
-        let sizes = self.sizes.lend(sizes, number, side);
-        let variables = self.variables.lend(variables, number, side);
-        let marks = self.marks.lend(marks, fill, side);
-        let (s, v, m) = (start(sizes, side), start(variables, side), start(marks, side));
+    /// The answer of a table's call, and the arrays after it.
+    fn table(&mut self, side: Side, Case { text, c, k, .. }: &Case, lengths: [usize; 3]) -> (Answer, LentTable<'_>) {
+        let lent_text = lend(&mut self.text, text, side);
+        let lent = self.table.lend(lengths, side);
+        let [sizes, variables, marks] = lengths;
+        let (s, v, m) = (start(lent.sizes, side), start(lent.variables, side), start(lent.marks, side));
         // SAFETY: each pointer is to as many places as is said, or null with none; no two arrays overlap.
-        let answer = unsafe { tuv_table(lent, text.len(), *c, *k, s, sizes.len(), v, variables.len(), m, marks.len()) };
-        (unpacked(answer), (sizes, variables, marks))
+        let answer = unsafe { tuv_table(lent_text, text.len(), *c, *k, s, sizes, v, variables, m, marks) };
+        (unpacked(answer), lent)
     }
 
-    /// Every place is compared, those that are written and those that are not; what is written is read back too.
+    /// What is written is compared, and read back too.
     fn wrong_table(&mut self, side: Side, case: &Case, lengths: [usize; 3], wanted: &Wanted) -> Option<String> {
-        // Not the same on either side, so that what goes by it differs; and no table has such numbers.
-        let fill = match side {
-            Side::Start => 0xaa,
-            Side::End => 0x55,
-        };
-        let number = u32::from_ne_bytes([fill; 4]);
-        let (answer, (sizes, variables, marks)) = self.table(side, case, lengths, fill);
-        let written: Arrays = match &wanted.table {
-            Some(table) => (&table.sizes, &table.variables, &table.marks),
-            None => (&[], &[], &[]),
-        };
+        let (answer, lent) = self.table(side, case, lengths);
         wrong_answer(answer, wanted)
-            .or_else(|| wrong_places("sizes", sizes, written.0, number))
-            .or_else(|| wrong_places("variables", variables, written.1, number))
-            .or_else(|| wrong_places("marks", marks, written.2, fill))
-            .or_else(|| wanted.table.as_ref().and_then(|_| readback::wrong(sizes, variables, marks)))
+            .or_else(|| lent.wrong(wanted.table()))
+            .or_else(|| wanted.table().and_then(|_| readback::wrong(lent.sizes, lent.variables, lent.marks)))
+    }
+
+    /// The table that the engine itself writes, if it writes one.
+    pub fn own_table(&mut self, case: &Case) -> Option<Table> {
+        let Call::Table(lengths) = case.call else { unreachable!("no table is asked for") };
+        let (answer, lent) = fault::during(case, || self.table(Side::End, case, lengths));
+        (answer == (66, 0)).then(|| lent.table())
     }
 
     /// What the table says of a recording where evaluation says something else.
     pub fn disagreement(&mut self, case: &Case) -> Option<String> {
         let Call::Evaluate { recording, .. } = &case.call else { unreachable!("there is no recording") };
-        CASE.store((case as *const Case).cast_mut(), Relaxed);
-        let evaluated = self.answer(Side::End, case);
-        let (written, (sizes, variables, marks)) = self.table(Side::End, case, [5, FEW_STEPS, FEW_STEPS], 0);
-        CASE.store(null_mut(), Relaxed);
-        let forced = readback::forced(sizes, variables, marks, recording).map(|holds| (64 + u32::from(holds), 0));
+        let evaluated = fault::during(case, || self.answer(Side::End, case));
+        let (written, lent) = fault::during(case, || self.table(Side::End, case, [5, FEW_STEPS, FEW_STEPS]));
+        let forced = readback::forced(lent.sizes, lent.variables, lent.marks, recording).map(|holds| (64 + u32::from(holds), 0));
         let wrong = written != (66, 0) || forced != Ok(evaluated);
         wrong.then(|| format!("{case}: evaluation answers {evaluated:?}, the table {written:?} and then {forced:?}"))
-    }
-}
-
-fn unpacked(answer: u64) -> Answer {
-    (answer as u32, (answer >> 32) as u32)
-}
-
-fn wrong_answer(got: Answer, wanted: &Wanted) -> Option<String> {
-    let wanted = wanted.answer;
-    (got != wanted).then(|| format!("answered {got:?}, wanted {wanted:?} (code, value)"))
-}
-
-/// The first place of an array that is not what was wanted there, or beyond that not what it was filled with.
-fn wrong_places<T: Copy + PartialEq + std::fmt::Display>(name: &str, got: &[T], wanted: &[T], fill: T) -> Option<String> {
-    let (written, beyond) = got.split_at(wanted.len());
-    if written == wanted && beyond.iter().all(|value| *value == fill) {
-        return None;
-    }
-    let at = (0..got.len()).find(|at| got[*at] != *wanted.get(*at).unwrap_or(&fill))?;
-    Some(match wanted.get(at) {
-        Some(value) if got[at] == fill => format!("{name}[{at}] is not written, wanted {value}"),
-        Some(value) => format!("{name}[{at}] is {}, wanted {value}", got[at]),
-        None => format!("{name}[{at}] is written ({}), and should not be", got[at]),
-    })
-}
-
-/// No bytes are null on the one side, and the fence itself on the other.
-fn lend(fence: &mut Fence, bytes: &[u8], side: Side) -> *const u8 {
-    match side {
-        Side::Start if bytes.is_empty() => null(),
-        _ => fence.lend(bytes, side),
-    }
-}
-
-/// The same for places to be written.
-fn start<T>(places: &mut [T], side: Side) -> *mut T {
-    match side {
-        Side::Start if places.is_empty() => null_mut(),
-        _ => places.as_mut_ptr(),
     }
 }
 

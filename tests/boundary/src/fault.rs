@@ -1,13 +1,12 @@
 //! A call that faults, aborts or does not come back: say which case it was, and count it as failed.
 
 use std::ffi::{c_int, c_void};
+use std::fmt::Display;
 use std::ptr::null_mut;
 use std::sync::atomic::{AtomicPtr, AtomicUsize, Ordering::Relaxed};
 
-use crate::cases::Case;
-
-/// The case whose call is under way.
-pub static CASE: AtomicPtr<Case> = AtomicPtr::new(null_mut());
+/// The case whose calls are under way.
+static CASE: AtomicPtr<&dyn Display> = AtomicPtr::new(null_mut());
 pub static PASSED: AtomicUsize = AtomicUsize::new(0);
 pub static FAILED: AtomicUsize = AtomicUsize::new(0);
 
@@ -52,7 +51,7 @@ extern "C" fn report(signal: c_int) {
     // SAFETY: null, or a case that stays until its call is over.
     match unsafe { CASE.load(Relaxed).as_ref() } {
         Some(case) => println!("FAILED: {what} in the call for {case}"),
-        None => println!("FAILED: {what} outside a case: with lengths above 2^32, or in the test itself"),
+        None => println!("FAILED: {what} outside a case, in the test itself"),
     }
     println!("{} passed, {} failed", PASSED.load(Relaxed), FAILED.load(Relaxed) + 1);
     // SAFETY: nothing is left to be done.
@@ -72,6 +71,14 @@ pub fn watch() {
             assert!(sigaction(signal, &action, null_mut()) == 0);
         }
     }
+}
+
+/// Makes the calls of a case, so that a signal is reported as this case's.
+pub fn during<R>(mut case: &dyn Display, calls: impl FnOnce() -> R) -> R {
+    CASE.store((&raw mut case).cast(), Relaxed);
+    let result = calls();
+    CASE.store(null_mut(), Relaxed);
+    result
 }
 
 /// A time for what follows that is far above what it takes.

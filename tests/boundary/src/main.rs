@@ -1,5 +1,5 @@
 //! Tries the calls across the C boundary: the edges with the paper's own answers, then random cases
-//! against an implementation of its own (`reference`, and `table` for tables). What is lent is fenced (`fence`),
+//! against an implementation of its own (`reference`, `table` for tables, `file` for files). What is lent is fenced (`fence`),
 //! and each case is called twice, on either side of the fence: the answers must be equal, no byte beyond be
 //! touched, and every place of an output be what it should. The largest tables that there are (`counts`) are printed.
 //! A seed other than the usual one is taken from TUVENIKAR_SEED. The last line is `N passed, M failed`.
@@ -10,6 +10,11 @@ mod edges;
 mod engine;
 mod fault;
 mod fence;
+mod file;
+mod file_cases;
+mod file_edges;
+mod file_engine;
+mod lent;
 mod readback;
 mod reference;
 mod table;
@@ -20,8 +25,12 @@ use std::time::Instant;
 
 use cases::{Call, Case, Dice, Family, DEEP, EVALUATE, FAMILIES, NODE_TEXT, TABLE};
 use counts::{counts, largest, Counts, Largest};
-use engine::{Engine, Wanted};
+use engine::Engine;
 use fault::{FAILED, PASSED};
+use file_cases::{FileCase, FILE_FAMILIES, READ_FILE, WRITE_FILE};
+use file_engine::FileEngine;
+use lent::{Wanted, Written};
+use table::Table;
 
 /// How often each code was the answer of each call.
 type Codes = BTreeMap<&'static str, BTreeMap<u32, usize>>;
@@ -30,42 +39,41 @@ fn times(codes: &Codes, call: &str, code: u32) -> usize {
     codes.get(call).and_then(|codes| codes.get(&code)).copied().unwrap_or(0)
 }
 
+fn total(codes: &Codes) -> usize {
+    codes.values().flat_map(BTreeMap::values).sum()
+}
+
+fn add(all: &mut Codes, codes: Codes) {
+    for (call, codes) in codes {
+        let all = all.entry(call).or_default();
+        codes.into_iter().for_each(|(code, times)| *all.entry(code).or_default() += times);
+    }
+}
+
 /// Every code that each call has. One that no random case meets would be a code that is not tried.
-const CODES: [(&str, &[u32]); 3] = [
+const CODES: [(&str, &[u32]); 5] = [
     (EVALUATE, &[1, 2, 3, 4, 5, 6, 7, 9, 10, 11, 64, 65]),
     (NODE_TEXT, &[1, 2, 3, 4, 5, 6, 7, 8, 71]),
     (TABLE, &[1, 2, 3, 4, 5, 6, 7, 18, 66]),
+    (WRITE_FILE, &[15, 16, 17, 18, 66]),
+    (READ_FILE, &[15, 16, 17, 18, 66]),
 ];
+
+/// Whoever draws has a number, so that no two draw alike: families of formulas from 0, and then these.
+const AGREEMENT: usize = FAMILIES.len();
+const FIRST_OF_FILES: usize = AGREEMENT + 1;
+const ROUND_TRIPS: usize = FIRST_OF_FILES + FILE_FAMILIES.len();
 
 fn main() {
     fault::watch();
     let seed = std::env::var("TUVENIKAR_SEED").map_or(1, |seed| seed.parse().expect("TUVENIKAR_SEED is no number"));
-    let mut engine = Engine::new();
-
-    fault::allow(60);
-    for (name, case, wanted) in edges::edges() {
-        count(&format!("edge: {name}"), engine.wrong(&case, &wanted));
-    }
-    count("edge: lengths that are small modulo 2^32", engine::vast_lengths());
-    count("edge: outputs as long as 2^32", engine::vast_outputs());
-    largest_tables(&mut engine);
+    let (mut engine, mut files) = (Engine::new(), FileEngine::new());
+    try_edges(&mut engine, &mut files);
+    largest_tables(&mut engine, &mut files);
 
     println!("seed {seed}");
-    let (mut cases, mut all) = (0, Codes::new());
-    for (number, family) in FAMILIES.iter().enumerate() {
-        let codes = try_family(&mut engine, seed, number, family);
-        let tried = codes.values().flat_map(BTreeMap::values).sum::<usize>();
-        if family.name == DEEP && tried == family.cases {
-            let few = [64, 65].iter().any(|code| times(&codes, EVALUATE, *code) < tried / 5);
-            count("chops answer both no and yes", few.then(|| format!("too few of one: {codes:?}")));
-        }
-        cases += tried;
-        for (call, codes) in codes {
-            let all = all.entry(call).or_default();
-            codes.into_iter().for_each(|(code, times)| *all.entry(code).or_default() += times);
-        }
-    }
-    println!("{cases} cases; code and how often: {all:?}");
+    let all = try_families(&mut engine, &mut files, seed);
+    println!("{} cases; code and how often: {all:?}", total(&all));
     for (call, codes) in CODES {
         for code in codes {
             let never = times(&all, call, *code) == 0;
@@ -73,6 +81,7 @@ fn main() {
         }
     }
     try_agreement(&mut engine, seed);
+    try_round_trips(&mut engine, &mut files, seed);
 
     let failed = FAILED.load(Relaxed);
     println!("{} passed, {failed} failed", PASSED.load(Relaxed));
@@ -90,23 +99,74 @@ fn count(name: &str, wrong: Option<String>) {
     };
 }
 
+fn try_edges(engine: &mut Engine, files: &mut FileEngine) {
+    fault::allow(60);
+    for (name, case, wanted) in edges::edges() {
+        count(&format!("edge: {name}"), engine.wrong(&case, &wanted));
+    }
+    for (name, case, wanted) in file_edges::file_edges() {
+        count(&format!("edge: {name}"), files.wrong(&case, &wanted));
+    }
+    let vast: [(&str, fn() -> Option<String>); 6] = [
+        ("lengths that are small modulo 2^32", engine::vast_lengths),
+        ("outputs as long as 2^32", engine::vast_outputs),
+        ("files and arrays whose lengths are small modulo 2^32", file_engine::vast_lengths),
+        ("a file's outputs as long as 2^32", file_engine::vast_outputs),
+        ("a file of more than 2^32 bytes", file_engine::vast_file),
+        ("a table whose file has more than 2^32 bytes", file_engine::vast_table),
+    ];
+    let begun = Instant::now();
+    for (name, wrong) in vast {
+        count(&format!("edge: {name}"), fault::during(&name, wrong));
+    }
+    println!("lengths about 2^32: {:.1} s", begun.elapsed().as_secs_f32());
+}
+
+/// What a case came to: its call, the code that was wanted, and what is wrong.
+struct Tried {
+    call: &'static str,
+    code: u32,
+    wrong: Option<String>,
+}
+
+fn try_families(engine: &mut Engine, files: &mut FileEngine, seed: u64) -> Codes {
+    let mut all = Codes::new();
+    for (number, family) in FAMILIES.iter().enumerate() {
+        let codes = try_family(seed, number, family, |case| {
+            let wanted = wanted(case);
+            Tried { call: case.call.name(), code: wanted.answer.0, wrong: engine.wrong(case, &wanted) }
+        });
+        if family.name == DEEP && total(&codes) == family.cases {
+            let few = [64, 65].iter().any(|code| times(&codes, EVALUATE, *code) < family.cases / 5);
+            count("chops answer both no and yes", few.then(|| format!("too few of one: {codes:?}")));
+        }
+        add(&mut all, codes);
+    }
+    for (number, family) in FILE_FAMILIES.iter().enumerate() {
+        let codes = try_family(seed, FIRST_OF_FILES + number, family, |case| {
+            let wanted = wanted_of_file(case);
+            Tried { call: case.name(), code: wanted.answer.0, wrong: files.wrong(case, &wanted) }
+        });
+        add(&mut all, codes);
+    }
+    all
+}
+
 /// A family of random cases, up to the first that is wrong.
-fn try_family(engine: &mut Engine, seed: u64, number: usize, family: &Family) -> Codes {
+fn try_family<C>(seed: u64, number: usize, family: &Family<C>, mut try_case: impl FnMut(&C) -> Tried) -> Codes {
     fault::allow(300);
     let begun = Instant::now();
     let mut codes = Codes::new();
-    let mut tried = 0;
     let drawn = (0..).flat_map(|draw| {
         let cases = (family.draw)(&mut Dice::new(seed, number, draw));
         cases.into_iter().map(move |case| (draw, case))
     });
     let wrong = drawn.take(family.cases).find_map(|(draw, case)| {
-        let wanted = wanted(&case);
-        *codes.entry(case.call.name()).or_default().entry(wanted.answer.0).or_default() += 1;
-        tried += 1;
-        engine.wrong(&case, &wanted).map(|wrong| format!("{wrong} (seed {seed}, draw {draw})"))
+        let Tried { call, code, wrong } = try_case(&case);
+        *codes.entry(call).or_default().entry(code).or_default() += 1;
+        wrong.map(|wrong| format!("{wrong} (seed {seed}, draw {draw})"))
     });
-    println!("{}: {tried} cases in {:.1} s: {codes:?}", family.name, begun.elapsed().as_secs_f32());
+    println!("{}: {} cases in {:.1} s: {codes:?}", family.name, total(&codes), begun.elapsed().as_secs_f32());
     count(family.name, wrong);
     codes
 }
@@ -115,14 +175,21 @@ fn wanted(Case { text, c, k, call }: &Case) -> Wanted {
     match call {
         Call::Evaluate { i, j, recording } => reference::evaluate(text, *c, *k, *i, *j, recording).into(),
         Call::NodeText { node } => reference::node_text(text, *c, *k, *node).into(),
-        Call::Table(lengths) => match table::written(text, *c, *k, *lengths) {
-            Ok(table) => {
+        Call::Table(lengths) => {
+            let written = table::written(text, *c, *k, *lengths);
+            if let Ok(table) = &written {
                 // The lengths that were drawn go by these.
-                assert_eq!(counts(text, *c, *k), Some(Counts::of(&table)), "for '{}', C {c}, k {k}", text.escape_ascii());
-                Wanted { answer: (66, 0), table: Some(table) }
+                assert_eq!(counts(text, *c, *k), Some(Counts::of(table)), "for '{}', C {c}, k {k}", text.escape_ascii());
             }
-            Err(refusal) => reference::packed(Err(refusal)).into(),
-        },
+            written.map(Written::Table).into()
+        }
+    }
+}
+
+fn wanted_of_file(case: &FileCase) -> Wanted {
+    match case {
+        FileCase::Write { table, room } => file::written(table, *room).map(Written::File).into(),
+        FileCase::Read { file, lengths } => file::read(file, *lengths).map(Written::Table).into(),
     }
 }
 
@@ -132,18 +199,53 @@ fn try_agreement(engine: &mut Engine, seed: u64) {
     let begun = Instant::now();
     let draws = 20_000;
     let wrong = (0..draws).find_map(|draw| {
-        let case = cases::whole_recording(&mut Dice::new(seed, FAMILIES.len(), draw));
+        let case = cases::whole_recording(&mut Dice::new(seed, AGREEMENT, draw));
         engine.disagreement(&case).map(|wrong| format!("{wrong} (seed {seed}, draw {draw})"))
     });
     println!("tables beside evaluation: up to {draws} recordings in {:.1} s", begun.elapsed().as_secs_f32());
     count("a table forces what evaluation answers", wrong);
 }
 
+/// Every table that the engine itself writes goes to a file and comes back.
+fn try_round_trips(engine: &mut Engine, files: &mut FileEngine, seed: u64) {
+    fault::allow(60);
+    let begun = Instant::now();
+    let (small, any) = (10_000, 200);
+    let drawn = (0..small + any).flat_map(|draw| {
+        let dice = &mut Dice::new(seed, ROUND_TRIPS, draw);
+        if draw < small {
+            cases::small_tables(dice)
+        } else {
+            cases::any_tables(dice)
+        }
+    });
+    let mut tables = 0;
+    let wrong = drawn.into_iter().find_map(|case| {
+        let table = engine.own_table(&case)?;
+        tables += 1;
+        wrong_round_trip(files, &table).map(|wrong| format!("table of {case}: {wrong}"))
+    });
+    println!("tables to files and back: {tables} in {:.1} s", begun.elapsed().as_secs_f32());
+    // A draw has one case with room for its table, and one without.
+    let few = (tables != small + any).then(|| format!("there are {tables} tables of {}", small + any));
+    count("a table is read as it was written", wrong.or(few));
+}
+
+/// What is written is what is then read, and what is read is what was written: every place of both is compared, so either
+/// call undoes the other.
+fn wrong_round_trip(files: &mut FileEngine, table: &Table) -> Option<String> {
+    table.write_and_read(0).iter().find_map(|case| {
+        let wanted = wanted_of_file(case);
+        let refused = wanted.answer != (66, 0);
+        refused.then(|| format!("{case}: should be accepted")).or_else(|| files.wrong(case, &wanted))
+    })
+}
+
 /// V, M and L of the largest tables.
 const LARGEST: [u32; 3] = [539_488, 2_016_688, 5_326_414];
 
 /// The largest tables are as large as the header says, and are written as any other. Those of 64 steps are only counted.
-fn largest_tables(engine: &mut Engine) {
+fn largest_tables(engine: &mut Engine, files: &mut FileEngine) {
     fault::allow(60);
     let begun = Instant::now();
     for (steps, n) in [(32, 32), (64, 32), (64, 64)] {
@@ -160,19 +262,20 @@ fn largest_tables(engine: &mut Engine) {
         if steps == 32 {
             let wrong = most_of != LARGEST.map(u64::from);
             count("V, M and L of the largest tables", wrong.then(|| format!("wanted {LARGEST:?}")));
-            texts.into_iter().for_each(|(_, text)| try_largest(engine, text));
+            texts.into_iter().for_each(|(_, text)| try_largest(engine, files, text));
         }
     }
-    try_largest(engine, "(#a>=32;".repeat(21) + "T" + &")".repeat(21));
+    try_largest(engine, files, "(#a>=32;".repeat(21) + "T" + &")".repeat(21));
     println!("the largest tables: {:.1} s", begun.elapsed().as_secs_f32());
 }
 
 /// One that has the most of all three.
-fn try_largest(engine: &mut Engine, text: String) {
+fn try_largest(engine: &mut Engine, files: &mut FileEngine, text: String) {
     let l = LARGEST[2] as usize;
     let case = Case { text: text.into(), c: 8, k: 32, call: Call::Table([5, l, l]) };
     let wanted = wanted(&case);
-    let sizes = wanted.table.as_ref().map(|table| &table.sizes[2..]);
+    let sizes = wanted.table().map(|table| &table.sizes[2..]);
     let wrong = (sizes != Some(&LARGEST)).then(|| format!("{case}: the reference has {sizes:?}, wanted {LARGEST:?}"));
     count("a largest table", wrong.or_else(|| engine.wrong(&case, &wanted)));
+    count("a largest table's file", wanted.table().and_then(|table| wrong_round_trip(files, table)));
 }

@@ -4,6 +4,7 @@
 
 use crate::reference::{accepted, yes, Formula, Kind, Refusal, State};
 
+#[derive(Clone)]
 pub struct Table {
     /// C, k, V, M, L.
     pub sizes: [u32; 5],

@@ -1,6 +1,6 @@
 -- The five sizes are stored from the first place on
 -- (Measure.antt).
-use Rattle.clause_table.specs.Rows.{fiveOf}
+use Rattle.clause_table.specs.Table.{fiveOf}
 use Rattle.clause_table.proofs.Measure.{stored-over}
 use borrow.Author.Needs.{needs}
 use Rattle.clause_table.proofs.put_sizes.Statement.{statement}
@@ -16,7 +16,7 @@ same-length : tie.Need-same-length
 same-length c = search needs
 
 returns : tie.Need-returns
-returns c = let a = c .before .before .before .before .before .before .args in stored-over (fiveOf (a .c) (a .k) (a .s)) (a .sizes .now) (c .before .before .put-numbers .ensures) (c .before .before .before .before .before .before .pre)
+returns c = let a = c .before .before .before .before .before .before .args in stored-over (fiveOf (a .s)) (a .sizes .now) (c .before .before .put-numbers .ensures) (c .before .before .before .before .before .before .pre)
 
 pub put-sizes-spec : {M : Type 1} → statement M
 put-sizes-spec =

@@ -8,8 +8,8 @@ use Rattle.literals.proofs.put.Tie as tie
 put-numbers-requires : tie.Need-put-numbers-requires
 put-numbers-requires c κs = search needs
 
-put-marks-requires : tie.Need-put-marks-requires
-put-marks-requires c κs = search needs
+put-bytes-requires : tie.Need-put-bytes-requires
+put-bytes-requires c κs = search needs
 
 add-result : tie.Need-add-result
 add-result c = search needs
@@ -21,9 +21,9 @@ same-length-2 : tie.Need-same-length-2
 same-length-2 c = search needs
 
 returns : tie.Need-returns
-returns c = both-stored (c .before .before .before .before .before .before .put-numbers .ensures) (c .before .before .put-marks .ensures)
+returns c = both-stored (c .before .before .before .before .before .before .put-numbers .ensures) (c .before .before .put-bytes .ensures)
 
 pub put-spec : {M : Type 1} → statement M
 put-spec =
     tie.close
-    (tie.spec put-numbers-requires put-marks-requires add-result same-length same-length-2 returns)
+    (tie.spec put-numbers-requires put-bytes-requires add-result same-length same-length-2 returns)

@@ -1,0 +1,207 @@
+-- A clause's places name its variables, their marks are 0 or 1, plus 2 on the last alone; so there are as many closing marks as clauses,
+-- and the root's place closes the table. Hence the file's writer takes every table of an accepted text.
+use mathlib.Core.Path.{_≡_, refl, sym, ap, _∙_, subst}
+use mathlib.Core.Bool.{Bool, true, false, _||_}
+use mathlib.Core.List.{List, [], _∷_, _++_, map, map-append, flatMap}
+use Prim.Native.Nat.{ℕ, zero, suc, _+_, _-_, _≤_, _<_}
+use native.Mathlib.Nat.{zero-add}
+use native.Mathlib.Omega.{arith}
+use lib.Dec.{eqb}
+use lib.ListN.{length, getD, length-map, length-append}
+use lib.Seq.{getD-at}
+use borrow.Author.Tests.{le-leb, eq-eqb}
+use Rattle.refusal.specs.Asked.{asked}
+use Rattle.refusal.specs.declared.Reply.the-variants.{Yes, No}
+use Rattle.refusal.proofs.Laws.{last-yes}
+use Rattle.interval.specs.Limits.{askSteps}
+use Rattle.grammar.specs.Trees.{Tree, Letters}
+use Rattle.grammar.specs.Reader.{Read}
+use Rattle.grammar.specs.declared.Sort.the-variants.{Formula}
+use Rattle.formula.specs.Nodes.{nodesOf}
+use Rattle.formula.specs.Questions.{askChannels, formulaQuestions, acceptOf}
+use Rattle.formula.proofs.Lists.{All, all-append, all-map}
+use Rattle.formula.proofs.Laws.{all-yes, accepted}
+use Rattle.meaning.specs.Meaning.{bit, every, highs}
+use Rattle.circuit.specs.Circuit.{variablesOf, definitionsOf, rootOf}
+use Rattle.circuit.proofs.Blocks.{From}
+use Rattle.clauses.specs.Clauses.{Literal, Clause, plain, clausesBy, clauseTable}
+use Rattle.clauses.specs.Entries.{Entry, entriesOf, flat, variablesIn, marksIn}
+use Rattle.clauses.proofs.Good.{Full, namesOf, Sound, full-table}
+use Rattle.clauses.proofs.Sizes.{flat-join}
+use Rattle.clause_table.specs.Table.{fiveOf, sizesOf, onTree, sizesIn, placesIn, over}
+use Rattle.clause_table.specs.declared.Sizes.{Sizes}
+use Rattle.clause_table.specs.declared.Written.the-variants.{Done}
+use Rattle.clause_table.proofs.Laws.{table-sound}
+use Rattle.clause_file.specs.Questions.{allPass, howMany, askArrays, inLimits, isVariable, isMark, askEntries, closes, endsClosed, askClosed, askBytes}
+use Rattle.clause_file.specs.File.{fileOf, sizesBy, fileLength}
+use Rattle.clause_file.specs.Calls.{FileAfter, fileRefused, arrayQuestions, fileWritten}
+
+-- ---- lists that are tested
+
+every-true : (f : ℕ → Bool) (n : ℕ) → ((e : ℕ) → e < n → f e ≡ true) → every f 0 n ≡ true
+unfolding every
+every-true f zero h = refl
+every-true f (suc n) h = rw (every-true f n (λ e l. h e (omega arith)), zero-add n, h n (omega arith))
+
+all-at : (P : ℕ → Type 0) (l : List ℕ) → All P l → (e : ℕ) → e < length l → P (getD l e 0)
+all-at P [] a e h = absurd (omega arith)
+all-at P (v ∷ l) a zero h = a .0
+all-at P (v ∷ l) a (suc e) h = all-at P l (a .1) e (omega arith)
+
+all-pass : (test : ℕ → Bool) (l : List ℕ) → All (λ v. test v ≡ true) l → allPass test l ≡ true
+all-pass test l a = every-true (λ e. test (getD l e 0)) (length l) (all-at (λ v. test v ≡ true) l a)
+
+highs-first : (f : ℕ → Bool) (n : ℕ) → highs f 0 (suc n) ≡ bit (f 0) + highs (λ e. f (suc e)) 0 n
+unfolding highs
+highs-first f zero = omega arith
+highs-first f (suc n) = omega (arith, highs-first f n, ap (λ (e : ℕ). bit (f e)) (zero-add (suc n)), ap (λ (e : ℕ). bit (f (suc e))) (zero-add n))
+
+count-first : (test : ℕ → Bool) (v : ℕ) (l : List ℕ) → howMany test (v ∷ l) ≡ bit (test v) + howMany test l
+count-first test v l = highs-first (λ e. test (getD (v ∷ l) e 0)) (length l)
+
+-- ---- the places of clauses
+
+mapped : (P : ℕ → Type 0) (g : Entry → ℕ) (F : List Entry) → All (λ e. P (g e)) F → All P (map g F)
+mapped P g [] a = tt
+mapped P g (e ∷ F) a = (a .0, mapped P g F (a .1))
+
+clause-names : (X : ℕ → Type 0) (c : Clause) → All X (namesOf c) → All (λ (e : Entry). X (e .variable)) (entriesOf c)
+unfolding entriesOf
+clause-names X [] a = tt
+clause-names X (l ∷ []) a = (a .0, tt)
+clause-names X (l ∷ m ∷ c) a = (a .0, clause-names X (m ∷ c) (a .1))
+
+low : (b : Bool) → bit b ≤ 1
+low true = omega arith
+low false = omega arith
+
+clause-marks : (c : Clause) → All (λ (e : Entry). e .mark ≤ 3) (entriesOf c)
+unfolding entriesOf
+clause-marks [] = tt
+clause-marks (l ∷ []) = (omega (arith, low (l .plain)), tt)
+clause-marks (l ∷ m ∷ c) = (omega (arith, low (l .plain)), clause-marks (m ∷ c))
+
+table-all : (P : Entry → Type 0) (T : List Clause) → All (λ c. All P (entriesOf c)) T → All P (flat T)
+unfolding flat flatMap
+table-all P [] a = tt
+table-all P (c ∷ T) a = all-append P (entriesOf c) (flat T) (a .0) (table-all P T (a .1))
+
+closed-last : (b : Bool) → bit (closes (bit b + 2)) ≡ 1
+closed-last true = refl
+closed-last false = refl
+
+open-other : (b : Bool) → bit (closes (bit b)) ≡ 0
+open-other true = refl
+open-other false = refl
+
+clause-closes : (l : Literal) (c : Clause) (F : List Entry) → howMany closes (marksIn (entriesOf (l ∷ c) ++ F)) ≡ 1 + howMany closes (marksIn F)
+unfolding entriesOf
+clause-closes l [] F = count-first closes _ (marksIn F) ∙ rw (closed-last (l .plain))
+clause-closes l (m ∷ c) F = count-first closes _ (marksIn (entriesOf (m ∷ c) ++ F)) ∙ rw (open-other (l .plain)) (omega (arith, clause-closes m c F))
+
+table-closes : (T : List Clause) → All Full T → howMany closes (marksIn (flat T)) ≡ length T
+unfolding flat flatMap highs
+table-closes [] a = refl
+table-closes ([] ∷ T) a = absurd (a .0)
+table-closes ((l ∷ c) ∷ T) a = omega (arith, clause-closes l c (flat T), table-closes T (a .1))
+
+-- ---- the table of a formula
+
+ends-closed : (l m : List ℕ) → l ≡ m ++ 3 ∷ [] → endsClosed l ≡ true
+ends-closed l m e =
+    let n : length m ≡ length (m ++ 3 ∷ []) - 1 = omega (arith, length-append m (3 ∷ [])) in
+    rw e (rw (getD-at m 3 [] 0 _ n) (either (eqb (length (m ++ 3 ∷ [])) 0)))
+  where
+    either : (b : Bool) → b || true ≡ true
+    either true = refl
+    either false = refl
+
+module _ (C k : ℕ) (f : Tree Formula) where
+  abbrev F : List Entry
+  F = flat (clauseTable C k f)
+
+  abbrev most : ℕ
+  most = variablesOf C k (nodesOf f 0)
+
+  abbrev InRange : ℕ → Type 0
+  InRange v = isVariable most v ≡ true
+
+  variables-pass : Letters C f → allPass (isVariable most) (variablesIn F) ≡ true
+  variables-pass L =
+      all-pass (isVariable most) (variablesIn F) (mapped InRange (λ (e : Entry). e .variable) F (table-all _ (clauseTable C k f) (all-map (Sound (From 1 most)) _ named (clauseTable C k f) (table-sound C k f L))))
+    where
+      within : (v : ℕ) → From 1 most v → InRange v
+      within v w = rw (le-leb 1 v (w .0), le-leb v most (omega (arith, w .1)))
+
+      named : (c : Clause) → Sound (From 1 most) c → All (λ (e : Entry). InRange (e .variable)) (entriesOf c)
+      named c s = clause-names InRange c (all-map (From 1 most) InRange within (namesOf c) (s .named))
+
+  marks-pass : allPass isMark (marksIn F) ≡ true
+  marks-pass =
+      all-pass isMark (marksIn F) (mapped (λ m. isMark m ≡ true) (λ (e : Entry). e .mark) F (table-all _ (clauseTable C k f) (all-map Full _ (λ c w. all-map _ _ (λ (e : Entry) h. le-leb (e .mark) 3 h) (entriesOf c) (clause-marks c)) (clauseTable C k f) (full-table C k f))))
+
+  ends : endsClosed (marksIn F) ≡ true
+  unfolding clauseTable flat flatMap entriesOf
+  ends =
+      let S = clausesBy (definitionsOf C k (nodesOf f 0)) in
+      let root : List Clause = (plain (rootOf C k f) ∷ []) ∷ [] in
+      ends-closed (marksIn F) (marksIn (flat S)) (ap marksIn (flat-join S root) ∙ map-append (λ (e : Entry). e .mark) (flat S) (flat root))
+
+  module _ (L : Letters C f) (c : askChannels C ≡ Yes) (d : askSteps k ≡ Yes) (s : Sizes) (e : fiveOf s ≡ sizesOf C k f) where
+    at-size : (n : ℕ) → getD (fiveOf s) n 0 ≡ getD (sizesOf C k f) n 0
+    at-size n = ap (λ (l : List ℕ). getD l n 0) e
+
+    arrays-yes : askArrays (s .literals) (length (variablesIn F)) (length (marksIn F)) ≡ Yes
+    unfolding askArrays sizesOf
+    arrays-yes =
+        rw (
+          eq-eqb (length (variablesIn F)) (s .literals) (length-map F (λ (e : Entry). e .variable) ∙ sym (at-size 4)),
+          eq-eqb (length (marksIn F)) (s .literals) (length-map F (λ (e : Entry). e .mark) ∙ sym (at-size 4)),
+        )
+
+    limits-pass : inLimits s ≡ true
+    unfolding inLimits sizesOf
+    limits-pass = rw (at-size 0, at-size 1, c, d)
+
+    entries-yes : askEntries s (variablesIn F) (marksIn F) ≡ Yes
+    unfolding askEntries sizesOf
+    entries-yes = rw (limits-pass, at-size 2, variables-pass L, marks-pass)
+
+    closed-yes : askClosed (s .clauses) (marksIn F) ≡ Yes
+    unfolding askClosed sizesOf
+    closed-yes = rw (eq-eqb (s .clauses) (howMany closes (marksIn F)) (at-size 3 ∙ sym (table-closes (clauseTable C k f) (full-table C k f))), ends)
+
+    tree-writable : asked (arrayQuestions s (variablesIn F) (marksIn F)) No Yes ≡ Yes
+    tree-writable = rw (arrays-yes, entries-yes, closed-yes)
+
+-- the writer answers its 15, 16 and 17 with yes
+writable : (C k : ℕ) (t : List ℕ) (s : Sizes) → acceptOf C k t ≡ Yes → fiveOf s ≡ sizesIn C k t → asked (arrayQuestions s (variablesIn (placesIn C k t)) (marksIn (placesIn C k t))) No Yes ≡ Yes
+unfolding sizesIn placesIn acceptOf
+writable C k t s y e =
+    let a = accepted C k t y in
+    let q = all-yes (formulaQuestions C k t) y in
+    let p : placesIn C k t ≡ flat (clauseTable C k (a .root)) = ap (onTree (λ f. flat (clauseTable C k f))) (a .reads) in
+    ap (λ (F : List Entry). asked (arrayQuestions s (variablesIn F) (marksIn F)) No Yes) p
+    ∙ tree-writable C k (a .root) (a .letters) (q .0) (q .1 .0) s (e ∙ ap (onTree (sizesOf C k)) (a .reads))
+
+module _ (C k : ℕ) (t : List ℕ) (y : acceptOf C k t ≡ Yes) where
+  abbrev places : List Entry
+  places = placesIn C k t
+
+  -- the sizes of an accepted text are five, and the last is L
+  pub five-sizes : (length (sizesIn C k t) ≡ 5) × (fiveOf (sizesBy (sizesIn C k t)) ≡ sizesIn C k t) × (getD (sizesIn C k t) 4 0 ≡ length (placesIn C k t))
+  unfolding sizesIn placesIn sizesOf
+  five-sizes =
+      let P : List ℕ → ℕ → Type 0 = λ (s : List ℕ) (n : ℕ). (length s ≡ 5) × (fiveOf (sizesBy s) ≡ s) × (getD s 4 0 ≡ n) in
+      subst (λ (r : Read Formula). P (onTree (sizesOf C k) r) (length (onTree (λ f. flat (clauseTable C k f)) r))) (sym (accepted C k t y .reads)) (refl, refl, refl)
+
+  -- every table that the table's call writes is taken by the file's writer
+  pub table-written : (file : List ℕ) → fileLength (length (placesIn C k t)) ≤ length file
+      → fileWritten (sizesBy (sizesIn C k t)) (variablesIn (placesIn C k t)) (marksIn (placesIn C k t)) file
+      ≡ record { answer = Done; file = over (fileOf (sizesIn C k t) (variablesIn (placesIn C k t)) (marksIn (placesIn C k t))) file }
+  unfolding fileWritten askBytes
+  table-written file h =
+      let s = sizesBy (sizesIn C k t) in
+      let done : List ℕ → FileAfter = λ (five : List ℕ). record { answer = Done; file = over (fileOf five (variablesIn places) (marksIn places)) file } in
+      sym (last-yes (fileRefused file) (done (fiveOf s)) (arrayQuestions s (variablesIn places) (marksIn places)) (askBytes (s .literals) (length file)) (writable C k t s y (five-sizes .1)) (rw (le-leb (fileLength (s .literals)) (length file) (omega (arith, five-sizes .2)))))
+      ∙ ap done (five-sizes .1)

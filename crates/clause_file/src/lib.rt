@@ -1,0 +1,68 @@
+// The clause file: a table in memory to bytes, and bytes to a table in memory.
+mod numbers;
+mod questions;
+
+use clause_table::Sizes;
+use clause_table::Written;
+use refusal::Reply;
+ghost use mathlib.Core.Path.{_≡_};
+ghost use Prim.Native.Nat.{_≤_};
+ghost use lib.ListN.{length};
+ghost use lib.Seq.{sets};
+ghost use Rattle.clause_table.specs.Table.{fiveOf};
+ghost use Rattle.clause_file.specs.File.{fileOf, fileLength};
+ghost use Rattle.clause_file.specs.Calls.{fileWritten, fileRead};
+
+// How many bytes the file of so many literals has.
+pub fn file_length(literals: u32) -> usize
+    ensures { λ r. ⌜ r ≡ fileLength literals ⌝ }
+{
+    20 + 5 * (literals as usize)
+}
+
+// The bytes of a file, from the first place on.
+fn put_file(file: &mut [u8], s: Sizes, variables: &[u32], marks: &[u8])
+    requires { ⌜ length (fileOf (fiveOf s) (now variables) (now marks)) ≤ length (now file) ⌝ }
+    ensures { λ _. ⌜ now (file .exit) ≡ sets (now (file .entry)) 0 (fileOf (fiveOf s) (now (variables .entry)) (now (marks .entry))) ⌝ }
+{
+    let sizes = [s.channels, s.steps, s.variables, s.clauses, s.literals];
+    let at = numbers::put_numbers(file, 0, &sizes);
+    let end = numbers::put_numbers(file, at, variables);
+    literals::put_bytes(file, end, marks);
+}
+
+// Writes a table's file: questions 15 to 18.
+pub fn write(s: Sizes, variables: &[u32], marks: &[u8], file: &mut [u8]) -> Written
+    ensures { λ r. ⌜ record { answer = r; file = now (file .exit) } ≡ fileWritten s (now (variables .entry)) (now (marks .entry)) (now (file .entry)) ⌝ }
+{
+    if let Reply::No(r) = questions::ask_arrays(s, variables, marks) {
+        return Written::Refused(r);
+    }
+    if let Reply::No(r) = questions::ask_bytes(s.literals, file.len()) {
+        return Written::Refused(r);
+    }
+    put_file(file, s, variables, marks);
+    Written::Done
+}
+
+// Reads a file into a table: questions 15 to 18.
+pub fn read(file: &[u8], sizes: &mut [u32], variables: &mut [u32], marks: &mut [u8]) -> Written
+    ensures { λ r. ⌜ record { answer = r; sizes = now (sizes .exit); variables = now (variables .exit); marks = now (marks .exit) } ≡ fileRead (now (file .entry)) (now (sizes .entry)) (now (variables .entry)) (now (marks .entry)) ⌝ }
+{
+    if let Reply::No(r) = questions::ask_file(file) {
+        return Written::Refused(r);
+    }
+    let s = numbers::sizes_at(file);
+    if let Reply::No(r) = clause_table::ask_room(
+        s.literals,
+        sizes.len(),
+        variables.len(),
+        marks.len(),
+    ) {
+        return Written::Refused(r);
+    }
+    clause_table::put_sizes(sizes, s);
+    numbers::read_numbers(variables, file, s);
+    literals::put_bytes(marks, 0, numbers::marks_at(file, s));
+    Written::Done
+}

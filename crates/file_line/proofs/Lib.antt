@@ -1,0 +1,6 @@
+pub mod Items
+pub mod Laws
+pub mod Reading
+pub mod Output
+pub mod File
+pub mod Edges

@@ -1,0 +1,4 @@
+pub mod Line
+pub mod Output
+pub mod Edges
+pub mod Parts

@@ -1,0 +1,31 @@
+-- The call's answer is packed as its definition says;
+-- the arrays are left as the call leaves them.
+use Rattle.tuvenikar.specs.Answers.{packWritten}
+use Rattle.clause_table.specs.Table.{After}
+use mathlib.Core.Path.{ap, _∙_}
+use borrow.Author.Needs.{needs}
+use Rattle.tuvenikar.proofs.tuv_read_file.Statement.{statement}
+use Rattle.tuvenikar.proofs.tuv_read_file.Tie as tie
+
+read-requires : tie.Need-read-requires
+read-requires c κs = search needs
+
+pack-written-requires : tie.Need-pack-written-requires
+pack-written-requires c κs = search needs
+
+same-length : tie.Need-same-length
+same-length c = search needs
+
+same-length-2 : tie.Need-same-length-2
+same-length-2 c = search needs
+
+same-length-3 : tie.Need-same-length-3
+same-length-3 c = search needs
+
+returns : tie.Need-returns
+returns c = let e = c .before .before .before .before .before .before .before .read .ensures in (c .pack-written .ensures ∙ ap (λ (a : After). packWritten (a .answer)) e, (ap (λ (a : After). a .sizes) e, (ap (λ (a : After). a .variables) e, ap (λ (a : After). a .marks) e)))
+
+pub tuv-read-file-spec : {M : Type 1} → statement M
+tuv-read-file-spec =
+    tie.close
+    (tie.spec read-requires pack-written-requires same-length same-length-2 same-length-3 returns)
