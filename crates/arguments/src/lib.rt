@@ -74,14 +74,7 @@ pub fn first(bytes: &[u8], n: usize) -> &[u8]
 fn line_length(input: &[u8]) -> usize
     ensures { λ r. ⌜ r ≤ length (now (input .entry)) ⌝ }
 {
-    let mut n = 0;
-    while n < input.len() {
-        if input[n] == b'\n' {
-            return n;
-        }
-        n += 1;
-    }
-    n
+    bytes::scan::find(input, 0, input.len(), b'\n')
 }
 
 // The first line.

@@ -3,8 +3,6 @@
 // how many bytes it writes, and whether the rest of its array is as it was.
 use file_line::FILE_BYTES;
 use refusal::Reply;
-ghost use Prim.Native.Nat.{_≤_};
-ghost use lib.ListN.{length};
 
 fn put(bytes: &[u8]) {
     io::write_all(1, bytes);
@@ -152,31 +150,16 @@ fn file(label: &[u8], input: &[u8]) {
     }
 }
 
-// Where the part of a list that begins at a place ends: before a bar, or with the list.
-fn end_of(list: &[u8], from: usize) -> usize
-    requires { ⌜ from ≤ length (now list) ⌝ }
-    ensures { λ r. ⌜ (from ≤ r) × (r ≤ length (now (list .entry))) ⌝ }
-{
-    let mut i = from;
-    while i < list.len() {
-        if list[i] == b'|' {
-            return i;
-        }
-        i += 1;
-    }
-    i
-}
-
 // Labels and inputs in turn, each with a bar after it.
 fn files(list: &[u8]) {
     let mut at = 0;
     while at < list.len() {
-        let bar = end_of(list, at);
+        let bar = bytes::scan::find(list, at, list.len(), b'|');
         if bar == list.len() {
             return;
         }
         let first = bar + 1;
-        let end = end_of(list, first);
+        let end = bytes::scan::find(list, first, list.len(), b'|');
         file(&list[at..bar], &list[first..end]);
         if end == list.len() {
             return;

@@ -1,5 +1,5 @@
 -- Each turn ends beyond where it began, and within the list:
--- a label and an input, each found by `end_of`.
+-- a label and an input, each found by its bar.
 use Prim.Native.Nat.{_-_, _≤_}
 use lib.ListN.{length}
 use borrow.Author.Needs.{needs}
@@ -15,8 +15,8 @@ abbrev μ-loop : tie.MeasureT-loop
 loop-holds : tie.Need-loop-holds Inv-loop μ-loop
 loop-holds c = search needs
 
-end-of-requires : tie.Need-end-of-requires Inv-loop μ-loop
-end-of-requires c κs = search needs
+find-requires : tie.Need-find-requires Inv-loop μ-loop
+find-requires c κs = search needs
 
 returns : tie.Need-returns Inv-loop μ-loop
 returns c = search needs
@@ -24,8 +24,8 @@ returns c = search needs
 add-first : tie.Need-add-first Inv-loop μ-loop
 add-first c = search needs
 
-end-of-requires-2 : tie.Need-end-of-requires-2 Inv-loop μ-loop
-end-of-requires-2 c κs = search needs
+find-requires-2 : tie.Need-find-requires-2 Inv-loop μ-loop
+find-requires-2 c κs = search needs
 
 sub-file : tie.Need-sub-file Inv-loop μ-loop
 sub-file c = search needs
@@ -70,10 +70,10 @@ files-spec =
     Inv-loop
     μ-loop
     loop-holds
-    end-of-requires
+    find-requires
     returns
     add-first
-    end-of-requires-2
+    find-requires-2
     sub-file
     part-file-start
     part-file-end

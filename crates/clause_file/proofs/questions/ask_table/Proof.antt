@@ -1,5 +1,5 @@
--- Question 16 first; 17 where it is answered with yes.
---
+-- The first no answers: question 16 comes first,
+-- and 17 answers where it is answered with yes.
 use Rattle.formula.proofs.Asked.{asked-one}
 use mathlib.Core.Path.{sym, _∙_}
 --
