@@ -19,13 +19,17 @@ use Rattle.evaluator.specs.declared.Verdict.the-variants.{No, Yes, Refus
 unfoldable pub askRecording : ℕ → List ℕ → Reply
 askRecording k recording = question 10 0 (eqb (length recording) k)
 
--- question 11: is each below 2^C? Its place: first that isn't, the bytes being instant t and on.
+-- is each byte below a number? Its place: first that isn't, the bytes being those from place t on.
 unfoldable pub notBelow : ℕ → ℕ → List ℕ → List ℕ
-notBelow C t [] = []
-notBelow C t (b ∷ r) = cond (ltb b (2 ^ C)) [] (t ∷ []) ++ notBelow C (suc t) r
+notBelow most t [] = []
+notBelow most t (b ∷ r) = cond (ltb b most) [] (t ∷ []) ++ notBelow most (suc t) r
 
-unfoldable pub askBytes : ℕ → List ℕ → Reply
-askBytes C recording = atFirst 11 (notBelow C 0 recording)
+unfoldable pub askBelow : ℕ → ℕ → List ℕ → Reply
+askBelow number most bytes = atFirst number (notBelow most 0 bytes)
+
+-- question 11: is each below 2^C?
+abbrev pub askBytes : ℕ → List ℕ → Reply
+askBytes C recording = askBelow 11 (2 ^ C) recording
 
 -- "evaluation [asks] 1 to 7 and 9 to 11"
 abbrev pub recordingQuestions : ℕ → ℕ → ℕ → ℕ → List ℕ → List Reply

@@ -6,7 +6,7 @@ use refusal::Refusal;
 use refusal::Reply;
 use rows::NodeTable;
 ghost use mathlib.Core.Path.{_≡_};
-ghost use Prim.Native.Nat.{_+_, _≤_, _<_};
+ghost use Prim.Native.Nat.{_+_, _^_, _≤_, _<_};
 ghost use lib.ListN.{length};
 ghost use Rattle.interval.specs.Limits.{maxSteps};
 ghost use Rattle.grammar.specs.Limits.{maxChannels};
@@ -16,7 +16,7 @@ ghost use Rattle.nodes.specs.Parts.{Stands};
 ghost use Rattle.meaning.specs.Meaning.{stateAt, holds};
 ghost use Rattle.word.specs.Word.{WordOf};
 ghost use Rattle.table.specs.Table.{TableOf};
-ghost use Rattle.evaluator.specs.Evaluation.{askRecording, askBytes, recordingQuestions, verdictOf, evaluated};
+ghost use Rattle.evaluator.specs.Evaluation.{askRecording, askBelow, askBytes, recordingQuestions, verdictOf, evaluated};
 ghost use Rattle.refusal.specs.Asked.{asked};
 
 // What evaluation answers.
@@ -97,7 +97,7 @@ fn holds_on(table: NodeTable, recording: &[u8], i: usize, j: usize) -> bool
 }
 
 // Question 10.
-fn ask_recording(k: u32, recording: &[u8]) -> Reply
+pub fn ask_recording(k: u32, recording: &[u8]) -> Reply
     ensures { λ r. ⌜ r ≡ askRecording k (now (recording .entry)) ⌝ }
 {
     if recording.len() == k as usize {
@@ -109,19 +109,26 @@ fn ask_recording(k: u32, recording: &[u8]) -> Reply
     })
 }
 
-// Question 11.
-fn ask_bytes(c: u32, recording: &[u8]) -> Reply
-    requires { ⌜ (c ≤ maxChannels) × (length (now recording) ≤ maxSteps) ⌝ }
-    ensures { λ r. ⌜ r ≡ askBytes c (now (recording .entry)) ⌝ }
+// The question whether each byte is below a number.
+pub fn ask_below(number: u32, most: usize, bytes: &[u8]) -> Reply
+    requires { ⌜ length (now bytes) < 2 ^ 32 ⌝ }
+    ensures { λ r. ⌜ r ≡ askBelow number most (now (bytes .entry)) ⌝ }
 {
-    let above = 1usize << c;
-    for t in 0..recording.len() {
-        if scan::wide(recording[t]) >= above {
+    for t in 0..bytes.len() {
+        if scan::wide(bytes[t]) >= most {
             let place = t as u32;
-            return Reply::No(Refusal { number: 11, place });
+            return Reply::No(Refusal { number, place });
         }
     }
     Reply::Yes
+}
+
+// Question 11.
+pub fn ask_bytes(c: u32, recording: &[u8]) -> Reply
+    requires { ⌜ (c ≤ maxChannels) × (length (now recording) ≤ maxSteps) ⌝ }
+    ensures { λ r. ⌜ r ≡ askBytes c (now (recording .entry)) ⌝ }
+{
+    ask_below(11, 1usize << c, recording)
 }
 
 // Questions 9 to 11.

@@ -1,66 +1,21 @@
--- `ask_bytes` goes from the first instant on: as long as every byte is below 2^C, the question from here on has the answer of the whole,
--- and the first that is not gives its place (Questions.antt).
-use Rattle.evaluator.proofs.Questions.{shifted, AskedFrom, asked-first, asked-no, asked-next, asked-all}
-use borrow.Author.Needs.{needs}
+-- The bytes are asked whether they are below 1 shifted by C,
+-- which is 2^C (Questions.antt).
+use Rattle.evaluator.specs.Evaluation.{askBelow}
+use Rattle.evaluator.proofs.Questions.{shifted}
+use mathlib.Core.Path.{ap, _∙_}
 use native.Mathlib.Omega.{arith}
-use lib.ListN.{length}
-use Prim.Native.Nat.{_-_, _^_, _≤_}
-use mathlib.Core.Path.{_≡_, refl}
+use borrow.Author.Needs.{needs}
 use Rattle.evaluator.proofs.ask_bytes.Statement.{statement}
 use Rattle.evaluator.proofs.ask_bytes.Tie as tie
 
-abbrev Inv-loop : tie.InvT-loop
-Inv-loop c recording above t₀ t-end t = (t-end ≡ length recording) × (t ≤ length recording) × (above ≡ 2 ^ c) × AskedFrom c recording t
+shl-ask-below : tie.Need-shl-ask-below
+shl-ask-below c = search needs
 
-abbrev μ-loop : tie.MeasureT-loop
-μ-loop c recording above t₀ t-end t = length recording - t
+ask-below-requires : tie.Need-ask-below-requires
+ask-below-requires c κs = search needs
 
-shl-above : tie.Need-shl-above Inv-loop μ-loop
-shl-above c = search needs
-
-loop-holds : tie.Need-loop-holds Inv-loop μ-loop
-loop-holds c = (refl, omega arith, shifted 64 (c .before .args .c) (omega arith), asked-first _ _)
-
-shared-slice-read-wide : tie.Need-shared-slice-read-wide Inv-loop μ-loop
-shared-slice-read-wide c = search needs
-
-wide-requires : tie.Need-wide-requires Inv-loop μ-loop
-wide-requires c κs = search needs
-
-cast-place : tie.Need-cast-place Inv-loop μ-loop
-cast-place c = search needs
-
-returns : tie.Need-returns Inv-loop μ-loop
-returns c = let l = c .before .before .before .before .loop in
-    asked-no _ _ (l .t) (search needs) (omega (arith, l .inv .2, c .before .wide .ensures, c .if1 .taken)) (l .inv .3)
-
-add-t : tie.Need-add-t Inv-loop μ-loop
-add-t c = search needs
-
-loop-less : tie.Need-loop-less Inv-loop μ-loop
-loop-less c = search needs
-
-loop-again : tie.Need-loop-again Inv-loop μ-loop
-loop-again c = let l = c .before .before .before .before .loop in
-    (refl, omega arith, l .inv .2, asked-next _ _ (l .t) (search needs) (omega (arith, l .inv .2, c .before .wide .ensures, c .if1 .left)) (l .inv .3))
-
-returns-2 : tie.Need-returns-2 Inv-loop μ-loop
-returns-2 c = let l = c .before .loop in
-    asked-all _ _ (l .t) (omega (arith, l .inv .0, c .loop-test .left)) (l .inv .3)
+returns : tie.Need-returns
+returns c = c .ask-below .ensures ∙ ap (λ m. askBelow 11 m (c .before .before .args .recording .now)) (shifted 64 (c .before .before .args .c) (omega arith))
 
 pub ask-bytes-spec : {M : Type 1} → statement M
-ask-bytes-spec =
-    tie.close
-    (tie.spec
-    Inv-loop
-    μ-loop
-    shl-above
-    loop-holds
-    shared-slice-read-wide
-    wide-requires
-    cast-place
-    returns
-    add-t
-    loop-less
-    loop-again
-    returns-2)
+ask-bytes-spec = tie.close (tie.spec shl-ask-below ask-below-requires returns)

@@ -1,0 +1,62 @@
+-- Document 01, "Variables": an assignment, the one that extends a recording, block by block, and the recording read from an assignment.
+use mathlib.Core.Bool.{Bool, _&&_}
+use mathlib.Core.List.{List, _++_, map, flatMap}
+use Prim.Native.Nat.{ℕ, suc, _-_, _*_, _^_}
+use lib.Dec.{eqb}
+use lib.ListN.{getD}
+use Rattle.interval.specs.Listing.{rows, tab, sum}
+use Rattle.interval.specs.Places.{intervalsOf, triplesOf}
+use Rattle.interval.specs.declared.Interval.{Interval}
+use Rattle.interval.specs.declared.Triple.{Triple}
+use Rattle.grammar.specs.Trees.{and, or, chop, Tree, constant, letter, negation, pair, duration, throughout}
+use Rattle.grammar.specs.declared.Sort.{Sort}
+use Rattle.grammar.specs.declared.Sort.the-variants.{State, Formula}
+use Rattle.formula.specs.Nodes.{Node}
+use Rattle.meaning.specs.Meaning.{bit, channelAt, Point, truth}
+use Rattle.circuit.specs.Gates.{Assignment}
+use Rattle.circuit.specs.Circuit.{channelOf}
+
+-- "one byte a variable, 0 or 1": variable v is byte v − 1
+unfoldable pub valueIn : List ℕ → Assignment
+valueIn A v = eqb (getD A (v - 1) 0) 1
+
+-- "Channel c at instant t is variable 1 + t·C + c."
+unfoldable pub channelValues : ℕ → ℕ → List ℕ → List ℕ
+channelValues C k recording = rows k (λ t. tab C (λ c. bit (channelAt recording c t)))
+
+-- a truth "an instant", or on each interval, in order
+abbrev pub truthValues : (s : Sort) → ℕ → (Point s → Bool) → List ℕ
+truthValues State k f = tab k (λ t. bit (f t))
+truthValues Formula k f = map (λ (v : Interval). bit (f v)) (intervalsOf k)
+
+-- "one a triple": P on [i, m] and Q on [m, j]
+abbrev pub cuts : (Interval → Bool) → (Interval → Bool) → Triple → Bool
+cuts f g t = f (record { i = t .i; j = t .m }) && g (record { i = t .m; j = t .j })
+
+abbrev pub cutValues : ℕ → (Interval → Bool) → (Interval → Bool) → List ℕ
+cutValues k f g = map (λ (t : Triple). bit (cuts f g t)) (triplesOf k)
+
+-- the values of a node's own block: "S node: k variables, one an instant"; "levels 0 to n, each of I variables"; "Chop: I variables,
+-- then J, one a triple"; "Any other P: I variables"
+unfoldable pub blockValues : {s : Sort} → ℕ → List ℕ → Tree s → List ℕ
+blockValues {s} k recording (constant v) = truthValues s k (truth {s = s} recording (constant v))
+blockValues k recording (letter c) = truthValues State k (truth recording (letter c))
+blockValues {s} k recording (negation x) = truthValues s k (truth recording (negation x))
+blockValues {s} k recording (pair and x y) = truthValues s k (truth recording (pair and x y))
+blockValues {s} k recording (pair or x y) = truthValues s k (truth recording (pair or x y))
+blockValues k recording (pair chop x y) = truthValues Formula k (truth recording (pair chop x y)) ++ cutValues k (truth recording x) (truth recording y)
+blockValues k recording (duration x n) = rows (suc n) (λ c. truthValues Formula k (truth recording (duration x c)))
+blockValues k recording (throughout x) = truthValues Formula k (truth recording (throughout x))
+
+-- "each node, in number order, has a block"
+unfoldable pub nodeValues : ℕ → List ℕ → List Node → List ℕ
+nodeValues k recording l = flatMap (λ (w : Node). blockValues k recording (w .part)) l
+
+-- the assignment that extends a recording: the channels, then the nodes' blocks. That it is "the one [..] that extends a recording and
+-- meets all clauses but the last" are the laws `extension-meets` and `extension-only`.
+unfoldable pub extensionOf : ℕ → ℕ → List ℕ → List Node → List ℕ
+extensionOf C k recording l = channelValues C k recording ++ nodeValues k recording l
+
+-- "The recording read from its channel variables": byte t has bit c where channel c is high at instant t
+unfoldable pub recordingOf : ℕ → ℕ → List ℕ → List ℕ
+recordingOf C k A = tab k (λ t. sum (λ c. bit (valueIn A (channelOf C t c)) * 2 ^ c) C)

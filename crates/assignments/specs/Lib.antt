@@ -1,0 +1,2 @@
+pub mod Extension
+pub mod Calls

@@ -1,0 +1,7 @@
+// What is answered to a proposed assignment.
+use refusal::Refusal;
+
+pub enum Checked {
+    Accepted,
+    Refused(Refusal),
+}
