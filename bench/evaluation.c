@@ -4,6 +4,7 @@
 #include "plain/plain.h"
 #include "timing.h"
 #include "tuvenikar.h"
+#include "waves.h"
 
 #include <stdbool.h>
 #include <stdio.h>
@@ -60,28 +61,10 @@ static uint64_t ask(const struct engine *e, const struct line *line, uint32_t r)
     return evaluate(e, line, r, 0, line->k);
 }
 
-static uint32_t random_byte(void)
-{
-    static uint64_t state = 0x9e3779b97f4a7c15u;
-    state ^= state << 13;
-    state ^= state >> 7;
-    state ^= state << 17;
-    return state >> 32 & 0xff;
-}
-
-/* From noise to slow square waves: a channel changes with probability 1/2, 1/4, 1/8 or 1/16 an instant. */
 static void record(void)
 {
-    for (uint32_t r = 0; r < ASKED; r++) {
-        uint32_t levels = random_byte();
-        for (uint32_t t = 0; t < STEPS; t++) {
-            uint32_t changes = random_byte();
-            for (uint32_t n = 0; n < r % 4; n++)
-                changes &= random_byte();
-            levels ^= changes;
-            recordings[r][t] = (uint8_t)levels;
-        }
-    }
+    for (uint32_t r = 0; r < ASKED; r++)
+        draw_waves(recordings[r], STEPS, r % 4);
 }
 
 static void agree(const struct line *line, uint64_t engine, uint64_t plain)

@@ -1,6 +1,6 @@
 /* Times the engine's clause tables beside memcpy of the same bytes and beside the plain writer, and prints one table. Before a
  * line is timed, engine and plain writer must give the same sizes and literals; the status is 1 where they do not. */
-#include "exercises.h"
+#include "lines.h"
 #include "plain/plain.h"
 #include "timing.h"
 #include "tuvenikar.h"
@@ -14,29 +14,6 @@ enum { SIZES = 5, MOST_LITERALS = 5326414 /* of any table */, MANY_LITERALS = 50
 enum { MEMCPY = PLAIN + 1, CONTESTANTS };
 enum { WRITTEN = 66, UNTOUCHED = 0xa5 };
 static const double GOAL_BESIDE_MEMCPY = 2.5, GOAL_BESIDE_PLAIN = 1.0;
-
-/* A line of the table. */
-struct line {
-    struct exercise exercise;
-    uint32_t c, k;
-};
-
-#define THIRTY_ONE(s) NINEFOLD(s s s) s s s s
-
-static const struct line LINES[] = {
-    {{"duration", "#a>=1"}, 1, 1},
-    {{"duration", "#a>=1"}, 1, 8},
-    {{"true", "T"}, 1, 32},
-    {{"throughout", "[a]"}, 1, 32},
-    {{"long state", "[" NINEFOLD("(a|!(b&!") "c" NINEFOLD("))") "]"}, 3, 32},
-    {{"a then b", "(#a>=2;[b])"}, 2, 8},
-    {{"a then b", "(#a>=2;[b])"}, 2, 32},
-    {{"deep not", TWENTY_ONE("!") TWENTY_ONE("!") TWENTY_ONE("!") "T"}, 1, 32},
-    {{"wide and, or", "(((#a>=1&#b>=2)|(#c>=3&#d>=4))&((#e>=5&#f>=6)|([g]&[h])))"}, 8, 32},
-    {{"64 nodes", TWENTY_ONE("(#a>=1;") "T" TWENTY_ONE(")")}, 8, 32},
-    {{"chops alone", THIRTY_ONE("(T;") "T" THIRTY_ONE(")")}, 8, 32},
-    {{"largest", TWENTY_ONE("(#a>=32;") "T" TWENTY_ONE(")")}, 8, 32},
-};
 
 struct table {
     uint32_t sizes[SIZES], variables[MOST_LITERALS];

@@ -39,26 +39,29 @@ static inline uint32_t tuv_code(uint64_t answer) { return (uint32_t)(answer & 0x
 static inline uint32_t tuv_value(uint64_t answer) { return (uint32_t)(answer >> 32); }
 
 /* A refusal. A call asks its questions in this order, and the first that is answered with no gives its number and a place:
- * a byte of the text or of the recording, counted from 0; 0 where the question names none. */
+ * a byte of the text, of the recording or of the assignment, or a clause, counted from 0; 0 where the question names none. */
 enum tuv_refusal {
-    TUV_CHANNELS = 1,          /* Is c from 1 to 8? */
-    TUV_STEPS = 2,             /* Is k at most 32? */
-    TUV_TEXT_LENGTH = 3,       /* Is the text 1 to 255 bytes? */
-    TUV_GRAMMAR = 4,           /* Does it read by the grammar, channels a to h, length, n and nodes unbounded?
-                                  Place: the least p such that no grammatical text begins with its first p + 1 bytes,
-                                  or its length if it only ends early. */
-    TUV_LETTER = 5,            /* Is each letter among the first c? Place: the first that isn't. */
-    TUV_NUMBER = 6,            /* Is each n at most 32? Place: the first digit of the first that isn't. */
-    TUV_NODES = 7,             /* At most 64 nodes? Place: the first byte of the 65th. */
-    TUV_NODE = 8,              /* Is the node number from 1 to the node count? */
-    TUV_INTERVAL = 9,          /* Is i <= j <= k? */
-    TUV_RECORDING_LENGTH = 10, /* Has the recording k bytes? */
-    TUV_RECORDING = 11,        /* Is each of its bytes below 2 to the power c? Place: the first that isn't. */
-    TUV_FILE_LENGTH = 15,      /* Reader: has the file 20 bytes or more, and exactly 20 + 5l? Writer: are both arrays exactly l
-                                  long? */
-    TUV_FILE_NUMBERS = 16,     /* Is c from 1 to 8 and k at most 32, each variable from 1 to v, each mark at most 3? */
-    TUV_FILE_CLAUSES = 17,     /* Is m the number of closing marks, and the final literal (if l > 0) closing? */
-    TUV_ROOM = 18              /* Is every array to be written long enough? */
+    TUV_CHANNELS = 1,           /* Is c from 1 to 8? */
+    TUV_STEPS = 2,              /* Is k at most 32? */
+    TUV_TEXT_LENGTH = 3,        /* Is the text 1 to 255 bytes? */
+    TUV_GRAMMAR = 4,            /* Does it read by the grammar, channels a to h, length, n and nodes unbounded?
+                                   Place: the least p such that no grammatical text begins with its first p + 1 bytes,
+                                   or its length if it only ends early. */
+    TUV_LETTER = 5,             /* Is each letter among the first c? Place: the first that isn't. */
+    TUV_NUMBER = 6,             /* Is each n at most 32? Place: the first digit of the first that isn't. */
+    TUV_NODES = 7,              /* At most 64 nodes? Place: the first byte of the 65th. */
+    TUV_NODE = 8,               /* Is the node number from 1 to the node count? */
+    TUV_INTERVAL = 9,           /* Is i <= j <= k? */
+    TUV_RECORDING_LENGTH = 10,  /* Has the recording k bytes? */
+    TUV_RECORDING = 11,         /* Is each of its bytes below 2 to the power c? Place: the first that isn't. */
+    TUV_ASSIGNMENT_LENGTH = 12, /* Has the assignment v bytes? */
+    TUV_ASSIGNMENT = 13,        /* Is each of its bytes 0 or 1? Place: the first that isn't. */
+    TUV_CLAUSE = 14,            /* Is every clause met? Place: the first that isn't. */
+    TUV_FILE_LENGTH = 15,       /* Reader: has the file 20 bytes or more, and exactly 20 + 5l? Writer: are both arrays exactly l
+                                   long? */
+    TUV_FILE_NUMBERS = 16,      /* Is c from 1 to 8 and k at most 32, each variable from 1 to v, each mark at most 3? */
+    TUV_FILE_CLAUSES = 17,      /* Is m the number of closing marks, and the final literal (if l > 0) closing? */
+    TUV_ROOM = 18               /* Is every array to be written long enough? */
 };
 
 /* Any other answer. */
@@ -66,6 +69,7 @@ enum tuv_answer {
     TUV_NO = 64,       /* the formula does not hold; value 0 */
     TUV_YES = 65,      /* it holds; value 0 */
     TUV_WRITTEN = 66,  /* what was asked for is written; value 0 */
+    TUV_ACCEPTED = 67, /* the assignment meets every clause; value 0 */
     TUV_NODE_TEXT = 71 /* where a node's own text is; value first byte + 256 * length */
 };
 
@@ -129,6 +133,29 @@ enum tuv_most {
  */
 uint64_t tuv_table(const uint8_t *text, size_t text_length, uint32_t c, uint32_t k, uint32_t *sizes, size_t sizes_length,
                    uint32_t *variables, size_t variables_length, uint8_t *marks, size_t marks_length);
+
+/* Which values of a table's variables go with a recording? (One assignment extends the recording and meets all clauses but the
+ * last. It meets the last exactly when the formula holds on the whole of the recording.)
+ * Lent:    the text; the recording, k bytes as for tuv_evaluate; the assignment, a place for each variable. TUV_MOST_VARIABLES
+ *          places are enough for any formula; a call for which there are too few does not say how many it needs.
+ * Written: on TUV_WRITTEN the v bytes of the assignment, also where the formula does not hold: byte x is variable x + 1, 0 or 1.
+ *          For `#a>=1`, c 1, k 1: 0, 1, 1, 1, 0, 0, 0, 0 for recording 0 and 1, 1, 1, 1, 0, 1, 0, 1 for recording 1.
+ * Answers: TUV_WRITTEN, a refusal 1 to 7, 10, 11 or 18.
+ * Stack:   TO BE MEASURED
+ */
+uint64_t tuv_extend(const uint8_t *text, size_t text_length, uint32_t c, uint32_t k, const uint8_t *recording,
+                    size_t recording_length, uint8_t *assignment, size_t assignment_length);
+
+/* Does an assignment meet every clause of a formula's table, whoever proposes it?
+ * Lent:    the text; the assignment, exactly v bytes as tuv_extend writes them (of a longer array, lend the first v); the
+ *          recording, k places.
+ * Written: on TUV_ACCEPTED the k bytes of the recording that the channels' variables are; the formula holds on the whole of it.
+ * Answers: TUV_ACCEPTED, a refusal 1 to 7, 12 to 14 or 18. What tuv_extend wrote is accepted where the formula holds, but for
+ *          want of room (18); where it does not, it is refused for the last clause (TUV_CLAUSE at m - 1).
+ * Stack:   TO BE MEASURED
+ */
+uint64_t tuv_check(const uint8_t *text, size_t text_length, uint32_t c, uint32_t k, const uint8_t *assignment,
+                   size_t assignment_length, uint8_t *recording, size_t recording_length);
 
 /* How many bytes the file of a table with l literals has: in 64 bits, since for some l it does not fit 32. */
 #define TUV_FILE_BYTES(l) (20 + 5 * (uint64_t)(l))

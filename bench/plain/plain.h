@@ -1,5 +1,5 @@
 /* The straightforward engine that the benchmarks set beside ours. Its calls take and answer what the engine's do, but that a
- * refusal's place is always 0. */
+ * refusal's place is always 0, unless it is an unmet clause. */
 #ifndef PLAIN_H
 #define PLAIN_H
 
@@ -11,5 +11,9 @@ uint64_t plain_evaluate(const uint8_t *text, size_t text_length, uint32_t c, uin
 uint64_t plain_node_text(const uint8_t *text, size_t text_length, uint32_t c, uint32_t k, uint32_t node);
 uint64_t plain_table(const uint8_t *text, size_t text_length, uint32_t c, uint32_t k, uint32_t *sizes, size_t sizes_length,
                      uint32_t *variables, size_t variables_length, uint8_t *marks, size_t marks_length);
+uint64_t plain_extend(const uint8_t *text, size_t text_length, uint32_t c, uint32_t k, const uint8_t *recording,
+                      size_t recording_length, uint8_t *assignment, size_t assignment_length);
+uint64_t plain_check(const uint8_t *text, size_t text_length, uint32_t c, uint32_t k, const uint8_t *assignment,
+                     size_t assignment_length, uint8_t *recording, size_t recording_length);
 
 #endif

@@ -1,26 +1,13 @@
 /* What a competent engineer would write in an afternoon from document 01: a writer of clause tables that goes by the kind of
  * node and stores one literal after another, in loops over i, j and m. */
+#include "layout.h"
 #include "plain.h"
-#include "reader.h"
 
 enum { SHORT = 18, WRITTEN = 66 };
 enum { NEGATED = 0, PLAIN = 1, LAST = 2 };
 
 struct sizes {
-    uint32_t variables, clauses, literals;
-};
-
-/* A node's first variable, and the first of those that say whether it holds. */
-struct block {
-    uint32_t first, truth;
-};
-
-/* [i, j] stands at row[i] + j. */
-struct formula {
-    struct node nodes[NODES];
-    bool is_state[NODES];
-    struct block blocks[NODES];
-    uint32_t count, c, k, intervals, triples, row[STEPS + 1];
+    uint32_t clauses, literals;
 };
 
 struct table {
@@ -28,59 +15,12 @@ struct table {
     uint8_t *marks;
 };
 
-static uint32_t parts_of(const struct node *node)
-{
-    switch (node->kind) {
-    case ALWAYS:
-    case NEVER:
-    case LETTER:
-        return 0;
-    case AND:
-    case OR:
-    case CHOP:
-        return 2;
-    default:
-        return 1;
-    }
-}
-
-static void sort(struct formula *f)
-{
-    f->is_state[0] = false;
-    for (uint32_t x = 0; x < f->count; x++) {
-        const struct node *node = &f->nodes[x];
-        bool is_state = f->is_state[x] || node->kind == DURATION || node->kind == THROUGHOUT;
-        if (parts_of(node) >= 1)
-            f->is_state[left_of(x)] = is_state;
-        if (parts_of(node) == 2)
-            f->is_state[right_of(f->nodes, x)] = is_state;
-    }
-}
-
-/* Gives the number of variables. */
-static uint32_t lay_out(struct formula *f)
-{
-    uint32_t next = 1 + f->k * f->c;
-    f->intervals = (f->k + 1) * (f->k + 2) / 2;
-    f->triples = f->intervals * (f->k + 3) / 3;
-    f->row[0] = 0;
-    for (uint32_t i = 1; i <= f->k; i++)
-        f->row[i] = f->row[i - 1] + f->k + 1 - i;
-    for (uint32_t x = 0; x < f->count; x++) {
-        const struct node *node = &f->nodes[x];
-        uint32_t levels = node->kind == DURATION ? node->number : 0;
-        f->blocks[x] = (struct block){next, next + levels * f->intervals};
-        next = f->blocks[x].truth + (f->is_state[x] ? f->k : f->intervals) + (node->kind == CHOP ? f->triples : 0);
-    }
-    return next - 1;
-}
-
-static struct sizes sizes_of(const struct formula *f, uint32_t variables)
+static struct sizes sizes_of(const struct formula *f)
 {
     uint32_t empty = f->k + 1, longer = f->intervals - empty;
-    struct sizes s = {variables, 1, 1};
+    struct sizes s = {1, 1};
     for (uint32_t x = 0; x < f->count; x++) {
-        uint32_t places = f->is_state[x] ? f->k : f->intervals, n = f->nodes[x].number;
+        uint32_t places = places_of(f, x), n = f->nodes[x].number;
         switch (f->nodes[x].kind) {
         case ALWAYS:
         case NEVER:
@@ -221,11 +161,7 @@ static size_t put_chop(struct table t, size_t at, const struct formula *f, uint3
 static size_t put_node(struct table t, size_t at, const struct formula *f, uint32_t x)
 {
     const struct node *node = &f->nodes[x];
-    uint32_t v = f->blocks[x].first, left = 0, right = 0, places = f->is_state[x] ? f->k : f->intervals;
-    if (parts_of(node) >= 1)
-        left = f->blocks[left_of(x)].truth;
-    if (parts_of(node) == 2)
-        right = f->blocks[right_of(f->nodes, x)].truth;
+    uint32_t v = f->blocks[x].first, left = left_truth(f, x), right = right_truth(f, x), places = places_of(f, x);
     switch (node->kind) {
     case ALWAYS:
         for (uint32_t place = 0; place < places; place++)
@@ -267,13 +203,10 @@ uint64_t plain_table(const uint8_t *text, size_t text_length, uint32_t c, uint32
     struct sizes s;
     struct table t = {variables, marks};
     size_t at = 0;
-    uint32_t refusal = read_formula(text, text_length, c, k, f.nodes, &f.count);
+    uint32_t refusal = lay_out(text, text_length, c, k, &f);
     if (refusal != ACCEPTED)
         return refusal;
-    f.c = c;
-    f.k = k;
-    sort(&f);
-    s = sizes_of(&f, lay_out(&f));
+    s = sizes_of(&f);
     if (sizes_length < 5 || variables_length < s.literals || marks_length < s.literals)
         return SHORT;
     for (uint32_t x = 0; x < f.count; x++)
@@ -281,7 +214,7 @@ uint64_t plain_table(const uint8_t *text, size_t text_length, uint32_t c, uint32
     put_one(t, at, f.blocks[0].truth + k, PLAIN);
     sizes[0] = c;
     sizes[1] = k;
-    sizes[2] = s.variables;
+    sizes[2] = f.variables;
     sizes[3] = s.clauses;
     sizes[4] = s.literals;
     return WRITTEN;

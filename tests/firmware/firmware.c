@@ -6,7 +6,8 @@
 #include <stdlib.h>
 #include <string.h>
 
-_Static_assert(TUV_NO == 64 && TUV_YES == 65 && TUV_WRITTEN == 66 && TUV_NODE_TEXT == 71 && TUV_FILE_LENGTH == 15 &&
+_Static_assert(TUV_NO == 64 && TUV_YES == 65 && TUV_WRITTEN == 66 && TUV_ACCEPTED == 67 && TUV_NODE_TEXT == 71 &&
+                   TUV_ASSIGNMENT_LENGTH == 12 && TUV_ASSIGNMENT == 13 && TUV_CLAUSE == 14 && TUV_FILE_LENGTH == 15 &&
                    TUV_FILE_NUMBERS == 16 && TUV_FILE_CLAUSES == 17 && TUV_ROOM == 18 && TUV_SIZES == 5 && TUV_PLAIN == 1 &&
                    TUV_CLOSING == 2,
                "the numbers that firmware in the field is built with");
@@ -133,6 +134,37 @@ static void refused_table(const char *text, uint32_t c, uint32_t k, size_t sizes
     table(text, c, k, sizes, variables, marks, code, value, &nothing);
 }
 
+/* A recording or an assignment. */
+struct bytes {
+    size_t length;
+    uint8_t bytes[12];
+};
+
+/* Of `#a>=1`, c 1, k 1: channel a at its one instant; level 0 on the three intervals; level 1 on them; the node `a`. */
+static const struct bytes low = {1, {0}}, low_extended = {8, {0, 1, 1, 1, 0, 0, 0, 0}};
+static const struct bytes high = {1, {1}}, high_extended = {8, {1, 1, 1, 1, 0, 1, 0, 1}};
+static const struct bytes no_bytes;
+
+/* Either call between recordings and assignments, to an array that has so many places. */
+typedef uint64_t bytes_to_bytes(const uint8_t *, size_t, uint32_t, uint32_t, const uint8_t *, size_t, uint8_t *, size_t);
+
+static void convert(bytes_to_bytes *call, const char *text, uint32_t c, uint32_t k, const struct bytes *bytes, size_t room,
+                    uint32_t code, uint32_t value, const struct bytes *wanted)
+{
+    trying(call == tuv_extend ? "extension" : "check", text);
+    uint8_t *lent_text = lend(text, strlen(text)), *lent = lend(bytes->bytes, bytes->length), *output = lend_output(room);
+    uint64_t answer = call(lent_text, strlen(text), c, k, lent, bytes->length, output, room);
+    int same = unchanged(lent_text, text, strlen(text)) & unchanged(lent, bytes->bytes, bytes->length) &
+               written(output, wanted->bytes, wanted->length, room);
+    check(text, answer, same, code, value);
+}
+
+static void refused_bytes(bytes_to_bytes *call, const char *text, uint32_t c, uint32_t k, const struct bytes *bytes, size_t room,
+                          uint32_t code, uint32_t value)
+{
+    convert(call, text, c, k, bytes, room, code, value, &no_bytes);
+}
+
 /* A text that is refused, or not, before anything else is asked: by all calls alike. */
 static void text_alone(const char *text, uint32_t c, uint32_t k, uint32_t code, uint32_t value)
 {
@@ -144,6 +176,10 @@ static void text_alone(const char *text, uint32_t c, uint32_t k, uint32_t code, 
         evaluate(text, c, k, 1, 0, "\377", 1, code, value);
         refused_table(text, c, k, 0, 0, 0, code, value);
         refused_table(text, c, k, TUV_SIZES, 50, 50, code, value);
+        refused_bytes(tuv_extend, text, c, k, &low_extended, 0, code, value);
+        refused_bytes(tuv_extend, text, c, k, &no_bytes, 50, code, value);
+        refused_bytes(tuv_check, text, c, k, &low_extended, 0, code, value);
+        refused_bytes(tuv_check, text, c, k, &no_bytes, 50, code, value);
     }
 }
 
@@ -172,15 +208,15 @@ static void exercise(void)
     count(node == 6 && tuv_code(answer) == 8, "there are five parts");
 }
 
-/* Whether the values of eight variables, from 1, meet every clause of a table, as a reader of it goes about it. */
-static int meets(const uint32_t *sizes, const uint32_t *variables, const uint8_t *marks, const uint8_t values[9])
+/* Whether an assignment of eight variables meets every clause of a table, as a reader of it goes about it. */
+static int meets(const uint32_t *sizes, const uint32_t *variables, const uint8_t *marks, const struct bytes *assignment)
 {
     uint32_t clauses = 0;
     int met = 0, all = 1;
     for (uint32_t x = 0; x < sizes[TUV_L]; x++) {
-        if (variables[x] > 8)
+        if (variables[x] < 1 || variables[x] > 8)
             return 0;
-        met |= values[variables[x]] == (marks[x] & TUV_PLAIN);
+        met |= assignment->bytes[variables[x] - 1] == (marks[x] & TUV_PLAIN);
         if (marks[x] & TUV_CLOSING) {
             all &= met;
             met = 0;
@@ -196,8 +232,6 @@ static void tables_in_turn(void)
     enum { ROOM = 64 };
     static uint32_t sizes[TUV_SIZES], variables[ROOM];
     static uint8_t marks[ROOM];
-    /* By variable, from 1: channel a at its one instant; level 0 on the three intervals; level 1 on them; the node `a`. */
-    static const uint8_t high[] = {0, 1, 1, 1, 1, 0, 1, 0, 1}, low[] = {0, 0, 1, 1, 1, 0, 0, 0, 0};
     const uint8_t *long_one = (const uint8_t *)"(#a>=1;!#a>=1)", *short_one = (const uint8_t *)"#a>=1";
 
     trying("tables", "#a>=1");
@@ -207,11 +241,11 @@ static void tables_in_turn(void)
         count(is_so, "a table is written, whatever came before");
         if (!is_so)
             return;
-        count(meets(sizes, variables, marks, high), "a high recording meets its clauses");
-        count(!meets(sizes, variables, marks, low), "a low recording does not");
+        count(meets(sizes, variables, marks, &high_extended), "a high recording meets its clauses");
+        count(!meets(sizes, variables, marks, &low_extended), "a low recording does not");
         answer = tuv_table(long_one, 14, 1, 1, sizes, TUV_SIZES, variables, ROOM, marks, ROOM);
         count(answer == TUV_ROOM && sizes[TUV_L] == 21, "a longer table has no room, and the other still stands");
-        count(meets(sizes, variables, marks, high), "with every literal");
+        count(meets(sizes, variables, marks, &high_extended), "with every literal");
     }
 }
 
@@ -229,12 +263,71 @@ static void tables(void)
     refused_table("#a>=1", 1, 1, 0, 0, 0, TUV_ROOM, 0);
 }
 
+static void extensions(void)
+{
+    static const struct bytes too_many = {2, {0, 2}}, too_high = {2, {1, 2}};
+
+    convert(tuv_extend, "#a>=1", 1, 1, &low, 8, TUV_WRITTEN, 0, &low_extended);
+    convert(tuv_extend, "#a>=1", 1, 1, &high, 8, TUV_WRITTEN, 0, &high_extended);
+    convert(tuv_extend, "#a>=1", 1, 1, &high, 50, TUV_WRITTEN, 0, &high_extended);
+    convert(tuv_extend, "T", 1, 0, &no_bytes, 1, TUV_WRITTEN, 0, &high);
+    convert(tuv_extend, "F", 1, 0, &no_bytes, 1, TUV_WRITTEN, 0, &low);
+    refused_bytes(tuv_extend, "#a>=1", 1, 1, &no_bytes, 8, TUV_RECORDING_LENGTH, 0);
+    refused_bytes(tuv_extend, "#a>=1", 1, 1, &too_many, 8, TUV_RECORDING_LENGTH, 0);
+    refused_bytes(tuv_extend, "#a>=1", 1, 2, &too_high, 50, TUV_RECORDING, 1);
+    refused_bytes(tuv_extend, "#a>=1", 1, 1, &high, 7, TUV_ROOM, 0);
+    refused_bytes(tuv_extend, "#a>=1", 1, 1, &high, 0, TUV_ROOM, 0);
+}
+
+static void checks(void)
+{
+    static const struct bytes too_few = {7, {1, 1, 1, 1, 0, 1, 0}}, too_many = {9, {1, 1, 1, 1, 0, 1, 0, 1, 1}};
+    static const struct bytes two = {8, {1, 1, 1, 1, 0, 1, 0, 2}}, most = {8, {255, 1, 1, 1, 0, 1, 0, 255}};
+    static const struct bytes turned = {8, {1, 1, 1, 1, 0, 1, 0, 0}};
+
+    convert(tuv_check, "#a>=1", 1, 1, &high_extended, 1, TUV_ACCEPTED, 0, &high);
+    convert(tuv_check, "#a>=1", 1, 1, &high_extended, 50, TUV_ACCEPTED, 0, &high);
+    convert(tuv_check, "T", 1, 0, &high, 0, TUV_ACCEPTED, 0, &no_bytes);
+    refused_bytes(tuv_check, "T", 1, 0, &low, 0, TUV_CLAUSE, 0);
+    refused_bytes(tuv_check, "F", 1, 0, &low, 0, TUV_CLAUSE, 1);
+    refused_bytes(tuv_check, "#a>=1", 1, 1, &no_bytes, 1, TUV_ASSIGNMENT_LENGTH, 0);
+    refused_bytes(tuv_check, "#a>=1", 1, 1, &too_few, 1, TUV_ASSIGNMENT_LENGTH, 0);
+    refused_bytes(tuv_check, "#a>=1", 1, 1, &too_many, 1, TUV_ASSIGNMENT_LENGTH, 0);
+    refused_bytes(tuv_check, "#a>=1", 1, 1, &two, 1, TUV_ASSIGNMENT, 7);
+    refused_bytes(tuv_check, "#a>=1", 1, 1, &most, 0, TUV_ASSIGNMENT, 0);
+    refused_bytes(tuv_check, "#a>=1", 1, 1, &turned, 0, TUV_CLAUSE, 5);
+    refused_bytes(tuv_check, "#a>=1", 1, 1, &low_extended, 1, TUV_CLAUSE, 11);
+    refused_bytes(tuv_check, "#a>=1", 1, 1, &high_extended, 0, TUV_ROOM, 0);
+}
+
+/* What one oscilloscope recorded reaches another as an assignment, and is accepted there or not. */
+static void recording_to_assignment_to_recording(void)
+{
+    static const uint8_t text[] = {'(', '#', 'a', '>', '=', '2', ';', '#', 'b', '>', '=', '1', ')'};
+    /* The channels; the chop on 10 intervals and 20 triples; three levels and `a`; two levels and `b`. */
+    enum { K = 3, V = 2 * K + 10 + 20 + 3 * 10 + K + 2 * 10 + K };
+    static const uint8_t satisfies[K] = {1, 1, 2}, does_not[K] = {1, 2, 1};
+    static uint8_t assignment[V], recording[K];
+    uint64_t answer;
+
+    trying("extension and check", "(#a>=2;#b>=1)");
+    answer = tuv_extend(text, sizeof text, 2, K, satisfies, K, assignment, V);
+    count(answer == TUV_WRITTEN, "a recording is extended");
+    answer = tuv_check(text, sizeof text, 2, K, assignment, V, recording, K);
+    count(answer == TUV_ACCEPTED && memcmp(recording, satisfies, K) == 0, "and is accepted as it was");
+    answer = tuv_extend(text, sizeof text, 2, K, does_not, K, assignment, V);
+    count(answer == TUV_WRITTEN, "so is one that does not satisfy the formula");
+    answer = tuv_check(text, sizeof text, 2, K, assignment, V, recording, K);
+    count(tuv_code(answer) == TUV_CLAUSE && memcmp(recording, satisfies, K) == 0, "and is not accepted");
+}
+
 /* The header's numbers for a firmware that has room for every formula. */
 static void largest_table(void)
 {
     char text[21 * 8 + 1 + 21 + 1] = "";
     uint32_t sizes[TUV_SIZES], *variables = lend_output(4 * (size_t)TUV_MOST_LITERALS);
-    uint8_t *marks = lend_output(TUV_MOST_LITERALS);
+    uint8_t *marks = lend_output(TUV_MOST_LITERALS), *assignment = lend_output(TUV_MOST_VARIABLES);
+    uint8_t recording[32] = {0};
     uint64_t answer;
 
     for (int i = 0; i < 21; i++)
@@ -251,8 +344,17 @@ static void largest_table(void)
     answer = tuv_table((const uint8_t *)text, strlen(text), 8, 32, sizes, TUV_SIZES, variables, TUV_MOST_LITERALS - 1, marks,
                        TUV_MOST_LITERALS);
     count(answer == TUV_ROOM, "and no smaller");
+
+    trying("extension and check", text);
+    answer = tuv_extend((const uint8_t *)text, strlen(text), 8, 32, recording, 32, assignment, TUV_MOST_VARIABLES - 1);
+    count(answer == TUV_ROOM && assignment[0] == UNWRITTEN, "the largest assignment is no smaller either");
+    answer = tuv_extend((const uint8_t *)text, strlen(text), 8, 32, recording, 32, assignment, TUV_MOST_VARIABLES);
+    count(answer == TUV_WRITTEN, "and has as many variables as the header says");
+    answer = tuv_check((const uint8_t *)text, strlen(text), 8, 32, assignment, TUV_MOST_VARIABLES, recording, 32);
+    count(tuv_code(answer) == TUV_CLAUSE && tuv_value(answer) == TUV_MOST_CLAUSES - 1, "and misses the last clause alone");
     free(variables);
     free(marks);
+    free(assignment);
 }
 
 /* Puts down the file of a table whose numbers are all below 256, and gives its length. */
@@ -454,6 +556,9 @@ int main(void)
     exercise();
     tables_in_turn();
     tables();
+    extensions();
+    checks();
+    recording_to_assignment_to_recording();
     largest_table();
     table_to_file_to_table();
     files();

@@ -37,8 +37,8 @@ askClauses a n [] = Yes
 askClauses a n (c ∷ T) = cond (meetsClause a c) (askClauses a (suc n) T) (No (record { number = 14; place = n }))
 
 -- question 18, of the one lent output: is it long enough?
-unfoldable pub askPlaces : ℕ → List ℕ → Reply
-askPlaces n out = question 18 0 (leb n (length out))
+unfoldable pub askPlaces : ℕ → ℕ → Reply
+askPlaces n places = question 18 0 (leb n places)
 
 -- the clauses of a text's table
 unfoldable pub clausesIn : ℕ → ℕ → List ℕ → List Clause
@@ -47,7 +47,7 @@ clausesIn C k t = onTree (clauseTable C k) (read t)
 -- "the extension of a recording [asks] 1 to 7, 10, 11 and 18"
 abbrev pub extensionQuestions : ℕ → ℕ → List ℕ → List ℕ → List ℕ → List Reply
 extensionQuestions C k t recording assignment =
-    formulaQuestions C k t ++ askRecording k recording ∷ askBytes C recording ∷ askPlaces (variablesOf C k (nodesIn t)) assignment ∷ []
+    formulaQuestions C k t ++ askRecording k recording ∷ askBytes C recording ∷ askPlaces (variablesOf C k (nodesIn t)) (length assignment) ∷ []
 
 -- the extension's answer, and the assignment after it
 pub record Extended : Type 0 where
@@ -66,7 +66,7 @@ extended C k t recording assignment =
 -- "a proposed assignment [asks] 1 to 7, 12 to 14 and 18"
 abbrev pub proposalQuestions : ℕ → ℕ → List ℕ → List ℕ → List ℕ → List Reply
 proposalQuestions C k t A recording =
-    formulaQuestions C k t ++ askAssignment (variablesOf C k (nodesIn t)) A ∷ askValues A ∷ askClauses (valueIn A) 0 (clausesIn C k t) ∷ askPlaces k recording ∷ []
+    formulaQuestions C k t ++ askAssignment (variablesOf C k (nodesIn t)) A ∷ askValues A ∷ askClauses (valueIn A) 0 (clausesIn C k t) ∷ askPlaces k (length recording) ∷ []
 
 -- the check's answer, and the recording's array after it
 pub record Proposed : Type 0 where

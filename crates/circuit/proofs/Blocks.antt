@@ -49,10 +49,10 @@ partsOf (duration x n) = nodesOf x 0
 partsOf (throughout x) = nodesOf x 0
 
 -- the nodes, all as if their text began at 0
-abbrev bareNode : Node → Node
+abbrev pub bareNode : Node → Node
 bareNode w = node (w .part) 0
 
-abbrev bare : List Node → List Node
+abbrev pub bare : List Node → List Node
 bare l = map bareNode l
 
 bare-node : {s : Sort} (x : Tree s) (at : ℕ) → bare (nodesOf x at) ≡ node x 0 ∷ bare (partsOf x)
@@ -68,7 +68,7 @@ bare-node (throughout x) at = cc (bare-node x (suc at), bare-node x 0)
 
 -- so it is for whatever the place of first bytes plays no part in
 module _ {A : Type 0} (f : List Node → A) (blind : (l : List Node) → f (bare l) ≡ f l) where
-  by-parts : {s : Sort} (x : Tree s) (at : ℕ) → f (nodesOf x at) ≡ f (node x 0 ∷ partsOf x)
+  pub by-parts : {s : Sort} (x : Tree s) (at : ℕ) → f (nodesOf x at) ≡ f (node x 0 ∷ partsOf x)
   by-parts x at = sym (blind (nodesOf x at)) ∙ ap f (bare-node x at) ∙ blind (node x 0 ∷ partsOf x)
 
 blocks-bare : (k : ℕ) (l : List Node) → blocksOf k (bare l) ≡ blocksOf k l

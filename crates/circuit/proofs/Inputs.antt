@@ -32,11 +32,11 @@ abbrev pub Distinct : List ℕ → Type 0
 Distinct [] = Unit
 Distinct (u ∷ l) = All (λ w. u ≢ w) l × Distinct l
 
-intervals-in : (k : ℕ) → All (IntervalOf k) (intervalsOf k)
+pub intervals-in : (k : ℕ) → All (IntervalOf k) (intervalsOf k)
 unfolding intervalsOf
 intervals-in k = all-rows _ _ _ (λ i h. all-rows _ _ _ (λ d g. (omega arith, tt)))
 
-triples-in : (k : ℕ) → All (TripleOf k) (triplesOf k)
+pub triples-in : (k : ℕ) → All (TripleOf k) (triplesOf k)
 unfolding triplesOf
 triples-in k = all-rows _ _ _ (λ i h. all-rows _ _ _ (λ d g. all-rows _ _ _ (λ e f. (omega arith, tt))))
 
@@ -50,7 +50,7 @@ distinct-tab w zero = tt
 distinct-tab w (suc n) = distinct-snoc (tab n (λ e. w + e)) (w + n) (distinct-tab w n) (all-rows _ n _ (λ i h. (omega arith, tt)))
 
 -- place p of row c is among the places of n rows
-row-lt : (w n c p : ℕ) → c < n → p < w → c * w + p < n * w
+pub row-lt : (w n c p : ℕ) → c < n → p < w → c * w + p < n * w
 row-lt w n c p h g = omega (arith, suc-mul c w, mul-le-mul-right {m = suc c} w h)
 
 -- when a variable of a node's own block has its turn, the block ending at e: those of a chop go backwards, as its triples come first

@@ -3,6 +3,7 @@
 use mathlib.Core.List.{List, [], _∷_, _++_, map}
 use Prim.Native.Nat.{ℕ, zero, suc, _<_}
 use native.Mathlib.Omega.{arith}
+use lib.ListN.{length, getD}
 use Rattle.interval.specs.Listing.{rows}
 use Rattle.formula.proofs.Lists.{All, all-append}
 
@@ -19,3 +20,8 @@ module _ {A : Type 0} (P : A → Type 0) where
   pub all-mapped : {B : Type 0} (In : B → Type 0) (f : B → A) (l : List B) → ((a : B) → In a → P (f a)) → All In l → All P (map f l)
   all-mapped In f [] h a = tt
   all-mapped In f (b ∷ l) h a = (h b (a .0), all-mapped In f l h (a .1))
+
+  pub all-at : (l : List A) (d : A) → All P l → (e : ℕ) → e < length l → P (getD l e d)
+  all-at [] d a e h = absurd (omega arith)
+  all-at (w ∷ l) d a zero h = a .0
+  all-at (w ∷ l) d a (suc e) h = all-at l d (a .1) e (omega arith)

@@ -23,6 +23,7 @@ use Rattle.formula.proofs.Lists.{All, all-append, all-map}
 use Rattle.formula.proofs.Laws.{all-yes, accepted}
 use Rattle.meaning.specs.Meaning.{bit, every, highs}
 use Rattle.circuit.specs.Circuit.{variablesOf, definitionsOf, rootOf}
+use Rattle.circuit.proofs.Lists.{all-at}
 use Rattle.circuit.proofs.Blocks.{From}
 use Rattle.clauses.specs.Clauses.{Literal, Clause, plain, clausesBy, clauseTable}
 use Rattle.clauses.specs.Entries.{Entry, entriesOf, flat, variablesIn, marksIn}
@@ -43,13 +44,8 @@ unfolding every
 every-true f zero h = refl
 every-true f (suc n) h = rw (every-true f n (λ e l. h e (omega arith)), zero-add n, h n (omega arith))
 
-all-at : (P : ℕ → Type 0) (l : List ℕ) → All P l → (e : ℕ) → e < length l → P (getD l e 0)
-all-at P [] a e h = absurd (omega arith)
-all-at P (v ∷ l) a zero h = a .0
-all-at P (v ∷ l) a (suc e) h = all-at P l (a .1) e (omega arith)
-
 all-pass : (test : ℕ → Bool) (l : List ℕ) → All (λ v. test v ≡ true) l → allPass test l ≡ true
-all-pass test l a = every-true (λ e. test (getD l e 0)) (length l) (all-at (λ v. test v ≡ true) l a)
+all-pass test l a = every-true (λ e. test (getD l e 0)) (length l) (all-at (λ v. test v ≡ true) l 0 a)
 
 highs-first : (f : ℕ → Bool) (n : ℕ) → highs f 0 (suc n) ≡ bit (f 0) + highs (λ e. f (suc e)) 0 n
 unfolding highs

@@ -17,7 +17,7 @@ use Rattle.refusal.specs.declared.Reply.the-variants.{Yes, No}
 use Rattle.refusal.proofs.Laws.{asked-append, replied-yes, replied-no}
 use Rattle.interval.specs.Listing.{rows, sum}
 use Rattle.interval.specs.Places.{countOf}
-use Rattle.interval.proofs.Listing.{length-rows}
+use Rattle.interval.proofs.Listing.{measure-rows, length-rows}
 use Rattle.grammar.specs.Limits.{maxNodes}
 use Rattle.grammar.specs.Trees.{Tree}
 use Rattle.grammar.specs.Reader.{Read, tree, read}
@@ -48,7 +48,7 @@ use Rattle.literals.specs.Written.{Room, Wrote}
 use Rattle.clauses.proofs.Sizes.{length-flat-join, clauses-by, literals-by}
 use Rattle.clause_table.specs.Table.{After, onTree, sizesOf, sizesIn, placesIn, askRoom, over, refused, writtenTable, fiveOf, tabled}
 use Rattle.node_clauses.specs.Nodes.{triplesOf, intervalsOf, nodeBy, nodePlaces}
-use Rattle.clause_table.specs.Rows.{blockBy, rowPlaces, tablePlaces, Low, Measured, tabledBy}
+use Rattle.clause_table.specs.Rows.{blockBy, rowDefinitions, rowPlaces, tablePlaces, Low, Measured, tabledBy}
 use Rattle.clause_table.specs.declared.Sizes.{Sizes}
 use Rattle.clause_table.specs.declared.Written.the-variants.{Done}
 use Rattle.clause_table.proofs.Measure.{stored-over}
@@ -86,9 +86,17 @@ node-weight w C k b true e =
 node-weight w C k b false e = block-weight w C k b
 
 module _ (C k : ℕ) (kinds numbers sizes firsts : List ℕ) where
+  row-weighs : (w : Weight) (x : ℕ) → weightAll w (rowDefinitions C k kinds numbers sizes firsts x) ≡ rowWeight w k (getD kinds x 0) (getD numbers x 0)
+  unfolding rowWeight blockBy
+  row-weighs w x = let b = blockBy kinds numbers sizes firsts k x in node-weight w C k b (isChop (b .rule)) refl
+
+  pub rows-weigh : (w : Weight) (n : ℕ) → weightAll w (rows n (rowDefinitions C k kinds numbers sizes firsts)) ≡ weightTo w k kinds numbers n
+  unfolding weightTo weightAll
+  rows-weigh w n = measure-rows (weightAll w) refl (weight-append w) (rowDefinitions C k kinds numbers sizes firsts) (λ y. rowWeight w k (getD kinds y 0) (getD numbers y 0)) (row-weighs w) n
+
   row-length : (x : ℕ) → length (rowPlaces C k kinds numbers sizes firsts x) ≡ rowWeight literalWeight k (getD kinds x 0) (getD numbers x 0)
-  unfolding nodePlaces rowWeight blockBy
-  row-length x = let b = blockBy kinds numbers sizes firsts k x in literals-by (nodeBy C k b (isChop (b .rule))) ∙ node-weight literalWeight C k b (isChop (b .rule)) refl
+  unfolding nodePlaces
+  row-length x = literals-by (rowDefinitions C k kinds numbers sizes firsts x) ∙ row-weighs literalWeight x
 
   places-length : (n : ℕ) → length (tablePlaces C k kinds numbers sizes firsts n) ≡ 1 + weightTo literalWeight k kinds numbers n
   unfolding weightTo rows
@@ -145,7 +153,7 @@ module _ (C k : ℕ) (f : Tree Formula) where
   variables-are = omega (arith, ap (weightBefore variableWeight k nodes) (zero-add (length nodes)), part-width k nodes 0 nodes [] (sym (append-nil nodes)))
 
   module _ {T : NodeTable} (e : T ≡ tableOf (map rowOf nodes)) {F : List ℕ} {s : Sizes} (w : Measured C k (T .kinds) (T .numbers) (T .count) F s) where
-    known : Measured C k (kinds nodes) (numbers nodes) (length nodes) F s
+    pub known : Measured C k (kinds nodes) (numbers nodes) (length nodes) F s
     unfolding tableOf
     known =
         subst (λ (n : ℕ). Measured C k (kinds nodes) (numbers nodes) n F s) (length-map nodes rowOf)

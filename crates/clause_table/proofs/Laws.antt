@@ -51,7 +51,7 @@ module _ (C k : ℕ) (f : Tree Formula) where
   unfolding variablesOf
   mentioned-fit d m = ((omega (arith, m .defines), m .inputs), m .apart)
 
-  root-in-range : inRange (rootOf C k f)
+  pub root-in-range : From 1 (variablesOf C k (nodesOf f 0)) (rootOf C k f)
   unfolding rootOf variablesOf
   root-in-range = omega (arith, truth-lt k f _ (intervals-numbered k .below (record { i = 0; j = k }) (omega arith)))
 

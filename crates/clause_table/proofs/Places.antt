@@ -1,9 +1,9 @@
 -- A row of the node table tells its node's rule and points; its parts' rows follow it, and their first variables come after its own block
--- and the first part's. So each row's places are those of its node's own definitions, and the rows together those of the table.
+-- and the first part's. So each row's definitions are its node's own, and the rows together give the formula's definitions and their places.
 use mathlib.Core.Path.{_≡_, refl, sym, ap, ap₂, _∙_}
 use mathlib.Core.Bool.{true, false, false≢true}
 use mathlib.Core.List.{List, [], _∷_, _++_, append-assoc, append-nil, flatMap}
-use Prim.Native.Nat.{ℕ, suc, _+_, _*_, _%_, _<_}
+use Prim.Native.Nat.{ℕ, zero, suc, _+_, _*_, _%_, _<_}
 use native.Mathlib.Nat.{zero-mul, zero-add, add-zero}
 use native.Mathlib.Omega.{arith}
 use lib.ListN.{length, getD, drop, length-drop}
@@ -31,7 +31,7 @@ use Rattle.clauses.specs.Clauses.{plain, clausesBy, clauseTable}
 use Rattle.clauses.specs.Entries.{Entry, entry, entriesOf, flat}
 use Rattle.clauses.proofs.Sizes.{flat-join}
 use Rattle.node_clauses.specs.Nodes.{nodeBy, nodePlaces}
-use Rattle.clause_table.specs.Rows.{truthBy, seatBy, blockBy, rowPlaces, rootPlaces, tablePlaces}
+use Rattle.clause_table.specs.Rows.{truthBy, seatBy, blockBy, rowDefinitions, rowPlaces, rootPlaces, tablePlaces}
 use Rattle.node_clauses.proofs.Walk.{rows-first}
 use Rattle.node_clauses.proofs.Nodes.{places-join}
 
@@ -95,7 +95,7 @@ first-node (pair l x y) at = refl
 first-node (duration x n) at = refl
 first-node (throughout x) at = refl
 
-first-is : {l : List Node} {s : Sort} (x : Tree s) (at : ℕ) (m : List Node) → l ≡ nodesOf x at ++ m → l ≡ node x at ∷ drop 1 (nodesOf x at) ++ m
+pub first-is : {l : List Node} {s : Sort} (x : Tree s) (at : ℕ) (m : List Node) → l ≡ nodesOf x at ++ m → l ≡ node x at ∷ drop 1 (nodesOf x at) ++ m
 first-is x at m e = e ∙ ap (λ (q : List Node). q ++ m) (first-node x at)
 
 module _ (l : List Node) where
@@ -112,7 +112,7 @@ module _ (l : List Node) where
   abbrev pub start : ℕ → ℕ → ℕ → ℕ
   start C k x = 1 + k * C + weightTo variableWeight k kinds numbers x
 
-  start-next : (C k : ℕ) (w : Node) (x : ℕ) (m : List Node) → drop x l ≡ w ∷ m → start C k (x + 1) ≡ start C k x + widthOf k (w .part)
+  pub start-next : (C k : ℕ) (w : Node) (x : ℕ) (m : List Node) → drop x l ≡ w ∷ m → start C k (x + 1) ≡ start C k x + widthOf k (w .part)
   unfolding blocksOf
   start-next C k w x m e = omega (arith, part-width k l x (w ∷ []) m e)
 
@@ -120,11 +120,11 @@ module _ (C k : ℕ) (l : List Node) (firsts : List ℕ) (h : (y : ℕ) → y < 
   abbrev seat : ℕ → ℕ
   seat y = seatBy (kinds l) (numbers l) firsts k y
 
-  first-at : {s : Sort} (y : Tree s) (x at : ℕ) (m : List Node) → drop x l ≡ nodesOf y at ++ m → getD firsts x 0 ≡ start l C k x
+  pub first-at : {s : Sort} (y : Tree s) (x at : ℕ) (m : List Node) → drop x l ≡ nodesOf y at ++ m → getD firsts x 0 ≡ start l C k x
   first-at y x at m e = h x (omega (arith, length-drop x l, ap length (first-is y at m e)))
 
   -- the first variable of a part's truth
-  seat-at : {s : Sort} (y : Tree s) (x at : ℕ) (m : List Node) → drop x l ≡ nodesOf y at ++ m → seat x ≡ start l C k x + truthOf k y
+  pub seat-at : {s : Sort} (y : Tree s) (x at : ℕ) (m : List Node) → drop x l ≡ nodesOf y at ++ m → seat x ≡ start l C k x + truthOf k y
   unfolding seatBy
   seat-at y x at m e =
       let o = stands l y x at m e .own in
@@ -161,19 +161,18 @@ module _ (C k : ℕ) (l : List Node) (firsts : List ℕ) (h : (y : ℕ) → y < 
   parts-at (duration x c) n at m e = ap (λ (v : ℕ). ownBy C k (start l C k n) v 0 (duration x c)) (left-at (node (duration x c) at) n x (suc at) m e)
   parts-at (throughout x) n at m e = ap (λ (v : ℕ). ownBy C k (start l C k n) v 0 (throughout x)) (left-at (node (throughout x) at) n x (suc at) m e)
 
-  -- a row's places are those of its node's own definitions
-  row-places : {s : Sort} (x : Tree s) (n at : ℕ) (m : List Node) → drop n l ≡ nodesOf x at ++ m
-      → rowPlaces C k (kinds l) (numbers l) (sizes l) firsts n ≡ flat (clausesBy (ownOf C k (start l C k n) x))
-  unfolding nodePlaces blockBy
-  row-places x n at m e =
+  -- a row's definitions are its node's own
+  row-defined : {s : Sort} (x : Tree s) (n at : ℕ) (m : List Node) → drop n l ≡ nodesOf x at ++ m
+      → rowDefinitions C k (kinds l) (numbers l) (sizes l) firsts n ≡ ownOf C k (start l C k n) x
+  unfolding blockBy
+  row-defined x n at m e =
       let left = seat (n + 1) in
       let right = seat (n + 1 + getD (sizes l) (n + 1) 0) in
       let o = stands l x n at m e .own in
-      ap (λ (D : List Definition). flat (clausesBy D))
-      (ap (λ (b : ℕ). headFor C k b left right (getD (kinds l) n 0) (getD (numbers l) n 0)) (first-at x n at m e)
+      ap (λ (b : ℕ). headFor C k b left right (getD (kinds l) n 0) (getD (numbers l) n 0)) (first-at x n at m e)
       ∙ ap₂ (headFor C k (start l C k n) left right) (o .kind) (o .number)
       ∙ by-head C k (start l C k n) left right x
-      ∙ parts-at x n at m e)
+      ∙ parts-at x n at m e
 
 -- ---- the rows of a formula's nodes
 
@@ -181,44 +180,54 @@ module _ (C k : ℕ) (f : Tree Formula) (firsts : List ℕ) (h : (y : ℕ) → y
   abbrev pub nodes : List Node
   nodes = nodesOf f 0
 
-  abbrev places : ℕ → List Entry
-  places x = rowPlaces C k (kinds nodes) (numbers nodes) (sizes nodes) firsts x
+  abbrev defined : ℕ → List Definition
+  defined x = rowDefinitions C k (kinds nodes) (numbers nodes) (sizes nodes) firsts x
 
   -- the node at row x is its part's own
-  own-places : (w : Node) (x : ℕ) (m : List Node) → drop x nodes ≡ w ∷ m → places x ≡ flat (clausesBy (ownOf C k (start nodes C k x) (w .part)))
-  own-places w x m e = go (node-at f 0 x (omega (arith, length-drop x nodes, ap length e)))
+  own-row : (w : Node) (x : ℕ) (m : List Node) → drop x nodes ≡ w ∷ m → defined x ≡ ownOf C k (start nodes C k x) (w .part)
+  own-row w x m e = go (node-at f 0 x (omega (arith, length-drop x nodes, ap length e)))
     where
-      go : Begins (drop x nodes) → places x ≡ flat (clausesBy (ownOf C k (start nodes C k x) (w .part)))
+      go : Begins (drop x nodes) → defined x ≡ ownOf C k (start nodes C k x) (w .part)
       go (v, n, g) =
           let same : v ≡ w = ap (λ (l : List Node). getD l 0 w) (sym (first-is (v .part) (v .first) n g) ∙ e) in
-          row-places C k nodes firsts h (v .part) x (v .first) n g ∙ ap (λ (v : Node). flat (clausesBy (ownOf C k (start nodes C k x) (v .part)))) same
+          row-defined C k nodes firsts h (v .part) x (v .first) n g ∙ ap (λ (v : Node). ownOf C k (start nodes C k x) (v .part)) same
 
   -- the rows from x on
-  rows-from : (x : ℕ) (A : List Node) → drop x nodes ≡ A → rows (length A) (λ i. places (x + i)) ≡ flat (clausesBy (definedFrom C k (start nodes C k x) A))
-  unfolding definedFrom rows flat clausesBy flatMap
+  rows-from : (x : ℕ) (A : List Node) → drop x nodes ≡ A → rows (length A) (λ i. defined (x + i)) ≡ definedFrom C k (start nodes C k x) A
+  unfolding definedFrom rows
   rows-from x [] e = refl
   rows-from x (w ∷ A) e =
-      let b = start nodes C k x in
-      let later = drop-front nodes x (w ∷ []) A e in
-      rows-first (length A) (λ i. places (x + i))
-      ∙ ap₂ (λ (F G : List Entry). F ++ G)
-      (ap places (add-zero x) ∙ own-places w x A e)
-      (rows-same (length A) (λ i. places (x + suc i)) (λ i. places (x + 1 + i)) (λ i _. ap places (omega arith))
-      ∙ rows-from (x + 1) A later
-      ∙ ap (λ (b : ℕ). flat (clausesBy (definedFrom C k b A))) (start-next nodes C k w x A e))
-      ∙ places-join (ownOf C k b (w .part)) (definedFrom C k (b + widthOf k (w .part)) A)
+      rows-first (length A) (λ i. defined (x + i))
+      ∙ ap₂ (λ (D E : List Definition). D ++ E)
+      (ap defined (add-zero x) ∙ own-row w x A e)
+      (rows-same (length A) (λ i. defined (x + suc i)) (λ i. defined (x + 1 + i)) (λ i _. ap defined (omega arith))
+      ∙ rows-from (x + 1) A (drop-front nodes x (w ∷ []) A e)
+      ∙ ap (λ (b : ℕ). definedFrom C k b A) (start-next nodes C k w x A e))
+
+  pub rows-defined : rows (length nodes) defined ≡ definitionsOf C k nodes
+  unfolding definitionsOf weightTo sum
+  rows-defined =
+      rows-same (length nodes) defined (λ i. defined (0 + i)) (λ i _. ap defined (sym (zero-add i)))
+      ∙ rows-from 0 nodes refl
+      ∙ ap (λ (b : ℕ). definedFrom C k b nodes) (add-zero (1 + k * C))
+
+  -- the root's truth begins where the code has it
+  pub root-at : seatBy (kinds nodes) (numbers nodes) firsts k 0 + k ≡ rootOf C k f
+  unfolding rootOf placeOf weightTo sum
+  root-at = omega (arith, seat-at C k nodes firsts h f 0 0 [] (sym (append-nil nodes)), zero-mul (k + 1))
 
   root-places : rows 1 (rootPlaces (kinds nodes) (numbers nodes) firsts k) ≡ flat ((plain (rootOf C k f) ∷ []) ∷ [])
-  unfolding rows flat flatMap entriesOf rootOf placeOf weightTo sum
-  root-places = ap (λ (v : ℕ). entry v 3 ∷ []) (omega (arith, seat-at C k nodes firsts h f 0 0 [] (sym (append-nil nodes)), zero-mul (k + 1)))
+  unfolding rows flat flatMap entriesOf
+  root-places = ap (λ (v : ℕ). entry v 3 ∷ []) (add-zero _ ∙ root-at)
+
+  -- what is written row after row are the places of the rows' definitions
+  places-rows : (n : ℕ) → rows n (rowPlaces C k (kinds nodes) (numbers nodes) (sizes nodes) firsts) ≡ flat (clausesBy (rows n defined))
+  unfolding rows flat clausesBy flatMap nodePlaces
+  places-rows zero = refl
+  places-rows (suc n) = ap (λ (F : List Entry). F ++ flat (clausesBy (defined n))) (places-rows n) ∙ places-join (rows n defined) (defined n)
 
   pub table-places : tablePlaces C k (kinds nodes) (numbers nodes) (sizes nodes) firsts (length nodes) ≡ flat (clauseTable C k f)
-  unfolding clauseTable definitionsOf weightTo sum
+  unfolding clauseTable
   table-places =
-      let root = (plain (rootOf C k f) ∷ []) ∷ [] in
-      ap₂ (λ (F G : List Entry). F ++ G)
-      (rows-same (length nodes) places (λ i. places (0 + i)) (λ i _. ap places (sym (zero-add i)))
-      ∙ rows-from 0 nodes refl
-      ∙ ap (λ (b : ℕ). flat (clausesBy (definedFrom C k b nodes))) (add-zero (1 + k * C)))
-      root-places
-      ∙ sym (flat-join (clausesBy (definitionsOf C k nodes)) root)
+      ap₂ (λ (F G : List Entry). F ++ G) (places-rows (length nodes) ∙ ap (λ (D : List Definition). flat (clausesBy D)) rows-defined) root-places
+      ∙ sym (flat-join (clausesBy (definitionsOf C k nodes)) ((plain (rootOf C k f) ∷ []) ∷ []))

@@ -10,13 +10,14 @@ use Rattle.interval.specs.Listing.{rows}
 use Rattle.interval.specs.Places.{countOf}
 use Rattle.grammar.specs.Trees.{Tree}
 use Rattle.grammar.specs.declared.Sort.the-variants.{Formula}
-use Rattle.blocks.specs.Blocks.{ruleBy}
+use Rattle.circuit.specs.Circuit.{Definition}
+use Rattle.blocks.specs.Blocks.{ruleBy, isChop}
 use Rattle.blocks.specs.declared.Block.{Block}
 use Rattle.weights.specs.Weights.{variableWeight, clauseWeight, literalWeight, pointsBy, weightTo, maxSum}
 use Rattle.clauses.specs.Clauses.{clauseTable}
 use Rattle.clauses.specs.Entries.{Entry, flat}
 use Rattle.literals.specs.Written.{runOf}
-use Rattle.node_clauses.specs.Nodes.{nodePlaces}
+use Rattle.node_clauses.specs.Nodes.{nodeBy, nodePlaces}
 use Rattle.clause_table.specs.Table.{After, sizesOf, askRoom, refused, writtenTable}
 use Rattle.clause_table.specs.declared.Sizes.{Sizes}
 
@@ -38,7 +39,10 @@ blockBy kinds numbers sizes firsts k x = record {
   right = seatBy kinds numbers firsts k (x + 1 + getD sizes (x + 1) 0);
 }
 
--- the places of the node at row x
+-- the definitions of the node at row x, and their places
+abbrev pub rowDefinitions : ℕ → ℕ → List ℕ → List ℕ → List ℕ → List ℕ → ℕ → List Definition
+rowDefinitions C k kinds numbers sizes firsts x = let b = blockBy kinds numbers sizes firsts k x in nodeBy C k b (isChop (b .rule))
+
 abbrev pub rowPlaces : ℕ → ℕ → List ℕ → List ℕ → List ℕ → List ℕ → ℕ → List Entry
 rowPlaces C k kinds numbers sizes firsts x = nodePlaces C k (blockBy kinds numbers sizes firsts k x)
 

@@ -45,7 +45,7 @@ fn number_at(numbers: &[u32], at: usize) -> u32
 }
 
 // The first variable of the truth of the node at row y: of a duration, the last level's.
-fn seat<'a>(
+pub fn seat<'a>(
     kinds: &'a [u8; MAX_NODES],
     numbers: &'a [u8; MAX_NODES],
     firsts: &[u32; MAX_NODES],
@@ -64,7 +64,7 @@ fn seat<'a>(
 }
 
 // The block of the node at row x: its first part is at the next row.
-fn block_at<'a>(
+pub fn block_at<'a>(
     kinds: &'a [u8; MAX_NODES],
     numbers: &'a [u8; MAX_NODES],
     sizes: &'a [u8; MAX_NODES],
@@ -134,7 +134,7 @@ fn put_table<'a>(
 }
 
 // The sizes of a formula, by its node table, and the first variable of each node: one sum along the nodes, for each of the three.
-fn sizes_of<'a>(
+pub fn sizes_of<'a>(
     kinds: &'a [u8; MAX_NODES],
     numbers: &'a [u8; MAX_NODES],
     count: usize,

@@ -17,19 +17,19 @@ use Rattle.clauses.specs.Clauses.{plain, negated, Clause, anyClauses, cl
 
 -- ---- what n Booleans make: two such functions are the same if they agree on each of the 2^n lines of their table
 
-abbrev Table : ℕ → Type 0
+abbrev pub Table : ℕ → Type 0
 Table zero = Bool
 Table (suc n) = Bool → Table n
 
-abbrev Same : (n : ℕ) → Table n → Table n → Type 0
+abbrev pub Same : (n : ℕ) → Table n → Table n → Type 0
 Same zero x y = x ≡ y
 Same (suc n) f g = (b : Bool) → Same n (f b) (g b)
 
-abbrev agree : (n : ℕ) → Table n → Table n → Bool
+abbrev pub agree : (n : ℕ) → Table n → Table n → Bool
 agree zero x y = Bool·beq x y
 agree (suc n) f g = agree n (f true) (g true) && agree n (f false) (g false)
 
-beq-exactly : (x y : Bool) → (Bool·beq x y ≡ true) ↔ (x ≡ y)
+pub beq-exactly : (x y : Bool) → (Bool·beq x y ≡ true) ↔ (x ≡ y)
 beq-exactly true true = (λ e. refl, λ e. refl)
 beq-exactly true false = (λ e. absurd (false≢true e), λ e. absurd (true≢false e))
 beq-exactly false true = (λ e. absurd (false≢true e), λ e. absurd (false≢true e))
@@ -39,7 +39,7 @@ at-each : (P : Bool → Type 0) → P true → P false → (b : Bool) → P b
 at-each P t f true = t
 at-each P t f false = f
 
-by-table : (n : ℕ) (f g : Table n) → agree n f g ≡ true → Same n f g
+pub by-table : (n : ℕ) (f g : Table n) → agree n f g ≡ true → Same n f g
 by-table zero x y e = beq-exactly x y .0 e
 by-table (suc n) f g e =
     let w = both (agree n (f true) (g true)) (agree n (f false) (g false)) e in
@@ -67,7 +67,7 @@ module _ (a : Assignment) where
 
   -- ---- a gate of any number of inputs: one of them is true where the clause of them all is met
 
-  abbrev anyOf : List ℕ → Bool
+  abbrev pub anyOf : List ℕ → Bool
   anyOf ws = meetsClause a (map plain ws)
 
   meets-each : (v : ℕ) (ws : List ℕ) → meetsAll a (map (λ w. plain v ∷ negated w ∷ []) ws) ≡ (a v || not (anyOf ws))
@@ -84,7 +84,7 @@ module _ (a : Assignment) where
       ∙ ap (λ (x : Bool). x && ((not (a v) || anyOf ws) && true)) (meets-each v ws)
       ∙ by-table 2 (λ x y. (x || not y) && ((not x || y) && true)) Bool·beq refl (a v) (anyOf ws)
 
-  any-some : (w n : ℕ) → anyOf (tab n (λ e. w + e)) ≡ some a w n
+  pub any-some : (w n : ℕ) → anyOf (tab n (λ e. w + e)) ≡ some a w n
   unfolding meetsClause rows some
   any-some w zero = refl
   any-some w (suc n) =

@@ -41,7 +41,7 @@ pyramid (suc n) =
     let e : suc n * (suc (suc n) * suc (suc (suc n))) ≡ suc (suc (suc n)) * b = sym (mul-assoc (suc n) _ _) ∙ mul-comm b _ in
     omega (arith, pyramid n, triangle (suc n), e, suc-mul (suc (suc n)) b, suc-mul (suc n) b, suc-mul n b)
 
-triangle-count : (k : ℕ) → sum suc (suc k) ≡ countOf k
+pub triangle-count : (k : ℕ) → sum suc (suc k) ≡ countOf k
 unfolding countOf
 triangle-count k = omega (arith, triangle (suc k))
 

@@ -3,7 +3,7 @@
 use mathlib.Core.Path.{_≡_, refl, sym, ap, ap₂, _∙_, subst}
 use mathlib.Core.Logic.{⊎-elim}
 use mathlib.Core.List.{List, [], _∷_, _++_, map, map-append}
-use Prim.Native.Nat.{ℕ, zero, suc, _+_, _-_, _*_, _<_}
+use Prim.Native.Nat.{ℕ, zero, suc, _+_, _-_, _*_, _≤_, _<_}
 use native.Mathlib.Nat.{zero-mul, suc-mul, add-mul, not-suc-le-zero, eq-or-lt-of-le, le-of-suc-le-suc}
 use native.Mathlib.Decide.{decLt}
 use native.Mathlib.Omega.{arith}
@@ -68,6 +68,14 @@ module _ {A : Type 0} where
   unfolding rows
   map-rows h f zero = refl
   map-rows {B} h f (suc n) = map-append h (rows n f) (f n) ∙ ap (λ (l : List B). l ++ map h (f n)) (map-rows h f n)
+
+  -- row i ends within the whole
+  pub rows-le : (f : ℕ → List A) (n i : ℕ) → i < n → length (rows i f) + length (f i) ≤ length (rows n f)
+  unfolding rows
+  rows-le f zero i h = absurd (not-suc-le-zero h)
+  rows-le f (suc n) i h =
+      let a = length-append (rows n f) (f n) in
+      below-suc (λ (j : ℕ). length (rows j f) + length (f j) ≤ length (rows n f ++ f n)) n i h (λ l. omega (arith, a, rows-le f n i l)) (omega (arith, a))
 
 -- what adds up along a list adds up along rows: its length, or the weight of its entries
 pub measure-rows : {A : Type 0} (m : List A → ℕ) → m [] ≡ 0 → ((a b : List A) → m (a ++ b) ≡ m a + m b)

@@ -2,14 +2,14 @@
 -- that writes f 0, f 1, .. has written the first i of them after i turns.
 use mathlib.Core.Path.{_≡_, refl, sym, ap, _∙_, subst}
 use mathlib.Core.List.{List, [], _∷_, _++_, map, map-append, append-nil, flatMap}
-use Prim.Native.Nat.{ℕ, zero, suc, _+_, _*_, _≤_, _<_}
-use native.Mathlib.Nat.{not-suc-le-zero, zero-mul, suc-mul}
+use Prim.Native.Nat.{ℕ, suc, _+_, _*_, _≤_, _<_}
+use native.Mathlib.Nat.{zero-mul, suc-mul}
 use native.Mathlib.Numerals.{add-one}
 use native.Mathlib.Omega.{arith}
 use lib.ListN.{length, getD, take, set, length-append, length-map}
 use lib.Seq.{sets, length-sets, take-suc, take-all, length-take-le}
 use Rattle.interval.specs.Listing.{rows}
-use Rattle.interval.proofs.Listing.{below-suc}
+use Rattle.interval.proofs.Listing.{rows-le}
 use Rattle.formula.proofs.Lists.{flat-append}
 use Rattle.clauses.specs.Entries.{Entry, entry, variablesIn, marksIn}
 use Rattle.literals.specs.Written.{Room, Wrote, Sofar}
@@ -126,13 +126,6 @@ module _ {v m : List ℕ} {at : ℕ} {R : List Entry} (r : Room v m at R) (F G :
 
 rows-more : (f : ℕ → List Entry) (i : ℕ) → rows i f ++ f i ≡ rows (i + 1) f
 rows-more f i = unfold rows in rw add-one
-
-rows-le : (f : ℕ → List Entry) (n i : ℕ) → i < n → length (rows i f) + length (f i) ≤ length (rows n f)
-unfolding rows
-rows-le f zero i h = absurd (not-suc-le-zero h)
-rows-le f (suc n) i h =
-    let a = length-append (rows n f) (f n) in
-    below-suc (λ (j : ℕ). length (rows j f) + length (f j) ≤ length (rows n f ++ f n)) n i h (λ l. omega (arith, a, rows-le f n i l)) (omega (arith, a))
 
 pub begun : {v m : List ℕ} {at n : ℕ} {f : ℕ → List Entry} → Sofar v m at f n v m at 0
 begun = record { upto = omega arith; long = refl; wide = refl; wrote = unfold rows in record { variables = refl; marks = refl; next = omega arith } }

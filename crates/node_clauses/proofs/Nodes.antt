@@ -1,6 +1,6 @@
 -- A node's definitions are those of its one block, or of a chop's two, one after the other; so are their clauses' places.
 -- The blocks of a node whose block is fine are bounded.
-use mathlib.Core.Path.{_≡_, refl, sym, ap, ap₂, _∙_}
+use mathlib.Core.Path.{_≡_, refl, sym, ap, ap₂, _∙_, subst}
 use mathlib.Core.Bool.{Bool}
 use mathlib.Core.List.{List, [], _∷_, _++_, flatMap}
 use Prim.Native.Nat.{ℕ, zero, suc, _+_, _≤_, _<_}
@@ -23,9 +23,12 @@ use Rattle.clauses.proofs.Sizes.{flat-join}
 use Rattle.literals.proofs.Written.{and-then, named, room-first, room-next}
 use Rattle.node_clauses.specs.Nodes.{triplesOf, intervalsOf, choppedBy, nodeBy, nodePlaces, Fine}
 
-pub places-join : (D E : List Definition) → flat (clausesBy D) ++ flat (clausesBy E) ≡ flat (clausesBy (D ++ E))
+pub clauses-join : (D E : List Definition) → clausesBy (D ++ E) ≡ clausesBy D ++ clausesBy E
 unfolding clausesBy
-places-join D E = sym (ap flat (flat-append (λ (d : Definition). clausesOf (d .variable) (d .gate)) D E) ∙ flat-join (clausesBy D) (clausesBy E))
+clauses-join D E = flat-append (λ (d : Definition). clausesOf (d .variable) (d .gate)) D E
+
+pub places-join : (D E : List Definition) → flat (clausesBy D) ++ flat (clausesBy E) ≡ flat (clausesBy (D ++ E))
+places-join D E = sym (ap flat (clauses-join D E) ∙ flat-join (clausesBy D) (clausesBy E))
 
 -- ---- a constant's block is one line, and each of its clauses one literal
 
@@ -42,43 +45,59 @@ constant-known C k b {v} e f =
     let same : record { rule = Fixed v; points = b .points; first = b .first; left = b .left; right = b .right } ≡ b = λ i. record { rule = sym e i; points = b .points; first = b .first; left = b .left; right = b .right } in
     ap (λ (m : ℕ). rows (b .points) (runOf (b .first) m)) f ∙ constant-places (b .first) (b .points) v ∙ ap (λ (b : Block). flat (clausesBy (definedBy C k b))) same
 
--- ---- a chop's two blocks, w being where its triples begin
+-- ---- a chop's two blocks, as the code has found them
 
-module _ (C k : ℕ) (b : Block) {w : ℕ} (e : w ≡ b .first + countOf k) where
-  abbrev triples : List Entry
-  triples = flat (clausesBy (definedBy C k (triplesOf w b)))
+pub record Halves (k : ℕ) (b t s : Block) : Type 0 where
+  pub triples : t ≡ triplesOf (b .first + countOf k) b
+  pub intervals : s ≡ intervalsOf (b .first + countOf k) b
 
-  abbrev intervals : List Entry
-  intervals = flat (clausesBy (definedBy C k (intervalsOf w b)))
+pub halves : {k w : ℕ} (b : Block) {t s : Block} → w ≡ b .first + countOf k → t ≡ triplesOf w b → s ≡ intervalsOf w b → Halves k b t s
+halves b e f g = record { triples = f ∙ ap (λ (w : ℕ). triplesOf w b) e; intervals = g ∙ ap (λ (w : ℕ). intervalsOf w b) e }
 
-  chopped : triples ++ intervals ≡ flat (clausesBy (choppedBy C k (b .first + countOf k) b))
-  chopped = places-join (definedBy C k (triplesOf w b)) (definedBy C k (intervalsOf w b)) ∙ ap (λ (w : ℕ). flat (clausesBy (choppedBy C k w b))) e
+module _ (C : ℕ) {k : ℕ} {b t s : Block} (h : Halves k b t s) where
+  pub chopped : definedBy C k t ++ definedBy C k s ≡ choppedBy C k (b .first + countOf k) b
+  chopped = ap₂ (λ (t s : Block). definedBy C k t ++ definedBy C k s) (h .triples) (h .intervals)
 
   module _ (f : Fine C k b) where
-    beyond : w < bound
+    beyond : b .first + countOf k < bound
     unfolding countOf
-    beyond = omega (arith, e, f .first, count-le maxSteps k (f .bounded .steps))
+    beyond = omega (arith, f .first, count-le maxSteps k (f .bounded .steps))
 
-    pub triples-bounded : Bounded C k (triplesOf w b) × (b .points ≤ maxCount)
-    triples-bounded = (record { channels = f .bounded .channels; steps = f .bounded .steps; number = omega arith; first = beyond; left = f .bounded .left; right = f .bounded .right }, f .points)
+    pub triples-bounded : Bounded C k t × (t .points ≤ maxCount)
+    triples-bounded =
+        subst (λ (t : Block). Bounded C k t × (t .points ≤ maxCount)) (sym (h .triples))
+        (record { channels = f .bounded .channels; steps = f .bounded .steps; number = omega arith; first = beyond; left = f .bounded .left; right = f .bounded .right }, f .points)
 
-    pub intervals-bounded : Bounded C k (intervalsOf w b) × (b .points ≤ maxCount)
+    pub intervals-bounded : Bounded C k s × (s .points ≤ maxCount)
     intervals-bounded =
+        subst (λ (s : Block). Bounded C k s × (s .points ≤ maxCount)) (sym (h .intervals))
         (record { channels = f .bounded .channels; steps = f .bounded .steps; number = omega arith; first = f .bounded .first; left = beyond; right = f .bounded .right }, f .points)
+
+  abbrev triples : List Entry
+  triples = flat (clausesBy (definedBy C k t))
+
+  abbrev intervals : List Entry
+  intervals = flat (clausesBy (definedBy C k s))
+
+  places : triples ++ intervals ≡ flat (clausesBy (choppedBy C k (b .first + countOf k) b))
+  places = places-join (definedBy C k t) (definedBy C k s) ∙ ap (λ (D : List Definition). flat (clausesBy D)) chopped
 
   module _ {v m : List ℕ} {at : ℕ} (r : Room v m at (flat (clausesBy (choppedBy C k (b .first + countOf k) b)))) where
     pub room-triples : Room v m at triples
-    room-triples = room-first r triples intervals chopped
+    room-triples = room-first r triples intervals places
 
     pub room-intervals : {v′ m′ : List ℕ} {at′ : ℕ} → Wrote v m at triples v′ m′ at′ → Room v′ m′ at′ intervals
-    room-intervals t = room-next r triples intervals chopped t
+    room-intervals t = room-next r triples intervals places t
 
   pub wrote-chopped : {v m v′ m′ v″ m″ : List ℕ} {at at′ at″ : ℕ} → Wrote v m at triples v′ m′ at′ → Wrote v′ m′ at′ intervals v″ m″ at″
       → Wrote v m at (flat (clausesBy (choppedBy C k (b .first + countOf k) b))) v″ m″ at″
-  wrote-chopped s t = named chopped (and-then s t)
+  wrote-chopped s t = named places (and-then s t)
 
 -- ---- a node, known to be a chop or not
 
+pub node-known : (C k : ℕ) (b : Block) {c d : Bool} → c ≡ isChop (b .rule) → c ≡ d → nodeBy C k b d ≡ nodeBy C k b (isChop (b .rule))
+node-known C k b e f = ap (nodeBy C k b) (sym f ∙ e)
+
 pub places-known : (C k : ℕ) (b : Block) {c d : Bool} → c ≡ isChop (b .rule) → c ≡ d → flat (clausesBy (nodeBy C k b d)) ≡ nodePlaces C k b
 unfolding nodePlaces
-places-known C k b e f = ap (λ (c : Bool). flat (clausesBy (nodeBy C k b c))) (sym f ∙ e)
+places-known C k b e f = ap (λ (D : List Definition). flat (clausesBy D)) (node-known C k b e f)

@@ -1,15 +1,15 @@
 -- A block's definitions stand in the order of places, so the walk writes the definition in place x at its turn x: the position is that
 -- of place x, and the next position that of the next place.
-use mathlib.Core.Path.{_≡_, refl, sym, ap, _∙_, subst}
+use mathlib.Core.Path.{_≡_, refl, sym, ap, ap₂, _∙_, subst}
 use mathlib.Core.Bool.{Bool, true, false, cond}
 use mathlib.Core.List.{List, [], _∷_, _++_, flatMap, append-assoc, append-nil}
 use Prim.Native.Nat.{ℕ, zero, suc, _+_, _≤_, _<_}
 use native.Mathlib.Omega.{arith}
 use lib.Dec.{eqb}
-use lib.ListN.{length, getD}
+use lib.ListN.{length}
 use Rattle.interval.specs.Listing.{rows}
-use Rattle.interval.specs.Shape.{Shape, place}
-use Rattle.interval.specs.Limits.{maxSteps}
+use Rattle.interval.specs.Shape.{place}
+use Rattle.interval.specs.Limits.{maxSteps, maxCount}
 use Rattle.interval.specs.Places.{tripleCountOf}
 use Rattle.interval.specs.declared.Triple.{Triple}
 use Rattle.interval.proofs.Shape.{getD-per}
@@ -18,22 +18,23 @@ use Rattle.interval.proofs.Laws.{triples-numbered}
 use Rattle.circuit.specs.Circuit.{Definition, define}
 use Rattle.circuit.specs.declared.Gate.{Gate}
 use Rattle.circuit.specs.declared.Gate.the-variants.{Constant}
-use Rattle.blocks.specs.Blocks.{shapeOf, gateBy, gateOf, definedBy, Placed, Bounded, nextOf}
+use Rattle.blocks.specs.Blocks.{shapeOf, gateBy, gateOf, definedBy, Placed, Bounded, bound, nextOf}
 use Rattle.blocks.specs.declared.Block.{Block}
 use Rattle.blocks.specs.declared.Position.{Position}
 use Rattle.blocks.specs.declared.Rule.{Rule}
 use Rattle.blocks.specs.declared.Rule.the-variants.{Fixed, Letter, Negation, And, Or, Chop, Duration, Throughout, Cut}
-use Rattle.blocks.proofs.Positions.{first-placed, next-placed, chop-position}
-use Rattle.weights.specs.Weights.{variableWeight, weightBy, maxWeight}
+use Rattle.blocks.proofs.Positions.{first-placed, next-placed, chop-position, position-small}
+use Rattle.weights.specs.Weights.{variableWeight, weightBy, maxWeight, Light}
 use Rattle.weights.specs.declared.Weight.{Weight}
 use Rattle.weights.proofs.Weights.{block-length, shape-weight}
+use Rattle.weights.proofs.Rows.{small}
 use Rattle.clauses.specs.Clauses.{clausesOf, clausesBy}
 use Rattle.clauses.specs.Entries.{Entry, flat}
 use Rattle.literals.specs.Written.{Room, Wrote}
 use Rattle.gates.specs.Within.{Within}
 use Rattle.clauses.proofs.Sizes.{flat-join}
 use Rattle.literals.proofs.Written.{begun, turn, room, done, named}
-use Rattle.node_clauses.specs.Walk.{placesAt, Walked}
+use Rattle.node_clauses.specs.Walk.{definitionIn, placesAt, Walks, Walked}
 
 -- ---- the places of definitions, one definition after another
 
@@ -47,48 +48,57 @@ unfolding rows clausesBy flat flatMap
 by-rows [] = refl
 by-rows (d ∷ D) = rows-first (length D) (placesAt (d ∷ D)) ∙ ap (λ (F : List Entry). flat (clausesOf (d .variable) (d .gate)) ++ F) (by-rows D) ∙ sym (flat-join (clausesOf (d .variable) (d .gate)) (clausesBy D))
 
--- ---- the definition in place x
+-- ---- where the walk stands, and the definition in place x
 
 module _ (C k : ℕ) (block : Block) where
-  abbrev shape : Shape
-  shape = shapeOf (block .points) k (block .rule)
+  abbrev D : List Definition
+  D = definedBy C k block
 
-  placed-places : {x a i d : ℕ} → Placed (block .points) k (block .rule) x a i d → placesAt (definedBy C k block) x ≡ flat (clausesOf (block .first + x) (gateOf C k block x a i d))
-  unfolding definedBy
-  placed-places {x} {a} {i} {d} p =
-      ap (λ (e : Definition). flat (clausesOf (e .variable) (e .gate)))
-      (ap (λ (y : ℕ). getD (definedBy C k block) y (define 0 (Constant false))) (p .at) ∙ getD-per shape (λ e. define (block .first + place shape e) (gateOf C k block (place shape e) (e .0) (e .1 .0) (e .1 .1))) (a, (i, d)) (define 0 (Constant false)) (p .inside)
-      ∙ ap (λ (y : ℕ). define (block .first + y) (gateOf C k block y a i d)) (sym (p .at)))
+  pub begins : {n : ℕ} {one : Weight} → one ≡ variableWeight → n ≡ weightBy one k (block .points) (block .rule) → n ≤ maxWeight → Walks C k block n (record { row = 0; line = 0; cell = 0 }) 0
+  begins o e l =
+      let c = e ∙ ap (λ (w : Weight). weightBy w k (block .points) (block .rule)) o ∙ shape-weight k (block .points) (block .rule) in
+      record { whole = c ∙ sym (block-length C k block); few = l; here = λ h. first-placed (block .points) k (block .rule) (omega (arith, c)) }
 
-  -- the loop's laws
-  module _ {v m : List ℕ} {at : ℕ} where
-    pub walk-begun : {n : ℕ} {one : Weight} → one ≡ variableWeight → n ≡ weightBy one k (block .points) (block .rule) → n ≤ maxWeight → Walked C k block v m at n v m (record { row = 0; line = 0; cell = 0 }) at 0
-    walk-begun o e l =
-        let c = e ∙ ap (λ (w : Weight). weightBy w k (block .points) (block .rule)) o ∙ shape-weight k (block .points) (block .rule) in
-        record { whole = c ∙ sym (block-length C k block); few = l; sofar = begun; here = λ h. first-placed (block .points) k (block .rule) (omega (arith, c)) }
+  module _ {n x : ℕ} {p : Position} (w : Walks C k block n p x) (h : x < n) where
+    pub goes-on : {q : Position} → q ≡ nextOf (block .points) k (block .rule) p → Walks C k block n q (x + 1)
+    goes-on e = record {
+      whole = w .whole;
+      few = w .few;
+      here = λ l. subst (λ (q : Position). Placed (block .points) k (block .rule) (x + 1) (q .row) (q .line) (q .cell)) (sym e)
+          (next-placed (block .points) k (block .rule) x p (w .here h) (omega (arith, w .whole, block-length C k block)));
+    }
 
-    module _ {n : ℕ} {v′ m′ : List ℕ} {p : Position} {b x : ℕ} (w : Walked C k block v m at n v′ m′ p b x) where
-      pub walk-done : n ≤ x → Wrote v m at (flat (clausesBy (definedBy C k block))) v′ m′ b
-      walk-done h = named (ap (λ (n : ℕ). rows n (placesAt (definedBy C k block))) (w .whole) ∙ by-rows (definedBy C k block)) (done (w .sofar) h)
+    pub definition-here : {gate : Gate} → gate ≡ gateOf C k block x (p .row) (p .line) (p .cell) → definitionIn D x ≡ define (block .first + x) gate
+    unfolding definedBy
+    definition-here g =
+        let s = shapeOf (block .points) k (block .rule) in
+        let at = w .here h .at in
+        ap (definitionIn D) at
+        ∙ getD-per s (λ e. define (block .first + place s e) (gateOf C k block (place s e) (e .0) (e .1 .0) (e .1 .1))) (p .row, (p .line, p .cell)) (define 0 (Constant false)) (w .here h .inside)
+        ∙ ap₂ (λ (y : ℕ) (g : Gate). define (block .first + y) g) (sym at) (ap (λ (y : ℕ). gateOf C k block y (p .row) (p .line) (p .cell)) (sym at) ∙ sym g)
+
+  -- the writing loop's laws
+  module _ {v m : List ℕ} {at n : ℕ} where
+    pub walk-begun : Walks C k block n (record { row = 0; line = 0; cell = 0 }) 0 → Walked C k block v m at n v m (record { row = 0; line = 0; cell = 0 }) at 0
+    walk-begun w = record { walks = w; sofar = begun }
+
+    module _ {v′ m′ : List ℕ} {p : Position} {b x : ℕ} (w : Walked C k block v m at n v′ m′ p b x) where
+      all : rows n (placesAt D) ≡ flat (clausesBy D)
+      all = ap (λ (n : ℕ). rows n (placesAt D)) (w .walks .whole) ∙ by-rows D
+
+      pub walk-done : n ≤ x → Wrote v m at (flat (clausesBy D)) v′ m′ b
+      walk-done h = named all (done (w .sofar) h)
 
       module _ (h : x < n) {gate : Gate} (g : gate ≡ gateOf C k block x (p .row) (p .line) (p .cell)) where
-        places : placesAt (definedBy C k block) x ≡ flat (clausesOf (block .first + x) gate)
-        places = placed-places (w .here h) ∙ ap (λ (g : Gate). flat (clausesOf (block .first + x) g)) (sym g)
+        places : placesAt D x ≡ flat (clausesOf (block .first + x) gate)
+        places = ap (λ (e : Definition). flat (clausesOf (e .variable) (e .gate))) (definition-here (w .walks) h g)
 
-        pub walk-room : Room v m at (flat (clausesBy (definedBy C k block))) → Room v′ m′ b (flat (clausesOf (block .first + x) gate))
-        walk-room r =
-            room (w .sofar) h places
-            (subst (λ (F : List Entry). Room v m at F) (sym (ap (λ (n : ℕ). rows n (placesAt (definedBy C k block))) (w .whole) ∙ by-rows (definedBy C k block))) r)
+        pub walk-room : Room v m at (flat (clausesBy D)) → Room v′ m′ b (flat (clausesOf (block .first + x) gate))
+        walk-room r = room (w .sofar) h places (subst (Room v m at) (sym all) r)
 
         pub walk-turn : {v″ m″ : List ℕ} {b″ : ℕ} {q : Position} → Wrote v′ m′ b (flat (clausesOf (block .first + x) gate)) v″ m″ b″ → q ≡ nextOf (block .points) k (block .rule) p
             → Walked C k block v m at n v″ m″ q b″ (x + 1)
-        walk-turn {q = q} t e = record {
-          whole = w .whole;
-          few = w .few;
-          sofar = turn (w .sofar) h places t;
-          here = λ l. subst (λ (q : Position). Placed (block .points) k (block .rule) (x + 1) (q .row) (q .line) (q .cell)) (sym e)
-              (next-placed (block .points) k (block .rule) x p (w .here h) (omega (arith, w .whole, block-length C k block)));
-        }
+        walk-turn t e = record { walks = goes-on (w .walks) h e; sofar = turn (w .sofar) h places t }
 
 -- ---- the inputs of a block's gates are numbers of 32 bits
 
@@ -97,7 +107,7 @@ within-cond true g h a b = a
 within-cond false g h a b = b
 
 module _ (C k : ℕ) (block : Block) (s : Bounded C k block) where
-  pub gate-within : (x a i d : ℕ) → Placed (block .points) k (block .rule) x a i d → Within (gateOf C k block x a i d)
+  gate-within : (x a i d : ℕ) → Placed (block .points) k (block .rule) x a i d → Within (gateOf C k block x a i d)
   unfolding gateOf tripleCountOf
   gate-within x a i d p = go (block .rule) refl
     where
@@ -120,3 +130,16 @@ module _ (C k : ℕ) (block : Block) (s : Bounded C k block) where
       go (Duration n) e = within-cond (eqb a 0) (Constant true) _ tt (within-cond (eqb d 0) (Constant false) _ tt tt)
       go Throughout e = within-cond (eqb d 0) (Constant true) _ tt tt
       go Cut e = tt
+
+-- ---- what each turn asks of the code that it calls
+
+module _ {C k : ℕ} {block : Block} (s : Bounded C k block × (block .points ≤ maxCount)) where
+  pub light : {w v : Weight} → w ≡ v → v .copy ≤ 4 → v .each ≤ 3 → v .step ≤ 11 → Light w k (block .points) (block .rule)
+  light e a b c = record { small = small e a b c (s .0 .steps); points = s .1; number = s .0 .number }
+
+  module _ {n x : ℕ} {p : Position} (w : Walks C k block n p x) (h : x < n) where
+    pub within-here : {gate : Gate} → gate ≡ gateOf C k block x (p .row) (p .line) (p .cell) → Within gate
+    within-here g = subst Within (sym g) (gate-within C k block (s .0) x (p .row) (p .line) (p .cell) (w .here h))
+
+    pub small-here : (k ≤ maxSteps) × (p .row < bound) × (p .line < bound) × (p .cell < bound)
+    small-here = omega (arith, s .0 .steps, position-small (w .here h) (s .0 .number) (s .0 .steps) (s .1))

@@ -1,4 +1,4 @@
--- What the walk of a block has written after x positions. No call open to others cites these.
+-- The walk of a block after x positions: where it stands, and what it has written. No call open to others cites these.
 use mathlib.Core.Path.{_≡_}
 use mathlib.Core.Bool.{false}
 use mathlib.Core.List.{List}
@@ -14,12 +14,20 @@ use Rattle.clauses.specs.Clauses.{clausesOf}
 use Rattle.clauses.specs.Entries.{Entry, flat}
 use Rattle.literals.specs.Written.{Sofar}
 
--- the places of the definition in place x
-abbrev pub placesAt : List Definition → ℕ → List Entry
-placesAt D x = let d = getD D x (define 0 (Constant false)) in flat (clausesOf (d .variable) (d .gate))
+-- the definition in place x
+abbrev pub definitionIn : List Definition → ℕ → Definition
+definitionIn D x = getD D x (define 0 (Constant false))
 
-pub record Walked (C k : ℕ) (block : Block) (v m : List ℕ) (at n : ℕ) (v′ m′ : List ℕ) (p : Position) (at′ x : ℕ) : Type 0 where
+-- and its places
+abbrev pub placesAt : List Definition → ℕ → List Entry
+placesAt D x = let d = definitionIn D x in flat (clausesOf (d .variable) (d .gate))
+
+-- n being how many positions there are, place x, if it is one of them, is that of position p
+pub record Walks (C k : ℕ) (block : Block) (n : ℕ) (p : Position) (x : ℕ) : Type 0 where
   pub whole : n ≡ length (definedBy C k block)
   pub few : n ≤ maxWeight
-  pub sofar : Sofar v m at (placesAt (definedBy C k block)) n v′ m′ at′ x
   pub here : x < n → Placed (block .points) k (block .rule) x (p .row) (p .line) (p .cell)
+
+pub record Walked (C k : ℕ) (block : Block) (v m : List ℕ) (at n : ℕ) (v′ m′ : List ℕ) (p : Position) (at′ x : ℕ) : Type 0 where
+  pub walks : Walks C k block n p x
+  pub sofar : Sofar v m at (placesAt (definedBy C k block)) n v′ m′ at′ x

@@ -3,14 +3,16 @@ use blocks::Block;
 use blocks::Position;
 use blocks::Rule;
 use interval::Interval;
+ghost use mathlib.Core.Path.{_≡_};
 ghost use Prim.Native.Nat.{_+_, _≤_};
 ghost use Rattle.interval.specs.Places.{countOf};
-ghost use Rattle.interval.specs.Limits.{maxCount};
+ghost use Rattle.interval.specs.Limits.{maxSteps, maxCount};
 ghost use Rattle.blocks.specs.Blocks.{definedBy, Bounded};
+ghost use Rattle.weights.specs.Weights.{maxSum};
 ghost use Rattle.clauses.specs.Clauses.{clausesBy};
 ghost use Rattle.clauses.specs.Entries.{flat};
 ghost use Rattle.literals.specs.Written.{Room, Wrote};
-ghost use Rattle.node_clauses.specs.Nodes.{choppedBy, nodePlaces, Fine};
+ghost use Rattle.node_clauses.specs.Nodes.{triplesOf, intervalsOf, choppedBy, nodePlaces, Fine};
 
 // The clauses of a block, position after position.
 fn walk_block(
@@ -70,6 +72,40 @@ fn put_block(
     walk_block(variables, marks, at, c, k, block)
 }
 
+// Where a chop's triples begin: after its intervals.
+pub fn beyond(first: u32, k: u32) -> u32
+    requires { ⌜ (first ≤ maxSum) × (k ≤ maxSteps) ⌝ }
+    ensures { λ r. ⌜ r ≡ first + countOf k ⌝ }
+{
+    first + Interval::count(k as usize) as u32
+}
+
+// A chop's triples, from w on.
+pub fn triples_of(w: u32, block: Block) -> Block
+    ensures { λ r. ⌜ r ≡ triplesOf w block ⌝ }
+{
+    Block {
+        rule: Rule::Cut,
+        points: block.points,
+        first: w,
+        left: block.left,
+        right: block.right,
+    }
+}
+
+// Its intervals, which go by them.
+pub fn intervals_of(w: u32, block: Block) -> Block
+    ensures { λ r. ⌜ r ≡ intervalsOf w block ⌝ }
+{
+    Block {
+        rule: Rule::Chop,
+        points: block.points,
+        first: block.first,
+        left: w,
+        right: block.right,
+    }
+}
+
 // A chop: its triples, then its intervals.
 fn put_chop(
     variables: &mut [u32],
@@ -83,23 +119,10 @@ fn put_chop(
     requires { ⌜ Fine c k block ⌝ }
     ensures { λ r. ⌜ Wrote (now (variables .entry)) (now (marks .entry)) at (flat (clausesBy (choppedBy c k (block .first + countOf k) block))) (now (variables .exit)) (now (marks .exit)) r ⌝ }
 {
-    let first = block.first;
-    let w = first + Interval::count(k as usize) as u32;
-    let triples = Block {
-        rule: Rule::Cut,
-        points: block.points,
-        first: w,
-        left: block.left,
-        right: block.right,
-    };
+    let w = beyond(block.first, k);
+    let triples = triples_of(w, block);
+    let intervals = intervals_of(w, block);
     let b = put_block(variables, marks, at, c, k, triples);
-    let intervals = Block {
-        rule: Rule::Chop,
-        points: block.points,
-        first: first,
-        left: w,
-        right: block.right,
-    };
     put_block(variables, marks, b, c, k, intervals)
 }
 

@@ -94,7 +94,7 @@ pub row-zeros : (N k i start end : ℕ) (t : List ℕ) → Filled N k i start t 
 row-zeros N k i start end t w y h =
     part-entry start (end - start) t y (omega (arith, length-take (end - start) (drop start t))) ∙ w .rest (start + y) (omega arith)
 
-zeros : (n y : ℕ) → getD {A = ℕ} (replicate n 0) y 0 ≡ 0
+pub zeros : (n y : ℕ) → getD {A = ℕ} (replicate n 0) y 0 ≡ 0
 zeros zero y = refl
 zeros (suc n) zero = refl
 zeros (suc n) (suc y) = zeros n y

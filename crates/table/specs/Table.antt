@@ -13,6 +13,14 @@ use Rattle.interval.specs.Places.{placeOf}
 use Rattle.interval.specs.declared.Interval.{Interval}
 use Rattle.meaning.specs.Meaning.{bit, lasts, fills}
 
+-- the truth at a place of a table, or of any bytes: no past the end
+abbrev pub highAt : List ℕ → ℕ → Bool
+highAt t e = eqb (getD t e 0) 1
+
+-- every byte is 0 or 1
+pub record Binary (t : List ℕ) : Type 0 where
+  pub at : (e : ℕ) → getD t e 0 ≡ bit (highAt t e)
+
 -- t has, at the place of each interval of k steps, 1 where f is true and 0 where not
 pub record TableOf (k : ℕ) (f : Interval → Bool) (t : List ℕ) : Type 0 where
   pub at : (v : Interval) → IntervalOf k v → getD t (placeOf k v) 0 ≡ bit (f v)

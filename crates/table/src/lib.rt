@@ -19,7 +19,7 @@ pub fn all_of(b: u8) -> [u8; Interval::MAX_COUNT]
     [b; Interval::MAX_COUNT]
 }
 
-fn byte_of(yes: bool) -> u8
+pub fn byte_of(yes: bool) -> u8
     ensures { λ r. ⌜ r ≡ bit yes ⌝ }
 {
     if yes { 1 } else { 0 }
@@ -89,7 +89,7 @@ pub fn measured_table(kind: u8, n: u8, word: u32, k: usize) -> [u8; Interval::MA
 }
 
 // What `!`, `&` or `|` makes of the truths of its parts.
-fn joined_byte(kind: u8, a: u8, b: u8) -> u8
+pub fn joined_byte(kind: u8, a: u8, b: u8) -> u8
     ensures { λ r. ⌜ r ≡ joinedByte kind a b ⌝ }
 {
     if kind == 2 {

@@ -6,6 +6,8 @@ use Rattle.evaluator.specs.declared.Verdict.{Verdict}
 use Rattle.evaluator.specs.declared.Verdict.the-variants as verdict
 use Rattle.clause_table.specs.declared.Written.{Written}
 use Rattle.clause_table.specs.declared.Written.the-variants as written
+use Rattle.assignments.specs.declared.Checked.{Checked}
+use Rattle.assignments.specs.declared.Checked.the-variants as checked
 use Rattle.nodes.specs.declared.Located.{Located}
 use Rattle.nodes.specs.declared.Located.the-variants as located
 
@@ -23,10 +25,15 @@ packVerdict verdict.No = packed 64 0
 packVerdict verdict.Yes = packed 65 0
 packVerdict (verdict.Refused r) = packRefusal r
 
--- a table or a file: 66 once it is written or read
+-- a table, a file or an assignment: 66 once it is written or read
 unfoldable pub packWritten : Written → ℕ
 packWritten written.Done = packed 66 0
 packWritten (written.Refused r) = packRefusal r
+
+-- a proposed assignment: 67 where it is accepted
+unfoldable pub packChecked : Checked → ℕ
+packChecked checked.Accepted = packed 67 0
+packChecked (checked.Refused r) = packRefusal r
 
 -- a node's own text: 71, and its first byte + 256 · its length
 unfoldable pub packLocated : Located → ℕ

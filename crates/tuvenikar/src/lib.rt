@@ -1,5 +1,6 @@
 // The calls for C, on numbers and slices. Each answers with one number: its low half says what, its high half the place or the
 // value; include/tuvenikar.h has the same for C.
+use assignments::Checked;
 use clause_table::Sizes;
 use clause_table::Written;
 use evaluator::Verdict;
@@ -9,9 +10,10 @@ ghost use mathlib.Core.List.{[], _∷_};
 ghost use Rattle.evaluator.specs.Evaluation.{evaluated};
 ghost use Rattle.nodes.specs.Calls.{nodePlaceOf};
 ghost use Rattle.clause_table.specs.Table.{tabled};
+ghost use Rattle.assignments.specs.Calls.{extended, proposed};
 ghost use Rattle.clause_file.specs.File.{sizesBy};
 ghost use Rattle.clause_file.specs.Calls.{fileWritten, fileRead};
-ghost use Rattle.tuvenikar.specs.Answers.{packed, packVerdict, packLocated, packWritten};
+ghost use Rattle.tuvenikar.specs.Answers.{packed, packVerdict, packLocated, packWritten, packChecked};
 
 // What, and the place or the value above it.
 fn pack(code: u32, value: u32) -> u64
@@ -51,6 +53,16 @@ fn pack_written(a: Written) -> u64
     }
 }
 
+// Accepted, or the refusal's number and place.
+fn pack_checked(a: Checked) -> u64
+    ensures { λ r. ⌜ r ≡ packChecked a ⌝ }
+{
+    match a {
+        Checked::Accepted => pack(67, 0),
+        Checked::Refused(r) => pack(r.number, r.place),
+    }
+}
+
 // Whether the recording satisfies the formula on [i, j]: questions 1 to 7 and 9 to 11.
 #[no_mangle]
 pub extern "C" fn tuv_evaluate(text: &[u8], c: u32, k: u32, i: u32, j: u32, recording: &[u8]) -> u64
@@ -83,6 +95,36 @@ pub extern "C" fn tuv_table(
     ensures { λ r. ⌜ now (marks .exit) ≡ tabled c k (now (text .entry)) (now (sizes .entry)) (now (variables .entry)) (now (marks .entry)) .marks ⌝ }
 {
     pack_written(clause_table::table(text, c, k, sizes, variables, marks))
+}
+
+// The assignment that extends a recording and meets all clauses but the last: questions 1 to 7, 10, 11 and 18.
+#[no_mangle]
+pub extern "C" fn tuv_extend(
+    text: &[u8],
+    c: u32,
+    k: u32,
+    recording: &[u8],
+    assignment: &mut [u8],
+) -> u64
+    ensures { λ r. ⌜ r ≡ packWritten (extended c k (now (text .entry)) (now (recording .entry)) (now (assignment .entry)) .answer) ⌝ }
+    ensures { λ r. ⌜ now (assignment .exit) ≡ extended c k (now (text .entry)) (now (recording .entry)) (now (assignment .entry)) .assignment ⌝ }
+{
+    pack_written(extension::extend(text, c, k, recording, assignment))
+}
+
+// Whether a proposed assignment meets every clause, and the recording read from it: questions 1 to 7, 12 to 14 and 18.
+#[no_mangle]
+pub extern "C" fn tuv_check(
+    text: &[u8],
+    c: u32,
+    k: u32,
+    assignment: &[u8],
+    recording: &mut [u8],
+) -> u64
+    ensures { λ r. ⌜ r ≡ packChecked (proposed c k (now (text .entry)) (now (assignment .entry)) (now (recording .entry)) .answer) ⌝ }
+    ensures { λ r. ⌜ now (recording .exit) ≡ proposed c k (now (text .entry)) (now (assignment .entry)) (now (recording .entry)) .recording ⌝ }
+{
+    pack_checked(proposal::check(text, c, k, assignment, recording))
 }
 
 // A table's file, from its five sizes and its two arrays: questions 15 to 18.

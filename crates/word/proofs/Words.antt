@@ -19,15 +19,16 @@ use Rattle.word.specs.Word.{WordOf, joined}
 abbrev pub width : ℕ
 width = 32
 
+-- what is 0 or 1 is a bit
+pub as-bit : (x : ℕ) → x < 2 → x ≡ bit (eqb x 1)
+as-bit zero h = refl
+as-bit (suc zero) h = refl
+as-bit (suc (suc x)) h = omega arith
+
 -- digit t is 1 where bit t is
 pub digit : (w t : ℕ) → w / 2 ^ t % 2 ≡ bit (bitAt w t)
 unfolding bitAt
-digit w t = below-two (w / 2 ^ t % 2) (mod-lt (w / 2 ^ t) (zero-lt-suc 1))
-  where
-    below-two : (x : ℕ) → x < 2 → x ≡ bit (eqb x 1)
-    below-two zero h = refl
-    below-two (suc zero) h = refl
-    below-two (suc (suc x)) h = omega arith
+digit w t = as-bit (w / 2 ^ t % 2) (mod-lt (w / 2 ^ t) (zero-lt-suc 1))
 
 ones-bit : (b : Bool) → ones (bit b) ≡ bit b
 unfolding ones onesIn
@@ -91,7 +92,7 @@ below x n t h =
     let e : n ≡ j + 1 + t = omega arith in
     ap (λ (y : ℕ). eqb (y % 2) 1) (ap (λ (m : ℕ). x % 2 ^ m / 2 ^ t) e ∙ field x (j + 1) t) ∙ ap (λ (y : ℕ). eqb y 1) (mod-mod-pow (x / 2 ^ t) j 1)
 
-bit-lt : (b : Bool) → bit b < 2
+pub bit-lt : (b : Bool) → bit b < 2
 bit-lt true = omega arith
 bit-lt false = omega arith
 
@@ -99,14 +100,13 @@ bit-lt false = omega arith
 abbrev pub Packed : ℕ → (ℕ → Bool) → ℕ → Type 0
 Packed k f w = (w < 2 ^ k) × WordOf k f w
 
--- one instant more, in n bits
-pub packed-more : (n k : ℕ) {f : ℕ → Bool} {w x : ℕ} → k < n → x ≡ bit (f k) → Packed k f w → Packed (k + 1) f (w + x * 2 ^ k % 2 ^ n)
+-- one instant more
+pub packed-add : (k : ℕ) {f : ℕ → Bool} {w : ℕ} → Packed k f w → Packed (k + 1) f (w + bit (f k) * 2 ^ k)
 unfolding bitAt
-packed-more n k {f} {w} {x} h e p =
+packed-add k {f} {w} p =
     let b : ℕ = bit (f k) in
     let y : ℕ = b * 2 ^ k + w in
-    let same : w + x * 2 ^ k % 2 ^ n ≡ y = ap (λ (d : ℕ). w + d * 2 ^ k % 2 ^ n) e ∙ ap (λ (d : ℕ). w + d) (shl-exact 1 k n (bit-lt (f k)) (omega arith)) ∙ add-comm w (b * 2 ^ k) in
-    rw same (
+    rw (add-comm w (b * 2 ^ k)) (
       omega (arith, p .0, pow-add 2 k 1, mul-le-mul-right {m = b} {n = 1} (2 ^ k) (omega (arith, bit-lt (f k)))),
       record {
         at = below-more (λ (t : ℕ). bitAt y t ≡ f t) k
@@ -114,6 +114,10 @@ packed-more n k {f} {w} {x} h e p =
             (ap (λ (d : ℕ). eqb d 1) (ap (λ (d : ℕ). d % 2) (high b k (p .0)) ∙ mod-eq-of-lt (bit-lt (f k))) ∙ high-bit (f k));
       },
     )
+
+-- in n bits
+pub packed-more : (n k : ℕ) {f : ℕ → Bool} {w x : ℕ} → k < n → x ≡ bit (f k) → Packed k f w → Packed (k + 1) f (w + x * 2 ^ k % 2 ^ n)
+packed-more n k {f} {w} {x} h e p = rw (e, shl-exact 1 k n (bit-lt (f k)) (omega arith)) (packed-add k p)
 
 -- w ones, without the t lowest
 pub shifted : (w j t : ℕ) → w ≡ j + t → (2 ^ w - 1) / 2 ^ t ≡ 2 ^ j - 1

@@ -2,6 +2,7 @@
 
 use std::fmt;
 
+use crate::assignment::extended;
 use crate::counts::counts;
 
 /// One call with all that is lent to it.
@@ -12,11 +13,14 @@ pub struct Case {
     pub call: Call,
 }
 
-/// What a call takes besides text, C and k; a table's are the lengths of sizes, variables and marks.
+/// What a call takes besides text, C and k; a table's are the lengths of sizes, variables and marks, and room is the length of
+/// the one array to be written.
 pub enum Call {
     Evaluate { i: u32, j: u32, recording: Vec<u8> },
     NodeText { node: u32 },
     Table([usize; 3]),
+    Extend { recording: Vec<u8>, room: usize },
+    Check { assignment: Vec<u8>, room: usize },
 }
 
 impl Call {
@@ -25,6 +29,8 @@ impl Call {
             Call::Evaluate { .. } => EVALUATE,
             Call::NodeText { .. } => NODE_TEXT,
             Call::Table(_) => TABLE,
+            Call::Extend { .. } => EXTEND,
+            Call::Check { .. } => CHECK,
         }
     }
 }
@@ -32,6 +38,13 @@ impl Call {
 pub const EVALUATE: &str = "evaluate";
 pub const NODE_TEXT: &str = "node text";
 pub const TABLE: &str = "table";
+pub const EXTEND: &str = "extend";
+pub const CHECK: &str = "check";
+
+/// As much of an array as a reader can use.
+pub fn shown<T: Copy>(values: &[T]) -> Vec<T> {
+    values.iter().take(100).copied().collect()
+}
 
 impl fmt::Display for Case {
     fn fmt(&self, f: &mut fmt::Formatter) -> fmt::Result {
@@ -44,6 +57,13 @@ impl fmt::Display for Case {
             Call::NodeText { node } => write!(f, "node {node}"),
             Call::Table([sizes, variables, marks]) => {
                 write!(f, "table in {sizes} sizes, {variables} variables, {marks} marks")
+            }
+            Call::Extend { recording, room } => {
+                write!(f, "extension of recording {recording:02x?} in {room} places")
+            }
+            Call::Check { assignment, room } => {
+                write!(f, "assignment of {} bytes {:?} ", assignment.len(), shown(assignment))?;
+                write!(f, "to a recording of {room} places")
             }
         }
     }
@@ -62,10 +82,10 @@ pub const FAMILIES: [Family<Case>; 11] = [
     Family { name: "every interval of short recordings", cases: 120_000, draw: every_interval },
     Family { name: DEEP, cases: 40_000, draw: deep_chops },
     Family { name: "every node's text", cases: 60_000, draw: every_node },
-    Family { name: "texts near the limits", cases: 60_000, draw: near_limits },
-    Family { name: "damaged texts", cases: 90_000, draw: damaged_texts },
-    Family { name: "random bytes as text", cases: 60_000, draw: random_bytes },
-    Family { name: "odd numbers, recordings and lengths", cases: 90_000, draw: odd_arguments },
+    Family { name: "texts near the limits", cases: 100_000, draw: near_limits },
+    Family { name: "damaged texts", cases: 150_000, draw: damaged_texts },
+    Family { name: "random bytes as text", cases: 100_000, draw: random_bytes },
+    Family { name: "odd numbers, recordings and lengths", cases: 150_000, draw: odd_arguments },
     Family { name: "tables of few steps", cases: 100_000, draw: small_tables },
     Family { name: "tables of few nodes", cases: 8_000, draw: narrow_tables },
     Family { name: "tables of chops within chops", cases: 1_000, draw: chop_tables },
@@ -233,9 +253,17 @@ impl<'a> Author<'a> {
     }
 }
 
-fn formula(dice: &mut Dice, c: u32, k: u32, nodes: usize) -> Vec<u8> {
+pub fn formula(dice: &mut Dice, c: u32, k: u32, nodes: usize) -> Vec<u8> {
     let mut author = Author::new(dice, c, k);
     author.formula(nodes);
+    author.text
+}
+
+/// Chops within both parts of chops, with numbers as for recordings of so many steps.
+pub fn chops(dice: &mut Dice, c: u32, k: u32) -> Vec<u8> {
+    let mut author = Author::new(dice, c, k);
+    let depth = author.dice.from(2, 3);
+    author.chops(depth);
     author.text
 }
 
@@ -265,7 +293,7 @@ pub fn channels(dice: &mut Dice) -> u32 {
 }
 
 /// Bytes below 2^C, seldom or often changing, so that `[S]` holds of long and of short intervals.
-fn recording(dice: &mut Dice, c: u32, k: u32) -> Vec<u8> {
+pub fn recording(dice: &mut Dice, c: u32, k: u32) -> Vec<u8> {
     let stay = dice.from(1, 4);
     let mut byte = 0;
     let mut draw = |_| {
@@ -287,12 +315,15 @@ fn each_call(dice: &mut Dice, text: Vec<u8>, c: u32, k: u32) -> Vec<Case> {
     let (i, j) = interval(dice, k);
     let recording = recording(dice, c, k);
     let node = dice.from(0, 5) as u32;
-    let node_text = Case { text: text.clone(), c, k, call: Call::NodeText { node } };
-    let evaluation = Case { text: text.clone(), c, k, call: Call::Evaluate { i, j, recording } };
-    // Of few steps, since it is the text that is tried.
-    let k = k % 4;
     let is_short = dice.one_in(2);
-    vec![node_text, evaluation, table(dice, text, c, k, is_short)]
+    // Of few steps where there is a table, since it is the text that is tried.
+    let few = k % 4;
+    let part = &recording[..few as usize];
+    let [extend, check] = extend_and_check(&text, c, few, part, extension(&text, c, few, part));
+    let table = table(dice, text.clone(), c, few, is_short);
+    let node_text = Case { text: text.clone(), c, k, call: Call::NodeText { node } };
+    let evaluation = Case { text, c, k, call: Call::Evaluate { i, j, recording } };
+    vec![node_text, evaluation, table, extend, check]
 }
 
 /// Lends what the table needs, or more; or less in some of the arrays. For a refused text nobody knows what it needs.
@@ -308,6 +339,23 @@ fn table(dice: &mut Dice, text: Vec<u8>, c: u32, k: u32, is_short: bool) -> Case
         }
     });
     Case { text, c, k, call: Call::Table(lengths) }
+}
+
+/// The extension of a recording. For a refused text nobody knows what it is.
+pub fn extension(text: &[u8], c: u32, k: u32, recording: &[u8]) -> Vec<u8> {
+    extended(text, c, k, recording, usize::MAX).unwrap_or(vec![2; 40])
+}
+
+/// A recording extended, and an assignment that may be its extension checked, each in an output of what it needs then.
+pub fn extend_and_check(text: &[u8], c: u32, k: u32, recording: &[u8], assignment: Vec<u8>) -> [Case; 2] {
+    let extend = Call::Extend { recording: recording.to_vec(), room: assignment.len() };
+    let check = Call::Check { assignment, room: recording.len() };
+    [extend, check].map(|call| Case { text: text.to_vec(), c, k, call })
+}
+
+/// What is needed, a place less, a place more; none, and many.
+pub fn around(need: usize) -> [usize; 5] {
+    [0, need.saturating_sub(1), need, need + 1, need + 9]
 }
 
 // Families
@@ -343,10 +391,7 @@ fn deep_chops(dice: &mut Dice) -> Vec<Case> {
     let (c, most) = (channels(dice), dice.pick(&[4, 8, 16, 32]));
     let k = dice.from(0, most) as u32;
     // The numbers are drawn for a part of the recording, so that a chop of many can be met.
-    let mut author = Author::new(dice, c, k / 4 + 1);
-    let depth = author.dice.from(2, 3);
-    author.chops(depth);
-    let text = author.text;
+    let text = chops(dice, c, k / 4 + 1);
     let ends = [(0, k), interval(dice, k), interval(dice, k), interval(dice, k)];
     evaluations(&text, c, &recording(dice, c, k), ends)
 }
@@ -419,7 +464,7 @@ fn both_rooms(dice: &mut Dice, text: Vec<u8>, c: u32, k: u32) -> Vec<Case> {
 }
 
 /// As many levels as an interval has instants, or some that none can reach.
-fn levels(dice: &mut Dice, k: u32) -> u32 {
+pub fn levels(dice: &mut Dice, k: u32) -> u32 {
     dice.pick(&[k, k, k, 31])
 }
 
@@ -440,10 +485,7 @@ fn narrow_tables(dice: &mut Dice) -> Vec<Case> {
 fn chop_tables(dice: &mut Dice) -> Vec<Case> {
     let (c, k) = (channels(dice), dice.from(0, 20) as u32);
     let levels = levels(dice, k / 4);
-    let mut author = Author::new(dice, c, levels);
-    let depth = author.dice.from(2, 3);
-    author.chops(depth);
-    let text = author.text;
+    let text = chops(dice, c, levels);
     both_rooms(dice, text, c, k)
 }
 
@@ -468,14 +510,30 @@ fn make_odd(dice: &mut Dice, case: &mut Case) {
         (_, Call::Table(lengths)) => lengths[dice.from(0, 2)] = 0,
         (5, Call::Evaluate { i, .. }) => *i = number,
         (6, Call::Evaluate { j, .. }) => *j = number,
-        (7, Call::Evaluate { recording, .. }) => drop(recording.pop()),
-        (8, Call::Evaluate { recording, .. }) => recording.push(0),
-        (9, Call::Evaluate { recording, .. }) => recording.resize(number.min(300) as usize, 0),
-        (_, Call::Evaluate { recording, .. }) => {
-            if !recording.is_empty() {
-                let t = dice.from(0, recording.len() - 1);
-                recording[t] |= 1 << dice.from(case.c.min(7) as usize, 7);
-            }
+        (5 | 6, Call::Extend { room, .. } | Call::Check { room, .. }) => *room = dice.pick(&around(*room)),
+        (7 | 8, Call::Check { assignment, .. }) => turn(dice, assignment),
+        (_, Call::Evaluate { recording: bytes, .. } | Call::Extend { recording: bytes, .. }) => spoil(dice, bytes, case.c),
+        (_, Call::Check { assignment: bytes, .. }) => spoil(dice, bytes, case.c),
+    }
+}
+
+/// One byte of an assignment to the other value.
+pub fn turn(dice: &mut Dice, assignment: &mut [u8]) {
+    let at = dice.from(0, assignment.len().max(1) - 1);
+    assignment.iter_mut().skip(at).take(1).for_each(|byte| *byte ^= 1);
+}
+
+/// A recording or an assignment to another length, or with a byte that has a bit from C on, which neither may have.
+fn spoil(dice: &mut Dice, bytes: &mut Vec<u8>, c: u32) {
+    let number = dice.pick(&ODD_NUMBERS);
+    match dice.from(1, 6) {
+        1 => drop(bytes.pop()),
+        2 => bytes.push(0),
+        3 => bytes.resize(number.min(300) as usize, 0),
+        _ if bytes.is_empty() => {}
+        _ => {
+            let at = dice.from(0, bytes.len() - 1);
+            bytes[at] |= 1 << dice.from(c.min(7) as usize, 7);
         }
     }
 }

@@ -15,10 +15,10 @@ fn part(start: u32, length: u32) -> Answer {
 }
 
 type Edge = (String, Case, Answer);
-type Tried = (String, Case, Wanted);
+pub type Tried = (String, Case, Wanted);
 
 pub fn edges() -> Vec<Tried> {
-    let unwritten = [evaluations(), refusals(), node_texts(), refused_tables()].into_iter().flatten();
+    let unwritten = [evaluations(), refusals(), node_texts(), refused_outputs(), short_tables()].into_iter().flatten();
     unwritten.map(|(name, case, answer)| (name, case, answer.into())).chain(tables()).collect()
 }
 
@@ -139,19 +139,36 @@ fn node_texts() -> Vec<Edge> {
     ]
 }
 
-/// What is refused is refused whatever there is room for, and with a text that is accepted only room is missing.
-fn refused_tables() -> Vec<Edge> {
-    let table = |(name, case, answer): &Edge, lengths: [usize; 3]| {
-        let Case { text, c, k, .. } = case;
-        let case = Case { text: text.clone(), c: *c, k: *k, call: Call::Table(lengths) };
-        (format!("table of {name} in {lengths:?}"), case, *answer)
+/// A text that is refused is refused by each call that writes, whatever else is wrong and whatever there is room for.
+fn refused_outputs() -> Vec<Edge> {
+    let calls = || {
+        [
+            Call::Table([0; 3]),
+            Call::Table([9, 40, 40]),
+            Call::Extend { recording: vec![255], room: 0 },
+            Call::Extend { recording: vec![], room: 40 },
+            Call::Check { assignment: vec![255], room: 0 },
+            Call::Check { assignment: vec![], room: 40 },
+        ]
     };
-    let of_texts = refusals().into_iter().filter(|(_, _, (code, _))| *code <= 7);
-    let mut edges: Vec<Edge> = of_texts.flat_map(|edge| [table(&edge, [0; 3]), table(&edge, [9, 40, 40])]).collect();
-    let truth = ("T".to_string(), Case { text: b"T".to_vec(), c: 1, k: 0, call: Call::Table([0; 3]) }, (18, 0));
+    let each_call = |(name, Case { text, c, k, .. }, answer): Edge| {
+        let edge = move |call: Call| {
+            let name = format!("{} of {name}", call.name());
+            (name, Case { text: text.clone(), c, k, call }, answer)
+        };
+        calls().map(edge)
+    };
+    refusals().into_iter().filter(|(_, _, (code, _))| *code <= 7).flat_map(each_call).collect()
+}
+
+/// With a text that is accepted only room is missing.
+fn short_tables() -> Vec<Edge> {
     let too_short = [[4, 2, 2], [5, 1, 2], [5, 2, 1], [0, 2, 2], [5, 0, 2], [5, 2, 0], [9, 9, 1], [0, 0, 0]];
-    edges.extend(too_short.map(|lengths| table(&truth, lengths)));
-    edges
+    let table = |lengths| {
+        let case = Case { text: b"T".to_vec(), c: 1, k: 0, call: Call::Table(lengths) };
+        (format!("table of T in {lengths:?}"), case, (18, 0))
+    };
+    too_short.map(table).into_iter().collect()
 }
 
 /// Clauses as the paper prints them, `(-2 1)(2 -1)`.

@@ -3,7 +3,7 @@
 
 use std::fmt;
 
-use crate::cases::{channels, Dice, Family, ODD_NUMBERS};
+use crate::cases::{around, channels, shown, Dice, Family, ODD_NUMBERS};
 use crate::file::{bytes, closing, numbers};
 use crate::table::Table;
 
@@ -26,11 +26,6 @@ impl FileCase {
 
 pub const WRITE_FILE: &str = "write file";
 pub const READ_FILE: &str = "read file";
-
-/// As much of an array as a reader can use.
-fn shown<T: Copy>(values: &[T]) -> Vec<T> {
-    values.iter().take(100).copied().collect()
-}
 
 impl fmt::Display for FileCase {
     fn fmt(&self, f: &mut fmt::Formatter) -> fmt::Result {
@@ -203,11 +198,6 @@ fn wrapped_lengths(dice: &mut Dice) -> Vec<FileCase> {
         FileCase::Read { file, lengths: [5, 64, 64] }
     });
     reads.chain([FileCase::Write { table, room: 300 }]).collect()
-}
-
-/// What is needed, a place less, a place more; none, and many.
-fn around(need: usize) -> [usize; 5] {
-    [0, need.saturating_sub(1), need, need + 1, need + 9]
 }
 
 /// Outputs of every length up to what the writer needs and beyond it, and the reader's three arrays in all combinations.

@@ -4,7 +4,9 @@ use crate::fault;
 use crate::fence::{fill_vast, vast, Fence, Output, Side};
 use crate::file;
 use crate::file_cases::FileCase;
-use crate::lent::{fill, lend, start, unpacked, wrong_answer, wrong_places, LentTable, TableOutput, Wanted, TABLE_ROOM};
+use crate::lent::{
+    fill, lend, start, unpacked, wrong_answer, wrong_answers, wrong_places, LentTable, TableOutput, Wanted, TABLE_ROOM,
+};
 use crate::reference::Answer;
 use crate::table::Table;
 
@@ -63,7 +65,7 @@ impl FileEngine {
         match case {
             FileCase::Write { table, room } => {
                 let (answer, file) = self.write(side, table, *room);
-                wrong_answer(answer, wanted).or_else(|| wrong_places("file", file, wanted.file(), fill(side)))
+                wrong_answer(answer, wanted).or_else(|| wrong_places("file", file, wanted.bytes(), fill(side)))
             }
             FileCase::Read { file, lengths } => {
                 let (answer, lent) = self.read(side, file, *lengths);
@@ -103,11 +105,6 @@ fn two_literals() -> (Table, Vec<u8>) {
     let table = Table { sizes: [1, 0, 1, 2, 2], variables: vec![1, 1], marks: vec![3, 3] };
     let file = file::bytes(&table);
     (table, file)
-}
-
-fn wrong_answers<const N: usize>(answers: [u64; N], wanted: [u32; N]) -> Option<String> {
-    let (answers, wanted) = (answers.map(unpacked), wanted.map(|code| (code, 0)));
-    (answers != wanted).then(|| format!("answered {answers:?}, wanted {wanted:?}"))
 }
 
 /// Arrays of 2^32 + 2 places are not of 2, nor is a file of 2^32 + 30 bytes one of 30.

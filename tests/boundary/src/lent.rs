@@ -19,6 +19,8 @@ pub enum Written {
     Nothing,
     Table(Table),
     File(Vec<u8>),
+    Assignment(Vec<u8>),
+    Recording(Vec<u8>),
 }
 
 impl From<Answer> for Wanted {
@@ -30,6 +32,7 @@ impl From<Answer> for Wanted {
 impl From<Result<Written, Refusal>> for Wanted {
     fn from(result: Result<Written, Refusal>) -> Self {
         match result {
+            Ok(written @ Written::Recording(_)) => Wanted { answer: (67, 0), written },
             Ok(written) => Wanted { answer: (66, 0), written },
             Err(refusal) => packed(Err(refusal)).into(),
         }
@@ -44,10 +47,11 @@ impl Wanted {
         }
     }
 
-    pub fn file(&self) -> &[u8] {
+    /// Of a call that writes one array of bytes.
+    pub fn bytes(&self) -> &[u8] {
         match &self.written {
-            Written::File(file) => file,
-            _ => &[],
+            Written::File(bytes) | Written::Assignment(bytes) | Written::Recording(bytes) => bytes,
+            Written::Nothing | Written::Table(_) => &[],
         }
     }
 }
@@ -59,6 +63,12 @@ pub fn unpacked(answer: u64) -> Answer {
 pub fn wrong_answer(got: Answer, wanted: &Wanted) -> Option<String> {
     let wanted = wanted.answer;
     (got != wanted).then(|| format!("answered {got:?}, wanted {wanted:?} (code, value)"))
+}
+
+/// The same for several calls whose answers have the value 0.
+pub fn wrong_answers<const N: usize>(answers: [u64; N], wanted: [u32; N]) -> Option<String> {
+    let (answers, wanted) = (answers.map(unpacked), wanted.map(|code| (code, 0)));
+    (answers != wanted).then(|| format!("answered {answers:?}, wanted {wanted:?}"))
 }
 
 /// What outputs are filled with: not the same on either side, so that what goes by it differs, and a place that is not

@@ -1,9 +1,13 @@
 //! Tries the calls across the C boundary: the edges with the paper's own answers, then random cases
-//! against an implementation of its own (`reference`, `table` for tables, `file` for files). What is lent is fenced (`fence`),
-//! and each case is called twice, on either side of the fence: the answers must be equal, no byte beyond be
-//! touched, and every place of an output be what it should. The largest tables that there are (`counts`) are printed.
+//! against an implementation of its own (`reference`, `table` for tables, `assignment` for extensions and checks, `file` for
+//! files). What is lent is fenced (`fence`), and each case is called twice, on either side of the fence: the answers must be
+//! equal, no byte beyond be touched, and every place of an output be what it should. The largest tables that there are
+//! (`counts`) are printed.
 //! A seed other than the usual one is taken from TUVENIKAR_SEED. The last line is `N passed, M failed`.
 
+mod assignment;
+mod assignment_cases;
+mod assignment_edges;
 mod cases;
 mod counts;
 mod edges;
@@ -23,7 +27,8 @@ use std::collections::BTreeMap;
 use std::sync::atomic::Ordering::Relaxed;
 use std::time::Instant;
 
-use cases::{Call, Case, Dice, Family, DEEP, EVALUATE, FAMILIES, NODE_TEXT, TABLE};
+use assignment_cases::ASSIGNMENT_FAMILIES;
+use cases::{Call, Case, Dice, Family, CHECK, DEEP, EVALUATE, EXTEND, FAMILIES, NODE_TEXT, TABLE};
 use counts::{counts, largest, Counts, Largest};
 use engine::Engine;
 use fault::{FAILED, PASSED};
@@ -51,16 +56,18 @@ fn add(all: &mut Codes, codes: Codes) {
 }
 
 /// Every code that each call has. One that no random case meets would be a code that is not tried.
-const CODES: [(&str, &[u32]); 5] = [
+const CODES: [(&str, &[u32]); 7] = [
     (EVALUATE, &[1, 2, 3, 4, 5, 6, 7, 9, 10, 11, 64, 65]),
     (NODE_TEXT, &[1, 2, 3, 4, 5, 6, 7, 8, 71]),
     (TABLE, &[1, 2, 3, 4, 5, 6, 7, 18, 66]),
+    (EXTEND, &[1, 2, 3, 4, 5, 6, 7, 10, 11, 18, 66]),
+    (CHECK, &[1, 2, 3, 4, 5, 6, 7, 12, 13, 14, 18, 67]),
     (WRITE_FILE, &[15, 16, 17, 18, 66]),
     (READ_FILE, &[15, 16, 17, 18, 66]),
 ];
 
 /// Whoever draws has a number, so that no two draw alike: families of formulas from 0, and then these.
-const AGREEMENT: usize = FAMILIES.len();
+const AGREEMENT: usize = FAMILIES.len() + ASSIGNMENT_FAMILIES.len();
 const FIRST_OF_FILES: usize = AGREEMENT + 1;
 const ROUND_TRIPS: usize = FIRST_OF_FILES + FILE_FAMILIES.len();
 
@@ -101,7 +108,7 @@ fn count(name: &str, wrong: Option<String>) {
 
 fn try_edges(engine: &mut Engine, files: &mut FileEngine) {
     fault::allow(60);
-    for (name, case, wanted) in edges::edges() {
+    for (name, case, wanted) in edges::edges().into_iter().chain(assignment_edges::assignment_edges()) {
         count(&format!("edge: {name}"), engine.wrong(&case, &wanted));
     }
     for (name, case, wanted) in file_edges::file_edges() {
@@ -131,7 +138,7 @@ struct Tried {
 
 fn try_families(engine: &mut Engine, files: &mut FileEngine, seed: u64) -> Codes {
     let mut all = Codes::new();
-    for (number, family) in FAMILIES.iter().enumerate() {
+    for (number, family) in FAMILIES.iter().chain(&ASSIGNMENT_FAMILIES).enumerate() {
         let codes = try_family(seed, number, family, |case| {
             let wanted = wanted(case);
             Tried { call: case.call.name(), code: wanted.answer.0, wrong: engine.wrong(case, &wanted) }
@@ -171,7 +178,8 @@ fn try_family<C>(seed: u64, number: usize, family: &Family<C>, mut try_case: imp
     codes
 }
 
-fn wanted(Case { text, c, k, call }: &Case) -> Wanted {
+fn wanted(case: &Case) -> Wanted {
+    let Case { text, c, k, call } = case;
     match call {
         Call::Evaluate { i, j, recording } => reference::evaluate(text, *c, *k, *i, *j, recording).into(),
         Call::NodeText { node } => reference::node_text(text, *c, *k, *node).into(),
@@ -183,7 +191,25 @@ fn wanted(Case { text, c, k, call }: &Case) -> Wanted {
             }
             written.map(Written::Table).into()
         }
+        Call::Extend { recording, room } => {
+            let extended = assignment::extended(text, *c, *k, recording, *room);
+            if let Ok(extension) = &extended {
+                assert_extends(case, recording, extension);
+            }
+            extended.map(Written::Assignment).into()
+        }
+        Call::Check { assignment, room } => assignment::checked(text, *c, *k, assignment, *room).map(Written::Recording).into(),
     }
+}
+
+/// The second implementation is at one with itself: an extension, made by meaning, meets every clause of the table but the last,
+/// and the last exactly where the recording satisfies the formula.
+fn assert_extends(case: &Case, recording: &[u8], extension: &[u8]) {
+    let Case { text, c, k, .. } = case;
+    let table = table::table(text, *c, *k).expect("it is extended");
+    let holds = reference::evaluate(text, *c, *k, 0, *k, recording) == (65, 0);
+    let last = table.sizes[3] as usize - 1;
+    assert_eq!(assignment::unmet(&table, extension), (!holds).then_some(last), "for {case}");
 }
 
 fn wanted_of_file(case: &FileCase) -> Wanted {
@@ -193,7 +219,7 @@ fn wanted_of_file(case: &FileCase) -> Wanted {
     }
 }
 
-/// The two calls that say what a formula means agree, whatever the reference says.
+/// The calls that say what a formula means agree, whatever the reference says.
 fn try_agreement(engine: &mut Engine, seed: u64) {
     fault::allow(60);
     let begun = Instant::now();
@@ -202,8 +228,9 @@ fn try_agreement(engine: &mut Engine, seed: u64) {
         let case = cases::whole_recording(&mut Dice::new(seed, AGREEMENT, draw));
         engine.disagreement(&case).map(|wrong| format!("{wrong} (seed {seed}, draw {draw})"))
     });
-    println!("tables beside evaluation: up to {draws} recordings in {:.1} s", begun.elapsed().as_secs_f32());
-    count("a table forces what evaluation answers", wrong);
+    let seconds = begun.elapsed().as_secs_f32();
+    println!("tables beside evaluation, extension and check: up to {draws} recordings in {seconds:.1} s");
+    count("a table forces what the other calls answer", wrong);
 }
 
 /// Every table that the engine itself writes goes to a file and comes back.
@@ -244,9 +271,10 @@ fn wrong_round_trip(files: &mut FileEngine, table: &Table) -> Option<String> {
 /// V, M and L of the largest tables.
 const LARGEST: [u32; 3] = [539_488, 2_016_688, 5_326_414];
 
-/// The largest tables are as large as the header says, and are written as any other. Those of 64 steps are only counted.
+/// The largest tables are as large as the header says, and are written as any other, and so are assignments. Those of 64 steps
+/// are only counted.
 fn largest_tables(engine: &mut Engine, files: &mut FileEngine) {
-    fault::allow(60);
+    fault::allow(300);
     let begun = Instant::now();
     for (steps, n) in [(32, 32), (64, 32), (64, 64)] {
         let most = [0, 1, 2].map(|which| largest(which, 64, steps, n));
@@ -266,6 +294,8 @@ fn largest_tables(engine: &mut Engine, files: &mut FileEngine) {
         }
     }
     try_largest(engine, files, "(#a>=32;".repeat(21) + "T" + &")".repeat(21));
+    // No recording satisfies those; each satisfies this one.
+    try_large_assignments(engine, ("(#a>=32|".repeat(21) + "T" + &")".repeat(21)).as_bytes());
     println!("the largest tables: {:.1} s", begun.elapsed().as_secs_f32());
 }
 
@@ -278,4 +308,11 @@ fn try_largest(engine: &mut Engine, files: &mut FileEngine, text: String) {
     let wrong = (sizes != Some(&LARGEST)).then(|| format!("{case}: the reference has {sizes:?}, wanted {LARGEST:?}"));
     count("a largest table", wrong.or_else(|| engine.wrong(&case, &wanted)));
     count("a largest table's file", wanted.table().and_then(|table| wrong_round_trip(files, table)));
+    try_large_assignments(engine, &case.text);
+}
+
+fn try_large_assignments(engine: &mut Engine, text: &[u8]) {
+    for case in assignment_cases::large(text) {
+        count("a large assignment", engine.wrong(&case, &wanted(&case)));
+    }
 }

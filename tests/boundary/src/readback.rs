@@ -27,10 +27,17 @@ pub fn wrong(sizes: &[u32], variables: &[u32], marks: &[u8]) -> Option<String> {
     undefined.map(|variable| format!("variable {variable} stands in no clause"))
 }
 
-/// What a recording forces the formula to be, by the table alone: a clause whose fellows are all false makes its last literal
-/// true, until nothing changes. Everything but the last clause is a definition, so every variable is decided; the last clause
-/// is the formula on the whole recording.
-pub fn forced(sizes: &[u32], variables: &[u32], marks: &[u8], recording: &[u8]) -> Result<bool, String> {
+/// The values that variables are forced to have, from variable 1, and whether the formula then holds.
+#[derive(Debug)]
+pub struct Forced {
+    pub values: Vec<u8>,
+    pub holds: bool,
+}
+
+/// What a recording forces the variables and the formula to be, by the table alone: a clause whose fellows are all false makes
+/// its last literal true, until nothing changes. Everything but the last clause is a definition, so every variable is decided;
+/// the last clause is the formula on the whole recording.
+pub fn forced(sizes: &[u32], variables: &[u32], marks: &[u8], recording: &[u8]) -> Result<Forced, String> {
     wrong(sizes, variables, marks).map_or(Ok(()), Err)?;
     let &[c, _, v, _, l] = sizes.first_chunk().ok_or("no sizes")?;
     let mut values = vec![None; v as usize + 1];
@@ -48,7 +55,8 @@ pub fn forced(sizes: &[u32], variables: &[u32], marks: &[u8], recording: &[u8]) 
     if let Some(variable) = (1..=v).find(|variable| values[*variable as usize].is_none()) {
         return Err(format!("variable {variable} is left open"));
     }
-    Ok(last.iter().any(|literal| is_true(literal, &values) == Some(true)))
+    let holds = last.iter().any(|literal| is_true(literal, &values) == Some(true));
+    Ok(Forced { values: values[1..].iter().map(|value| u8::from(*value == Some(true))).collect(), holds })
 }
 
 fn is_true((variable, mark): &(u32, u8), values: &[Option<bool>]) -> Option<bool> {

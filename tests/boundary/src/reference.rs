@@ -31,7 +31,7 @@ pub fn yes(is_so: bool, number: u32) -> Result<(), Refusal> {
 }
 
 /// A no at the first of the places, if there is any.
-fn none(number: u32, mut places: impl Iterator<Item = usize>) -> Result<(), Refusal> {
+pub fn none(number: u32, mut places: impl Iterator<Item = usize>) -> Result<(), Refusal> {
     places.next().map_or(Ok(()), |place| Err((number, place)))
 }
 
@@ -55,11 +55,16 @@ fn node_found(text: &[u8], c: u32, k: u32, node: u32) -> Result<Answer, Refusal>
     Ok((71, (start + 256 * length) as u32))
 }
 
+/// Questions 10 and 11.
+pub fn recorded(recording: &[u8], c: u32, k: u32) -> Result<(), Refusal> {
+    yes(recording.len() == k as usize, 10)?;
+    none(11, (0..recording.len()).filter(|t| u32::from(recording[*t]) >= 1 << c))
+}
+
 fn evaluated(text: &[u8], c: u32, k: u32, i: u32, j: u32, recording: &[u8]) -> Result<Answer, Refusal> {
     let reading = accepted(text, c, k)?;
     yes(i <= j && j <= k, 9)?;
-    yes(recording.len() == k as usize, 10)?;
-    none(11, (0..recording.len()).filter(|t| u32::from(recording[*t]) >= 1 << c))?;
+    recorded(recording, c, k)?;
     let holds = Meaning::new(recording, reading.formulas).holds(&reading.root, i as usize, j as usize);
     Ok((if holds { 65 } else { 64 }, 0))
 }
@@ -91,7 +96,7 @@ pub enum Kind {
 /// channel) and number (first digit, value) by place.
 pub struct Reading {
     pub root: Formula,
-    formulas: usize,
+    pub formulas: usize,
     nodes: Vec<(usize, usize)>,
     letters: Vec<(usize, u32)>,
     numbers: Vec<(usize, u64)>,
@@ -259,18 +264,18 @@ fn place_of_no_text(text: &[u8]) -> usize {
 
 /// A recording, and what has been found of each formula on each interval: chops in chops would
 /// otherwise take time that grows with a power of k.
-struct Meaning<'a> {
+pub struct Meaning<'a> {
     recording: &'a [u8],
     found: Vec<Option<bool>>,
 }
 
 impl<'a> Meaning<'a> {
-    fn new(recording: &'a [u8], formulas: usize) -> Self {
+    pub fn new(recording: &'a [u8], formulas: usize) -> Self {
         let ends = recording.len() + 1;
         Meaning { recording, found: vec![None; formulas * ends * ends] }
     }
 
-    fn holds(&mut self, formula: &Formula, i: usize, j: usize) -> bool {
+    pub fn holds(&mut self, formula: &Formula, i: usize, j: usize) -> bool {
         let ends = self.recording.len() + 1;
         let at = (formula.0 * ends + i) * ends + j;
         if self.found[at].is_none() {
@@ -293,7 +298,7 @@ impl<'a> Meaning<'a> {
     }
 }
 
-fn true_at(state: &State, instant: u8) -> bool {
+pub fn true_at(state: &State, instant: u8) -> bool {
     use State::*;
     match state {
         Letter(channel) => instant >> channel & 1 == 1,

@@ -34,7 +34,7 @@ pub fn written(text: &[u8], c: u32, k: u32, [sizes, variables, marks]: [usize; 3
     Ok(table)
 }
 
-fn table(text: &[u8], c: u32, k: u32) -> Result<Table, Refusal> {
+pub fn table(text: &[u8], c: u32, k: u32) -> Result<Table, Refusal> {
     let root = accepted(text, c, k)?.root;
     let mut writer = Writer::new(c, k);
     let first = 1 + writer.c * writer.k;

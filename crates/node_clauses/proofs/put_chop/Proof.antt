@@ -1,28 +1,24 @@
 -- The triples' block is written, then the intervals', as the definition lists them;
 -- both are bounded, since the node's block is fine (Nodes.antt).
-use Rattle.node_clauses.proofs.Nodes.{room-triples, room-intervals, wrote-chopped, triples-bounded, intervals-bounded}
-use mathlib.Core.Path.{ap}
-use Prim.Native.Nat.{_+_}
+use Rattle.node_clauses.proofs.Nodes.{halves, room-triples, room-intervals, wrote-chopped, triples-bounded, intervals-bounded}
 use borrow.Author.Needs.{needs}
 use Rattle.node_clauses.proofs.put_chop.Statement.{statement}
 use Rattle.node_clauses.proofs.put_chop.Tie as tie
 
-count-requires : tie.Need-count-requires
-count-requires c κs = search needs
+beyond-requires : tie.Need-beyond-requires
+beyond-requires c κs = search needs
 
-cast-w : tie.Need-cast-w
-cast-w c = search needs
+triples-of-requires : tie.Need-triples-of-requires
+triples-of-requires c κs = search needs
 
-add-w : tie.Need-add-w
-add-w c = search needs
+intervals-of-requires : tie.Need-intervals-of-requires
+intervals-of-requires c κs = search needs
 
 put-block-requires : tie.Need-put-block-requires
-put-block-requires c κs = let e = ap (λ n. c .before .before .before .before .before .args .block .first + n) (c .before .before .count .ensures .0) in
-    (room-triples _ _ (c .before .before .before .before .before .args .block) e (c .before .before .before .before .before .pre .0), triples-bounded _ _ (c .before .before .before .before .before .args .block) e (c .before .before .before .before .before .pre .1))
+put-block-requires c κs = let h = halves (c .before .before .before .before .before .before .before .args .block) (c .before .before .before .before .beyond .ensures) (c .before .before .before .triples-of .ensures) (c .before .before .intervals-of .ensures) in (room-triples _ h (c .before .before .before .before .before .before .before .pre .0), triples-bounded _ h (c .before .before .before .before .before .before .before .pre .1))
 
 put-block-requires-2 : tie.Need-put-block-requires-2
-put-block-requires-2 c κs = let e = ap (λ n. c .before .before .before .before .before .before .before .before .before .before .before .before .args .block .first + n) (c .before .before .before .before .before .before .before .before .before .count .ensures .0) in
-    (room-intervals _ _ (c .before .before .before .before .before .before .before .before .before .before .before .before .args .block) e (c .before .before .before .before .before .before .before .before .before .before .before .before .pre .0) (c .before .before .before .before .before .before .put-block .ensures), intervals-bounded _ _ (c .before .before .before .before .before .before .before .before .before .before .before .before .args .block) e (c .before .before .before .before .before .before .before .before .before .before .before .before .pre .1))
+put-block-requires-2 c κs = let h = halves (c .before .before .before .before .before .before .before .before .before .before .before .before .before .before .args .block) (c .before .before .before .before .before .before .before .before .before .before .before .beyond .ensures) (c .before .before .before .before .before .before .before .before .before .before .triples-of .ensures) (c .before .before .before .before .before .before .before .before .before .intervals-of .ensures) in (room-intervals _ h (c .before .before .before .before .before .before .before .before .before .before .before .before .before .before .pre .0) (c .before .before .before .before .before .before .put-block .ensures), intervals-bounded _ h (c .before .before .before .before .before .before .before .before .before .before .before .before .before .before .pre .1))
 
 same-length : tie.Need-same-length
 same-length c = search needs
@@ -31,15 +27,15 @@ same-length-2 : tie.Need-same-length-2
 same-length-2 c = search needs
 
 returns : tie.Need-returns
-returns c = wrote-chopped _ _ (c .before .before .before .before .before .before .before .before .before .before .before .before .before .before .before .before .before .args .block) (ap (λ n. c .before .before .before .before .before .before .before .before .before .before .before .before .before .before .before .before .before .args .block .first + n) (c .before .before .before .before .before .before .before .before .before .before .before .before .before .before .count .ensures .0)) (c .before .before .before .before .before .before .before .before .before .before .before .put-block .ensures) (c .before .before .before .before .put-block2 .ensures)
+returns c = wrote-chopped _ (halves (c .before .before .before .before .before .before .before .before .before .before .before .before .before .before .before .before .before .before .before .args .block) (c .before .before .before .before .before .before .before .before .before .before .before .before .before .before .before .before .beyond .ensures) (c .before .before .before .before .before .before .before .before .before .before .before .before .before .before .before .triples-of .ensures) (c .before .before .before .before .before .before .before .before .before .before .before .before .before .before .intervals-of .ensures)) (c .before .before .before .before .before .before .before .before .before .before .before .put-block .ensures) (c .before .before .before .before .put-block2 .ensures)
 
 pub put-chop-spec : {M : Type 1} → statement M
 put-chop-spec =
     tie.close
     (tie.spec
-    count-requires
-    cast-w
-    add-w
+    beyond-requires
+    triples-of-requires
+    intervals-of-requires
     put-block-requires
     put-block-requires-2
     same-length

@@ -1,11 +1,7 @@
 -- At turn x the position is that of place x, so the gate is that of the definition in place x,
 -- whose clauses the turn writes (Walk.antt).
 use Rattle.node_clauses.specs.Walk.{Walked}
-use Rattle.node_clauses.proofs.Walk.{walk-begun, walk-room, walk-turn, walk-done, gate-within}
-use Rattle.blocks.proofs.Positions.{position-small}
-use Rattle.weights.proofs.Rows.{small}
-use Rattle.gates.specs.Within.{Within}
-use mathlib.Core.Path.{sym, subst}
+use Rattle.node_clauses.proofs.Walk.{begins, walk-begun, walk-room, walk-turn, walk-done, light, within-here, small-here}
 use Prim.Native.Nat.{_-_}
 use native.Mathlib.Omega.{arith}
 use borrow.Author.Needs.{needs}
@@ -22,26 +18,24 @@ variables-requires : tie.Need-variables-requires Inv-loop μ-loop
 variables-requires c κs = search needs
 
 weigh-requires : tie.Need-weigh-requires Inv-loop μ-loop
-weigh-requires c κs = let s = c .before .before .before .pre .1 in record { small = small (c .variables .ensures) (omega arith) (omega arith) (omega arith) (s .0 .steps); points = s .1; number = s .0 .number }
+weigh-requires c κs = light (c .before .before .before .pre .1) (c .variables .ensures) (omega arith) (omega arith) (omega arith)
 
 loop-holds : tie.Need-loop-holds Inv-loop μ-loop
-loop-holds c = walk-begun _ _ _ (c .before .variables .ensures) (c .weigh .ensures .0) (c .weigh .ensures .1)
+loop-holds c = walk-begun _ _ _ (begins _ _ _ (c .before .variables .ensures) (c .weigh .ensures .0) (c .weigh .ensures .1))
 
 gate-at-requires : tie.Need-gate-at-requires Inv-loop μ-loop
-gate-at-requires c κs = let w = c .before .loop .inv in ((c .before .before .before .before .before .before .pre .1 .0, omega (arith, w .few, c .loop-test .taken)), w .here (search needs))
+gate-at-requires c κs = let w = c .before .loop .inv .walks in ((c .before .before .before .before .before .before .pre .1 .0, omega (arith, w .few, c .loop-test .taken)), w .here (search needs))
 
 add-put-gate : tie.Need-add-put-gate Inv-loop μ-loop
-add-put-gate c = let w = c .before .before .before .before .loop .inv in omega (arith, w .few, c .before .before .before .loop-test .taken, c .before .before .before .before .before .before .before .before .before .pre .1 .0 .first)
+add-put-gate c = let w = c .before .before .before .before .loop .inv .walks in omega (arith, w .few, c .before .before .before .loop-test .taken, c .before .before .before .before .before .before .before .before .before .pre .1 .0 .first)
 
 put-gate-requires : tie.Need-put-gate-requires Inv-loop μ-loop
 put-gate-requires c κs = let w = c .before .before .before .before .loop .inv in
     let g = c .before .before .gate-at .ensures in
-    (walk-room _ _ _ w (search needs) g (c .before .before .before .before .before .before .before .before .before .pre .0), subst Within (sym g) (gate-within _ _ _ (c .before .before .before .before .before .before .before .before .before .pre .1 .0) _ _ _ _ (w .here (search needs))))
+    (walk-room _ _ _ w (search needs) g (c .before .before .before .before .before .before .before .before .before .pre .0), within-here (c .before .before .before .before .before .before .before .before .before .pre .1) (w .walks) (search needs) g)
 
 next-requires : tie.Need-next-requires Inv-loop μ-loop
-next-requires c κs = let w = c .before .before .before .before .before .before .before .before .before .loop .inv in
-    let s = c .before .before .before .before .before .before .before .before .before .before .before .before .before .before .pre .1 in
-    omega (arith, s .0 .steps, position-small (w .here (search needs)) (s .0 .number) (s .0 .steps) (s .1))
+next-requires c κs = small-here (c .before .before .before .before .before .before .before .before .before .before .before .before .before .before .pre .1) (c .before .before .before .before .before .before .before .before .before .loop .inv .walks) (search needs)
 
 add-x : tie.Need-add-x Inv-loop μ-loop
 add-x c = search needs

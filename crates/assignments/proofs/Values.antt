@@ -1,0 +1,162 @@
+-- The values of nodes are as long as their blocks, each 0 or 1, and a node's truth stands in its block where `truthOf` says.
+-- Each list is made by counting, or of the intervals or triples in the order of their places; a tree's nodes are its own and then its parts'.
+use mathlib.Core.Path.{_≡_, refl, sym, ap, ap₂, _∙_}
+use mathlib.Core.Bool.{Bool}
+use mathlib.Core.List.{List, [], _∷_, _++_, append-assoc, map, flatMap}
+use Prim.Native.Nat.{ℕ, zero, suc, _+_, _*_, _<_}
+use native.Mathlib.Nat.{zero-add}
+use native.Mathlib.Omega.{arith}
+use lib.ListN.{length, getD, length-append, length-map, List·getD-append}
+use Rattle.interval.specs.Listing.{rows, sum}
+use Rattle.interval.specs.Places.{countOf, intervalsOf, triplesOf}
+use Rattle.interval.specs.Limits.{IntervalOf, TripleOf}
+use Rattle.interval.proofs.Listing.{sum-ones, sum-times, length-rows, getD-rows, length-tab, getD-tab}
+use Rattle.interval.proofs.Shape.{Numbered}
+use Rattle.interval.proofs.Laws.{intervals-numbered, triples-numbered}
+use Rattle.grammar.specs.Trees.{and, or, chop, Tree, constant, letter, negation, pair, duration, throughout}
+use Rattle.grammar.specs.declared.Sort.{Sort}
+use Rattle.grammar.specs.declared.Sort.the-variants.{State, Formula}
+use Rattle.formula.specs.Nodes.{Node, nodesOf}
+use Rattle.formula.proofs.Lists.{All, all-append, flat-append}
+use Rattle.meaning.specs.Meaning.{bit, channelAt, Point, truth}
+use Rattle.word.proofs.Words.{bit-lt}
+use Rattle.circuit.specs.Circuit.{pointsOf, widthOf, blocksOf, variablesOf, truthOf}
+use Rattle.circuit.proofs.Lists.{all-rows, all-mapped}
+use Rattle.circuit.proofs.Blocks.{partsOf, bare, by-parts, truth-fits}
+use Rattle.circuit.proofs.Inputs.{intervals-in, triples-in}
+use Rattle.assignments.specs.Extension.{channelValues, truthValues, cuts, cutValues, blockValues, nodeValues, extensionOf}
+
+-- ---- lists of things by their places, and rows of one width
+
+module _ {A : Type 0} {In : A → Type 0} {placed : A → ℕ} {listed : List A} {n : ℕ} (m : Numbered In placed listed n) where
+  numbered-length : length listed ≡ n
+  numbered-length = sym (length-map listed placed) ∙ ap length (m .in-order) ∙ length-tab n (λ p. p)
+
+  pub mapped-length : (f : A → ℕ) → length (map f listed) ≡ n
+  mapped-length f = length-map listed f ∙ numbered-length
+
+  pub mapped-at : (f : A → ℕ) (e : ℕ) (d : A) → e < n → getD (map f listed) e 0 ≡ f (getD listed e d)
+  mapped-at f e d h = go listed e (omega (arith, numbered-length))
+    where
+      go : (l : List A) (e : ℕ) → e < length l → getD (map f l) e 0 ≡ f (getD l e d)
+      go [] e h = absurd (omega arith)
+      go (a ∷ l) zero h = refl
+      go (a ∷ l) (suc e) h = go l e (omega arith)
+
+pub sum-alike : (w n : ℕ) → sum (λ i. w) n ≡ n * w
+sum-alike w n = sum-times (λ i. w) (λ i. 1) w n (λ i l. omega arith) ∙ ap (λ m. m * w) (sum-ones n)
+
+module _ {A : Type 0} (w : ℕ) (f : ℕ → List A) (e : (i : ℕ) → length (f i) ≡ w) where
+  pub alike-length : (n : ℕ) → length (rows n f) ≡ n * w
+  alike-length n = length-rows f (λ i. w) e n ∙ sum-alike w n
+
+  pub alike-at : (n i y : ℕ) (d : A) → i < n → y < w → getD (rows n f) (i * w + y) d ≡ getD (f i) y d
+  alike-at n i y d h l = rw (← sum-alike w i) (getD-rows f (λ i. w) e n i y d h l)
+
+-- ---- a truth at each point: at an instant, or on an interval
+
+abbrev pub pointAt : (s : Sort) → ℕ → ℕ → Point s
+pointAt State k e = e
+pointAt Formula k e = getD (intervalsOf k) e (record { i = 0; j = 0 })
+
+pub truth-length : (s : Sort) (k : ℕ) (g : Point s → Bool) → length (truthValues s k g) ≡ pointsOf s k
+truth-length State k g = length-tab k (λ t. bit (g t))
+truth-length Formula k g = mapped-length (intervals-numbered k) (λ v. bit (g v))
+
+pub truth-at : (s : Sort) (k : ℕ) (g : Point s → Bool) (e : ℕ) → e < pointsOf s k → getD (truthValues s k g) e 0 ≡ bit (g (pointAt s k e))
+truth-at State k g e h = getD-tab k (λ t. bit (g t)) e 0 h
+truth-at Formula k g e h = mapped-at (intervals-numbered k) (λ v. bit (g v)) e (record { i = 0; j = 0 }) h
+
+-- each byte is below n, of an assignment 2: "one byte a variable, 0 or 1"
+abbrev pub EachBelow : ℕ → List ℕ → Type 0
+EachBelow n A = All (λ b. b < n) A
+
+truth-bits : (s : Sort) (k : ℕ) (f : Point s → Bool) → EachBelow 2 (truthValues s k f)
+truth-bits State k f = all-rows _ k _ (λ t h. (bit-lt (f t), tt))
+truth-bits Formula k f = all-mapped _ (IntervalOf k) _ (intervalsOf k) (λ v o. bit-lt (f v)) (intervals-in k)
+
+-- ---- blocks
+
+module _ (k : ℕ) (recording : List ℕ) where
+  pub block-length : {s : Sort} (x : Tree s) → length (blockValues k recording x) ≡ widthOf k x
+  unfolding blockValues widthOf
+  block-length {s} (constant v) = truth-length s k (truth {s = s} recording (constant v))
+  block-length (letter c) = truth-length State k (truth recording (letter c))
+  block-length {s} (negation x) = truth-length s k (truth recording (negation x))
+  block-length {s} (pair and x y) = truth-length s k (truth recording (pair and x y))
+  block-length {s} (pair or x y) = truth-length s k (truth recording (pair or x y))
+  block-length (pair chop x y) =
+      length-append (truthValues Formula k (truth recording (pair chop x y))) (cutValues k (truth recording x) (truth recording y))
+      ∙ ap₂ _+_ (truth-length Formula k (truth recording (pair chop x y))) (mapped-length (triples-numbered k) (λ t. bit (cuts (truth recording x) (truth recording y) t)))
+  block-length (duration x n) = alike-length (countOf k) _ (λ c. truth-length Formula k (truth recording (duration x c))) (suc n)
+  block-length (throughout x) = truth-length Formula k (truth recording (throughout x))
+
+  -- "Level n is the node's truth"
+  truth-in-block : {s : Sort} (x : Tree s) (e : ℕ) → e < pointsOf s k → getD (blockValues k recording x) (truthOf k x + e) 0 ≡ bit (truth recording x (pointAt s k e))
+  unfolding blockValues truthOf
+  truth-in-block {s} (constant v) e h = rw zero-add (truth-at s k (truth {s = s} recording (constant v)) e h)
+  truth-in-block (letter c) e h = rw zero-add (truth-at State k (truth recording (letter c)) e h)
+  truth-in-block {s} (negation x) e h = rw zero-add (truth-at s k (truth recording (negation x)) e h)
+  truth-in-block {s} (pair and x y) e h = rw zero-add (truth-at s k (truth recording (pair and x y)) e h)
+  truth-in-block {s} (pair or x y) e h = rw zero-add (truth-at s k (truth recording (pair or x y)) e h)
+  truth-in-block (pair chop x y) e h =
+      let f = truth recording (pair chop x y) in
+      rw zero-add (List·getD-append (truthValues Formula k f) _ 0 e (omega (arith, truth-length Formula k f)) ∙ truth-at Formula k f e h)
+  truth-in-block (duration x n) e h =
+      alike-at (countOf k) _ (λ c. truth-length Formula k (truth recording (duration x c))) (suc n) n e 0 (omega arith) h
+      ∙ truth-at Formula k (truth recording (duration x n)) e h
+  truth-in-block (throughout x) e h = rw zero-add (truth-at Formula k (truth recording (throughout x)) e h)
+
+  block-bits : {s : Sort} (x : Tree s) → EachBelow 2 (blockValues k recording x)
+  unfolding blockValues
+  block-bits {s} (constant v) = truth-bits s k (truth {s = s} recording (constant v))
+  block-bits (letter c) = truth-bits State k (truth recording (letter c))
+  block-bits {s} (negation x) = truth-bits s k (truth recording (negation x))
+  block-bits {s} (pair and x y) = truth-bits s k (truth recording (pair and x y))
+  block-bits {s} (pair or x y) = truth-bits s k (truth recording (pair or x y))
+  block-bits (pair chop x y) =
+      all-append _ (truthValues Formula k (truth recording (pair chop x y))) (cutValues k (truth recording x) (truth recording y))
+      (truth-bits Formula k (truth recording (pair chop x y)))
+      (all-mapped _ (TripleOf k) _ (triplesOf k) (λ t o. bit-lt (cuts (truth recording x) (truth recording y) t)) (triples-in k))
+  block-bits (duration x n) = all-rows _ (suc n) _ (λ c h. truth-bits Formula k (truth recording (duration x c)))
+  block-bits (throughout x) = truth-bits Formula k (truth recording (throughout x))
+
+  pub values-append : (l m : List Node) → nodeValues k recording (l ++ m) ≡ nodeValues k recording l ++ nodeValues k recording m
+  unfolding nodeValues
+  values-append l m = flat-append (λ (w : Node). blockValues k recording (w .part)) l m
+
+  pub values-length : (l : List Node) → length (nodeValues k recording l) ≡ blocksOf k l
+  unfolding nodeValues flatMap blocksOf
+  values-length [] = refl
+  values-length (w ∷ l) = length-append (blockValues k recording (w .part)) (nodeValues k recording l) ∙ ap₂ _+_ (block-length (w .part)) (values-length l)
+
+  pub node-bits : (l : List Node) → EachBelow 2 (nodeValues k recording l)
+  unfolding nodeValues flatMap
+  node-bits [] = tt
+  node-bits (w ∷ l) = all-append _ (blockValues k recording (w .part)) (nodeValues k recording l) (block-bits (w .part)) (node-bits l)
+
+  values-bare : (l : List Node) → nodeValues k recording (bare l) ≡ nodeValues k recording l
+  unfolding nodeValues flatMap
+  values-bare [] = refl
+  values-bare (w ∷ l) = ap (λ m. blockValues k recording (w .part) ++ m) (values-bare l)
+
+  pub values-parts : {s : Sort} (x : Tree s) (at : ℕ) → nodeValues k recording (nodesOf x at) ≡ blockValues k recording x ++ nodeValues k recording (partsOf x)
+  unfolding nodeValues flatMap
+  values-parts x at = by-parts (nodeValues k recording) values-bare x at
+
+  pub truth-stands : {s : Sort} (x : Tree s) (at : ℕ) (m : List Node) (e : ℕ) → e < pointsOf s k
+      → getD (nodeValues k recording (nodesOf x at ++ m)) (truthOf k x + e) 0 ≡ bit (truth recording x (pointAt s k e))
+  truth-stands x at m e h =
+      rw (values-append, values-parts, append-assoc)
+      (List·getD-append (blockValues k recording x) _ 0 (truthOf k x + e) (omega (arith, truth-fits k x, block-length x)) ∙ truth-in-block x e h)
+
+-- ---- the extension
+
+pub channels-length : (C k : ℕ) (recording : List ℕ) → length (channelValues C k recording) ≡ k * C
+unfolding channelValues
+channels-length C k recording = alike-length C _ (λ t. length-tab C (λ c. bit (channelAt recording c t))) k
+
+pub extension-length : (C k : ℕ) (recording : List ℕ) (l : List Node) → length (extensionOf C k recording l) ≡ variablesOf C k l
+unfolding extensionOf variablesOf
+extension-length C k recording l =
+    length-append (channelValues C k recording) (nodeValues k recording l) ∙ ap₂ _+_ (channels-length C k recording) (values-length k recording l)

@@ -1,0 +1,102 @@
+-- `put_cuts` writes one byte a turn, P's on [i, m] with Q's on [m, j], and goes on to where [m + 1, j] stands (Cutting.antt).
+-- After the last turn all cuts are written (Filled.antt of `truths`).
+use mathlib.Core.Path.{_≡_}
+use mathlib.Core.Logic.{⊎-elim}
+use Prim.Native.Nat.{suc, _+_, _-_}
+use Rattle.meaning.specs.Meaning.{bit}
+use Rattle.table.specs.Table.{highAt}
+use Rattle.assignments.specs.Extension.{cuts}
+use Rattle.cuts.specs.Cuts.{onPlaces}
+use Rattle.truths.proofs.Filled.{Filled, begun, turn, done}
+use Rattle.cuts.proofs.Cutting.{Cutting, next-cut, first-cut, last-cut, cut-small, cut-byte}
+use native.Mathlib.Omega.{arith}
+use borrow.Author.Needs.{needs}
+use Rattle.cuts.proofs.put_cuts.Statement.{statement}
+use Rattle.cuts.proofs.put_cuts.Tie as tie
+
+abbrev Inv-loop : tie.InvT-loop
+Inv-loop out₀ p q k i steps first at₀ e₀ e-end out at e = (e-end ≡ suc steps) × Filled (λ e. bit (cuts (onPlaces k (highAt p)) (onPlaces k (highAt q)) (record { i = i; m = i + e; j = i + steps }))) (suc steps) e out × Cutting k i steps e at
+
+abbrev μ-loop : tie.MeasureT-loop
+μ-loop out₀ p q k i steps first at₀ e₀ e-end out at e = suc steps - e
+
+sub-steps : tie.Need-sub-steps Inv-loop μ-loop
+sub-steps c = search needs
+
+place-requires : tie.Need-place-requires Inv-loop μ-loop
+place-requires c κs = search needs
+
+add-t10 : tie.Need-add-t10 Inv-loop μ-loop
+add-t10 c = search needs
+
+place-requires-2 : tie.Need-place-requires-2 Inv-loop μ-loop
+place-requires-2 c κs = search needs
+
+loop-holds : tie.Need-loop-holds Inv-loop μ-loop
+loop-holds c = (omega arith, begun (omega arith), first-cut (c .place2 .ensures .0))
+
+add-out : tie.Need-add-out Inv-loop μ-loop
+add-out c = search needs
+
+element-copy-out-out : tie.Need-element-copy-out-out Inv-loop μ-loop
+element-copy-out-out c = cut-small (omega arith) (c .before .loop .inv .2) (c .before .before .before .place .ensures .0) (omega arith) (search needs) .0
+
+element-copy-out-out-2 : tie.Need-element-copy-out-out-2 Inv-loop μ-loop
+element-copy-out-out-2 c = cut-small (omega arith) (c .before .before .loop .inv .2) (c .before .before .before .before .place .ensures .0) (omega arith) (search needs) .1
+
+slice-write-out : tie.Need-slice-write-out Inv-loop μ-loop
+slice-write-out c = search needs
+
+add-at : tie.Need-add-at Inv-loop μ-loop
+add-at c = search needs
+
+sub-at : tie.Need-sub-at Inv-loop μ-loop
+sub-at c = search needs
+
+add-at-2 : tie.Need-add-at-2 Inv-loop μ-loop
+add-at-2 c = omega (arith, cut-small (omega arith) (c .before .before .before .before .loop .inv .2) (c .before .before .before .before .before .before .place .ensures .0) (omega arith) (search needs))
+
+add-e : tie.Need-add-e Inv-loop μ-loop
+add-e c = search needs
+
+loop-less : tie.Need-loop-less Inv-loop μ-loop
+loop-less c = search needs
+
+loop-again : tie.Need-loop-again Inv-loop μ-loop
+loop-again c = let l = c .before .before .before .before .loop in
+    let s = c .before .before .before .before .before .before .before .before in
+    let b = cut-byte (omega arith) (l .inv .2) (c .before .before .before .before .before .before .place .ensures .0) (omega arith) (s .pre .3) (s .pre .4) in (
+      l .inv .0,
+      turn (l .inv .1) (omega arith) b,
+      ⊎-elim (λ w. next-cut (omega arith) (l .inv .2) (w .0 .taken) (w .1)) (λ w. last-cut (omega arith) (l .inv .2) (w .0 .left)) (c .if1 .came),
+    )
+
+same-length : tie.Need-same-length Inv-loop μ-loop
+same-length c = search needs
+
+returns : tie.Need-returns Inv-loop μ-loop
+returns c = done (c .before .loop .inv .1) (omega arith)
+
+pub put-cuts-spec : {M : Type 1} → statement M
+put-cuts-spec =
+    tie.close
+    (tie.spec
+    Inv-loop
+    μ-loop
+    sub-steps
+    place-requires
+    add-t10
+    place-requires-2
+    loop-holds
+    add-out
+    element-copy-out-out
+    element-copy-out-out-2
+    slice-write-out
+    add-at
+    sub-at
+    add-at-2
+    add-e
+    loop-less
+    loop-again
+    same-length
+    returns)

@@ -1,0 +1,147 @@
+-- The sizes are the sums along the node table, so question 18 is asked of the true V; then the channels' values and the nodes' are
+-- written over the lent assignment. A call ends as its questions say, in their order.
+use mathlib.Core.Path.{_≡_, refl, sym, ap, _∙_}
+use mathlib.Core.List.{List, [], _∷_, _++_, map}
+use Prim.Native.Nat.{ℕ, _+_, _*_, _≤_}
+use native.Mathlib.Omega.{arith}
+use lib.Dec.{leb}
+use lib.ListN.{length, drop, length-append, length-drop}
+use lib.Seq.{sets, sets-eq}
+use borrow.Author.Tests.{leb-true}
+use Rattle.refusal.specs.Asked.{question, asked}
+use Rattle.refusal.specs.declared.Refusal.{Refusal}
+use Rattle.refusal.specs.declared.Reply.{Reply}
+use Rattle.refusal.specs.declared.Reply.the-variants.{Yes, No}
+use Rattle.refusal.proofs.Laws.{asked-append, replied-yes, replied-no}
+use Rattle.grammar.specs.Limits.{maxChannels}
+use Rattle.grammar.specs.Trees.{Tree, Letters}
+use Rattle.grammar.specs.Reader.{tree, read}
+use Rattle.grammar.specs.declared.Sort.the-variants.{Formula}
+use Rattle.grammar.proofs.Laws.{prints-as-text}
+use Rattle.formula.specs.Nodes.{Node, nodesOf, nodesIn}
+use Rattle.formula.specs.Questions.{formulaQuestions, acceptOf}
+use Rattle.formula.proofs.Asked.{test-yes}
+use Rattle.formula.proofs.Laws.{accepted, nodes-read}
+use Rattle.rows.specs.Table.{rowOf, tableOf}
+use Rattle.rows.specs.declared.NodeTable.{NodeTable}
+use Rattle.nodes.specs.Calls.{tabledOf}
+use Rattle.nodes.specs.declared.Tabled.{Tabled}
+use Rattle.nodes.proofs.Laws.{accepts, table-is}
+use Rattle.evaluator.specs.Evaluation.{askRecording, askBytes}
+use Rattle.circuit.specs.Circuit.{variablesOf}
+use Rattle.literals.proofs.Written.{sets-append}
+use Rattle.clause_table.specs.Table.{over}
+use Rattle.clause_table.specs.Rows.{Measured}
+use Rattle.clause_table.specs.declared.Sizes.{Sizes}
+use Rattle.clause_table.specs.declared.Written.the-variants.{Done}
+use Rattle.clause_table.proofs.Measure.{stored-over}
+use Rattle.clause_table.proofs.Call.{known, variables-are}
+use Rattle.assignments.specs.Extension.{channelValues, nodeValues, extensionOf}
+use Rattle.assignments.specs.Calls.{askPlaces, Extended, notExtended, extended}
+use Rattle.assignments.proofs.Values.{channels-length, extension-length}
+use Rattle.extension.specs.Rows.{Seated, NodesIn, extendedBy}
+
+-- question 18, answered with yes
+pub places-enough : (n places : ℕ) → question 18 0 (leb n places) ≡ Yes → n ≤ places
+places-enough n places e = leb-true n places (test-yes 18 0 _ e)
+
+-- the sizes tell where the blocks stand
+pub seated : {C k : ℕ} {kinds numbers : List ℕ} {n : ℕ} {F : List ℕ} {s : Sizes} → Measured C k kinds numbers n F s → Seated C k kinds numbers F n (s .variables)
+seated w = record { first = w .first; ends = w .variables }
+
+-- the channels' variables are among all
+pub channels-fit : {C k : ℕ} {kinds numbers : List ℕ} {n : ℕ} {F : List ℕ} {s : Sizes} → Measured C k kinds numbers n F s → (A : List ℕ) → question 18 0 (leb (s .variables) (length A)) ≡ Yes → k * C ≤ length A
+channels-fit {s = s} w A q = omega (arith, w .variables, places-enough (s .variables) (length A) q)
+
+-- with the channels' values back in their place it is as long as it was
+pub channels-back : (C k : ℕ) (recording A : List ℕ) {out : List ℕ} → out ≡ channelValues C (length recording) recording → length recording ≡ k → k * C ≤ length A → length (out ++ drop (k * C) A) ≡ length A
+channels-back C k recording A {out} o l h =
+    length-append out (drop (k * C) A) ∙ omega (arith, length-drop (k * C) A, ap length o, channels-length C (length recording) recording, ap (λ (k : ℕ). k * C) l)
+
+-- ---- an accepted formula's node table
+
+module _ (C k : ℕ) (f : Tree Formula) (L : Letters maxChannels f) {T : NodeTable} (e : T ≡ tableOf (map rowOf (nodesOf f 0))) {F : List ℕ} {s : Sizes} (w : Measured C k (T .kinds) (T .numbers) (T .count) F s)
+    (recording A : List ℕ) where
+  variables-known : s .variables ≡ variablesOf C k (nodesOf f 0)
+  variables-known = known C k f e w .variables ∙ sym (variables-are C k f)
+
+  question-known : question 18 0 (leb (s .variables) (length A)) ≡ askPlaces (variablesOf C k (nodesOf f 0)) (length A)
+  unfolding askPlaces
+  question-known = ap (λ (n : ℕ). question 18 0 (leb n (length A))) variables-known
+
+  abbrev done : Extended
+  done = record { answer = Done; assignment = over (extensionOf C k recording (nodesOf f 0)) A }
+
+  pub refused-known : (r : Refusal) → question 18 0 (leb (s .variables) (length A)) ≡ No r → notExtended A r ≡ extendedBy C k f recording A
+  unfolding extendedBy
+  refused-known r q = ap (λ (a : Reply). asked (a ∷ []) (notExtended A) done) (sym q ∙ question-known)
+
+  pub written-known : question 18 0 (leb (s .variables) (length A)) ≡ Yes → {out A′ A″ : List ℕ} → length recording ≡ k → out ≡ channelValues C (length recording) recording → A′ ≡ out ++ drop (k * C) A
+      → ((D : ℕ) (g : Tree Formula) → Seated D k (T .kinds) (T .numbers) F (T .count) (s .variables) → NodesIn g (T .kinds) (T .numbers) (T .sizes) (T .count) → A″ ≡ sets A′ (k * D) (nodeValues k recording (nodesOf g 0)))
+      → record { answer = Done; assignment = A″ } ≡ extendedBy C k f recording A
+  unfolding extendedBy extensionOf
+  written-known q {out} {A′} {A″} l o p c =
+      let channels = channelValues C k recording in
+      let nodes = nodeValues k recording (nodesOf f 0) in
+      let n = channels-length C k recording in
+      let enough = places-enough (s .variables) (length A) q in
+      let many = extension-length C k recording (nodesOf f 0) in
+      let first : A′ ≡ sets A 0 channels =
+      p ∙ ap (λ (B : List ℕ). B ++ drop (k * C) A) (o ∙ ap (λ (k : ℕ). channelValues C k recording) l)
+      ∙ sym (stored-over channels A refl (omega (arith, n, enough, w .variables)) ∙ ap (λ (i : ℕ). channels ++ drop i A) n) in
+      let in-table : NodesIn f (T .kinds) (T .numbers) (T .sizes) (T .count) = record {
+        letters = L;
+        kinds-are = ap (λ (T : NodeTable). T .kinds) e;
+        numbers-are = ap (λ (T : NodeTable). T .numbers) e;
+        sizes-are = ap (λ (T : NodeTable). T .sizes) e;
+        count-is = ap (λ (T : NodeTable). T .count) e;
+      } in
+      let next : 0 + length channels ≡ k * C = omega (arith, n) in
+      let all : A″ ≡ sets A 0 (channels ++ nodes) =
+      c C f (seated w) in-table ∙ ap (λ (B : List ℕ). sets B (k * C) nodes) first ∙ sym (sets-append A 0 channels nodes ∙ ap (λ (i : ℕ). sets (sets A 0 channels) i nodes) next) in
+      ap (λ (B : List ℕ). record { answer = Done; assignment = B }) (stored-over (channels ++ nodes) A all (omega (arith, many, enough, variables-known)))
+      ∙ ap (λ (a : Reply). asked (a ∷ []) (notExtended A) done) (sym q ∙ question-known)
+
+-- ---- the whole call
+
+module _ (C k : ℕ) (t recording A : List ℕ) where
+  abbrev answer : Extended
+  answer = record { answer = Done; assignment = over (extensionOf C k recording (nodesIn t)) A }
+
+  abbrev later : List Reply
+  later = askRecording k recording ∷ askBytes C recording ∷ askPlaces (variablesOf C k (nodesIn t)) (length A) ∷ []
+
+  extended-is : extended C k t recording A ≡ asked (formulaQuestions C k t) (notExtended A) (asked later (notExtended A) answer)
+  unfolding extended
+  extended-is = asked-append (notExtended A) answer (formulaQuestions C k t) later
+
+  pub refused-first : (r : Refusal) → acceptOf C k t ≡ No r → notExtended A r ≡ extended C k t recording A
+  unfolding acceptOf
+  refused-first r e = sym (extended-is ∙ replied-no (notExtended A) _ (formulaQuestions C k t) r e)
+
+  -- once the formula is accepted
+  module _ (T : Tabled) (e : T ≡ tabledOf C k t) (y : T .reply ≡ Yes) where
+    extended-later : extended C k t recording A ≡ asked later (notExtended A) answer
+    unfolding acceptOf
+    extended-later = extended-is ∙ replied-yes (notExtended A) _ (formulaQuestions C k t) (accepts C k t T e y)
+
+    pub refused-recording : (r : Refusal) → askRecording k recording ≡ No r → notExtended A r ≡ extended C k t recording A
+    refused-recording r q = sym (extended-later ∙ ap (λ (a : Reply). asked (a ∷ askBytes C recording ∷ askPlaces (variablesOf C k (nodesIn t)) (length A) ∷ []) (notExtended A) answer) q)
+
+    module _ (p : askRecording k recording ≡ Yes) where
+      extended-bytes : (b : Reply) → askBytes C recording ≡ b → extended C k t recording A ≡ asked (b ∷ askPlaces (variablesOf C k (nodesIn t)) (length A) ∷ []) (notExtended A) answer
+      extended-bytes b q =
+          extended-later
+          ∙ ap (λ (a : Reply). asked (a ∷ askBytes C recording ∷ askPlaces (variablesOf C k (nodesIn t)) (length A) ∷ []) (notExtended A) answer) p
+          ∙ ap (λ (b : Reply). asked (b ∷ askPlaces (variablesOf C k (nodesIn t)) (length A) ∷ []) (notExtended A) answer) q
+
+      pub refused-bytes : (r : Refusal) → askBytes C recording ≡ No r → notExtended A r ≡ extended C k t recording A
+      refused-bytes r q = sym (extended-bytes (No r) q)
+
+      pub called : askBytes C recording ≡ Yes → {a : Extended} → ((f : Tree Formula) → Letters maxChannels f → T .table ≡ tableOf (map rowOf (nodesOf f 0)) → a ≡ extendedBy C k f recording A) → a ≡ extended C k t recording A
+      unfolding extendedBy
+      called q g =
+          let a = accepted C k t (accepts C k t T e y) in
+          let n = nodes-read t (a .root) (a .reads) in
+          g (a .root) (prints-as-text t (a .root) (a .reads) .0) (table-is C k t T e y ∙ ap (λ (l : List Node). tableOf (map rowOf l)) n)
+          ∙ sym (extended-bytes Yes q ∙ ap (λ (l : List Node). asked (askPlaces (variablesOf C k l) (length A) ∷ []) (notExtended A) (record { answer = Done; assignment = over (extensionOf C k recording l) A })) n)

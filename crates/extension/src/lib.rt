@@ -1,0 +1,152 @@
+// The assignment that extends a recording: the channels, then a block for each node, the last node's first, since a node goes by its
+// parts and these stand after it.
+use blocks::Block;
+use blocks::Rule;
+use clause_table::Written;
+use grammar::MAX_NODES;
+use interval::Interval;
+use refusal::Reply;
+use rows::NodeTable;
+ghost use mathlib.Core.Path.{_≡_};
+ghost use mathlib.Core.List.{List, map};
+ghost use Prim.Native.Nat.{ℕ, _+_, _-_, _*_, _≤_};
+ghost use lib.ListN.{length};
+ghost use lib.Seq.{sets};
+ghost use Rattle.interval.specs.Limits.{maxSteps};
+ghost use Rattle.interval.specs.Places.{countOf};
+ghost use Rattle.grammar.specs.Limits.{maxNodes, maxChannels};
+ghost use Rattle.grammar.specs.Trees.{Tree, Letters};
+ghost use Rattle.grammar.specs.declared.Sort.the-variants.{Formula};
+ghost use Rattle.formula.specs.Nodes.{nodesOf};
+ghost use Rattle.rows.specs.Table.{rowOf, tableOf};
+ghost use Rattle.clause_table.specs.Rows.{Low};
+ghost use Rattle.assignments.specs.Extension.{nodeValues};
+ghost use Rattle.assignments.specs.Calls.{extended};
+ghost use Rattle.values.specs.Values.{Fits};
+ghost use Rattle.extension.specs.Rows.{firstPoints, secondPoints, Makes, Seated, NodesIn, extendedBy};
+
+// How much of its first part's truth a block of n values goes by; `count` is I.
+fn first_points(rule: Rule, k: usize, n: usize, count: usize) -> usize
+    requires { ⌜ count ≡ countOf k ⌝ }
+    ensures { λ r. ⌜ r ≡ firstPoints k n rule ⌝ }
+{
+    match rule {
+        Rule::Fixed(_) => 0,
+        Rule::Letter(_) => 0,
+        Rule::Negation => n,
+        Rule::And => n,
+        Rule::Or => n,
+        Rule::Chop => count,
+        Rule::Duration(_) => k,
+        Rule::Throughout => k,
+        Rule::Cut => 0,
+    }
+}
+
+// And of its second part's.
+fn second_points(rule: Rule, k: usize, n: usize, count: usize) -> usize
+    requires { ⌜ count ≡ countOf k ⌝ }
+    ensures { λ r. ⌜ r ≡ secondPoints k n rule ⌝ }
+{
+    match rule {
+        Rule::Fixed(_) => 0,
+        Rule::Letter(_) => 0,
+        Rule::Negation => 0,
+        Rule::And => n,
+        Rule::Or => n,
+        Rule::Chop => count,
+        Rule::Duration(_) => 0,
+        Rule::Throughout => 0,
+        Rule::Cut => 0,
+    }
+}
+
+// A node's block, which ends before `end`: the middle part of the assignment, from the node's first variable, handed on to be written.
+fn put_node(assignment: &mut [u8], block: Block, end: usize, k: usize, recording: &[u8])
+    requires { ⌜ (k ≤ maxSteps) × (1 ≤ block .first) × (block .first - 1 ≤ end) × (end ≤ length (now assignment)) × Fits k (end - (block .first - 1)) (block .rule) ⌝ }
+    ensures { λ _. ⌜ ((B : List ℕ) → Makes k (now (recording .entry)) (now (assignment .entry)) block (end - (block .first - 1)) B → now (assignment .exit) ≡ sets (now (assignment .entry)) (block .first - 1) B) ⌝ }
+{
+    let rule = block.rule;
+    let start = block.first as usize - 1;
+    let n = end - start;
+    let count = Interval::count(k);
+    let p = truths::truth_from(assignment, block.left, first_points(rule, k, n, count));
+    let q = truths::truth_from(assignment, block.right, second_points(rule, k, n, count));
+    values::put_values(&mut assignment[start..end], rule, k, recording, &p, &q);
+}
+
+// The blocks of all nodes, which end before `last`.
+fn put_nodes<'a>(
+    assignment: &mut [u8],
+    kinds: &'a [u8; MAX_NODES],
+    numbers: &'a [u8; MAX_NODES],
+    sizes: &'a [u8; MAX_NODES],
+    firsts: &[u32; MAX_NODES],
+    count: usize,
+    k: u32,
+    last: usize,
+    recording: &[u8],
+)
+    requires { ⌜ (k ≤ maxSteps) × (count ≤ maxNodes) × (last ≤ length (now assignment)) × Low (now firsts) × ((C : ℕ) × Seated C k (now kinds) (now numbers) (now firsts) count last) ⌝ }
+    ensures { λ _. ⌜ ((C : ℕ) (f : Tree Formula) → Seated C k (now (kinds .entry)) (now (numbers .entry)) (now (firsts .entry)) count last → NodesIn f (now (kinds .entry)) (now (numbers .entry)) (now (sizes .entry)) count → now (assignment .exit) ≡ sets (now (assignment .entry)) (k * C) (nodeValues k (now (recording .entry)) (nodesOf f 0))) ⌝ }
+{
+    let mut x = count;
+    let mut end = last;
+    while x > 0 {
+        x -= 1;
+        let block = clause_table::block_at(kinds, numbers, sizes, firsts, k, x);
+        put_node(assignment, block, end, k as usize, recording);
+        end = block.first as usize - 1;
+    }
+}
+
+// The extension for an accepted formula, from its node table: question 18, then every value.
+fn write_extension(
+    table: NodeTable,
+    c: u32,
+    k: u32,
+    recording: &[u8],
+    assignment: &mut [u8],
+) -> Written
+    requires { ⌜ (c ≤ maxChannels) × (k ≤ maxSteps) × (table .count ≤ maxNodes) × (length (now recording) ≡ k) ⌝ }
+    ensures { λ r. ⌜ ((f : Tree Formula) → Letters maxChannels f → table ≡ tableOf (map rowOf (nodesOf f 0)) → record { answer = r; assignment = now (assignment .exit) } ≡ extendedBy c k f (now (recording .entry)) (now (assignment .entry))) ⌝ }
+{
+    let mut firsts = [0; MAX_NODES];
+    let s = clause_table::sizes_of(&table.kinds, &table.numbers, table.count, c, k, &mut firsts);
+    if let Reply::No(r) = refusal::ask(18, s.variables as usize <= assignment.len()) {
+        return Written::Refused(r);
+    }
+    let channels = (k * c) as usize;
+    values::put_channels(&mut assignment[..channels], c as usize, recording);
+    put_nodes(
+        assignment,
+        &table.kinds,
+        &table.numbers,
+        &table.sizes,
+        &firsts,
+        table.count,
+        k,
+        s.variables as usize,
+        recording,
+    );
+    Written::Done
+}
+
+// The assignment that extends a recording of k steps of C channels and meets all clauses of a formula but the last: V bytes.
+pub fn extend(text: &[u8], c: u32, k: u32, recording: &[u8], assignment: &mut [u8]) -> Written
+    ensures { λ r. ⌜ record { answer = r; assignment = now (assignment .exit) } ≡ extended c k (now (text .entry)) (now (recording .entry)) (now (assignment .entry)) ⌝ }
+{
+    let tabled = nodes::node_table(text, c, k);
+    let reply = tabled.reply;
+    if let Reply::No(r) = reply {
+        return Written::Refused(r);
+    }
+    if let Reply::No(r) = evaluator::ask_recording(k, recording) {
+        return Written::Refused(r);
+    }
+    if let Reply::No(r) = evaluator::ask_bytes(c, recording) {
+        return Written::Refused(r);
+    }
+    let table = tabled.table;
+    write_extension(table, c, k, recording, assignment)
+}

@@ -1,0 +1,3 @@
+pub mod Channels
+pub mod Table
+pub mod Call

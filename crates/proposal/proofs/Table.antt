@@ -1,0 +1,176 @@
+-- The rows of a formula's node table give its definitions, and then the root; so the clauses that the code asks about, row after row, are
+-- those of the formula's table, and every variable that it looks up is one of the V.
+use mathlib.Core.Path.{_≡_, refl, sym, ap, ap₂, _∙_, subst}
+use mathlib.Core.Logic.{⊎-elim}
+use mathlib.Core.Bool.{Bool, true, false, cond, _||_}
+use mathlib.Core.List.{List, [], _∷_, _++_, append-assoc, append-nil, map, flatMap}
+use Prim.Native.Nat.{ℕ, zero, suc, _+_, _≤_, _<_}
+use native.Mathlib.Nat.{eq-or-lt-of-le}
+use native.Mathlib.Numerals.{add-one}
+use native.Mathlib.Omega.{arith}
+use lib.ListN.{length, getD, length-map}
+use Rattle.refusal.specs.declared.Refusal.{Refusal}
+use Rattle.refusal.specs.declared.Reply.{Reply}
+use Rattle.refusal.specs.declared.Reply.the-variants.{Yes, No}
+use Rattle.interval.specs.Listing.{rows, tab}
+use Rattle.interval.proofs.Listing.{length-tab, getD-tab}
+use Rattle.grammar.specs.Trees.{Tree, Letters}
+use Rattle.grammar.specs.declared.Sort.the-variants.{Formula}
+use Rattle.formula.specs.Nodes.{Node, nodesOf}
+use Rattle.formula.proofs.Lists.{All}
+use Rattle.rows.specs.Table.{rowOf, tableOf}
+use Rattle.rows.specs.declared.NodeTable.{NodeTable}
+use Rattle.circuit.specs.Gates.{Assignment, inputsOf}
+use Rattle.circuit.specs.Circuit.{Definition, define, variablesOf, definitionsOf, rootOf}
+use Rattle.circuit.specs.declared.Gate.{Gate}
+use Rattle.circuit.specs.declared.Gate.the-variants.{Constant, Copy, Inverse, Both, Either, AnyOf, Step}
+use Rattle.circuit.proofs.Blocks.{From}
+use Rattle.circuit.proofs.Lists.{all-at}
+use Rattle.circuit.proofs.Laws.{Mentions, definitions-mention}
+use Rattle.blocks.specs.Blocks.{isChop}
+use Rattle.blocks.specs.declared.Block.{Block}
+use Rattle.weights.specs.Weights.{clauseWeight, weightTo}
+use Rattle.clauses.specs.Clauses.{Clause, plain, clausesBy, clauseTable, meetsClause}
+use Rattle.clauses.proofs.Sizes.{clauses-by}
+use Rattle.node_clauses.specs.Nodes.{nodeBy}
+use Rattle.clause_table.specs.Rows.{rowDefinitions, Measured}
+use Rattle.clause_table.specs.declared.Sizes.{Sizes}
+use Rattle.clause_table.proofs.Places.{kinds, numbers, sizes, rows-defined, root-at}
+use Rattle.clause_table.proofs.Call.{known, variables-are, rows-weigh}
+use Rattle.clause_table.proofs.Laws.{root-in-range}
+use Rattle.assignments.specs.Calls.{askClauses}
+use Rattle.unmet.specs.Mentioned.{Variable, InputsIn, Mentioned, AllMentioned}
+use Rattle.unmet.proofs.Walk.{either, ask-append, first-no, then-asked, first-mentioned, then-mentioned}
+use Rattle.proposal.specs.Rows.{definedIn, rootIn, clausesFor}
+
+-- ---- one row after another
+
+-- the rows from x on
+rows-rest : (D : ℕ → List Definition) (n x : ℕ) → x ≤ n → (R : List Definition) × (rows x D ++ R ≡ rows n D)
+unfolding rows
+rows-rest D zero zero h = ([], refl)
+rows-rest D zero (suc x) h = absurd (omega arith)
+rows-rest D (suc n) x h =
+    ⊎-elim (λ (e : x ≡ suc n). ([], append-nil (rows x D) ∙ ap (λ (x : ℕ). rows x D) e))
+    (λ (l : x < suc n). let r = rows-rest D n x (omega arith) in (r .0 ++ D n, sym (append-assoc (rows x D) (r .0) (D n)) ∙ ap (λ (l : List Definition). l ++ D n) (r .1)))
+    (eq-or-lt-of-le h)
+
+row-more : (D : ℕ → List Definition) (x : ℕ) → rows x D ++ D x ≡ rows (x + 1) D
+row-more D x = unfold rows in rw add-one
+
+module _ (D : ℕ → List Definition) {n x : ℕ} (h : x < n) where
+  -- row x is among all
+  abbrev after : (R : List Definition) × (rows (x + 1) D ++ R ≡ rows n D)
+  after = rows-rest D n (x + 1) (omega arith)
+
+  pub row-mentioned : {l : ℕ} → AllMentioned l (rows n D) → AllMentioned l (D x)
+  row-mentioned a = then-mentioned (rows x D) (D x) (row-more D x) (first-mentioned (rows (x + 1) D) (after .0) (after .1) a)
+
+  -- the rows before x are met, and row x is asked about, its first clause having the number m
+  module _ (a : Assignment) {m : ℕ} (w : m ≡ 0 + length (clausesBy (rows x D))) (y : Yes ≡ askClauses a 0 (clausesBy (rows x D))) {q : Reply} (o : q ≡ askClauses a m (clausesBy (D x))) where
+    row-asked : q ≡ askClauses a 0 (clausesBy (rows (x + 1) D))
+    row-asked = then-asked (rows x D) (D x) (row-more D x) a 0 y refl w o
+
+    pub row-met : q ≡ Yes → Yes ≡ askClauses a 0 (clausesBy (rows (x + 1) D))
+    row-met e = sym e ∙ row-asked
+
+    pub row-unmet : {r : Refusal} → q ≡ No r → No r ≡ askClauses a 0 (clausesBy (rows n D))
+    row-unmet e = first-no (rows (x + 1) D) (after .0) (after .1) a 0 row-asked e
+
+pub none-met : (a : Assignment) (D : ℕ → List Definition) → Yes ≡ askClauses a 0 (clausesBy (rows 0 D))
+unfolding rows clausesBy flatMap askClauses
+none-met a D = refl
+
+pub all-met : (a : Assignment) (D : ℕ → List Definition) {n x : ℕ} → x ≤ n → n ≤ x → Yes ≡ askClauses a 0 (clausesBy (rows x D)) → Yes ≡ askClauses a 0 (clausesBy (rows n D))
+all-met a D {n} {x} h g y = let e : x ≡ n = omega arith in y ∙ ap (λ (n : ℕ). askClauses a 0 (clausesBy (rows n D))) e
+
+-- the number of a row's first clause
+pub row-number : (C k : ℕ) (kinds numbers sizes firsts : List ℕ) (x : ℕ) {m : ℕ} → m ≡ 0 + weightTo clauseWeight k kinds numbers x → m ≡ 0 + length (clausesBy (rows x (rowDefinitions C k kinds numbers sizes firsts)))
+row-number C k kinds numbers sizes firsts x e =
+    omega (arith, e, clauses-by (rows x (rowDefinitions C k kinds numbers sizes firsts)), rows-weigh C k kinds numbers sizes firsts clauseWeight x)
+
+-- the block that the code finds for a row is the row's
+abbrev ownOf : ℕ → ℕ → Block → List Definition
+ownOf C k b = nodeBy C k b (isChop (b .rule))
+
+module _ (C k : ℕ) {b b′ : Block} (e : b ≡ b′) where
+  pub block-mentioned : (l : ℕ) → AllMentioned l (ownOf C k b′) → AllMentioned l (ownOf C k b)
+  block-mentioned l a = subst (λ (b : Block). AllMentioned l (ownOf C k b)) (sym e) a
+
+  pub block-asked : (a : Assignment) (m : ℕ) {q : Reply} → q ≡ askClauses a m (clausesBy (ownOf C k b)) → q ≡ askClauses a m (clausesBy (ownOf C k b′))
+  block-asked a m o = o ∙ ap (λ (b : Block). askClauses a m (clausesBy (ownOf C k b))) e
+
+-- ---- the root, alone
+
+module _ (a : Assignment) (T : List Clause) (v : ℕ) {q : Reply} (f : q ≡ askClauses a 0 T) where
+  abbrev whole : List Clause
+  whole = T ++ (plain v ∷ []) ∷ []
+
+  -- what the last clause says, its variable being high or low
+  abbrev lastly : Bool → Reply
+  lastly h = cond (h || false) Yes (No (record { number = 14; place = 0 + length T }))
+
+  root-after : either q (lastly (a v)) ≡ askClauses a 0 whole
+  unfolding askClauses meetsClause
+  root-after = sym (ask-append a 0 T ((plain v ∷ []) ∷ []) ∙ ap (λ (q : Reply). either q (lastly (a v))) (sym f))
+
+  pub nodes-unmet : {r : Refusal} → q ≡ No r → No r ≡ askClauses a 0 whole
+  nodes-unmet e = sym (ap (λ (q : Reply). either q (lastly (a v))) e) ∙ root-after
+
+  module _ (y : q ≡ Yes) {h : Bool} (g : h ≡ a v) where
+    root-next : (b : Bool) → h ≡ b → lastly b ≡ askClauses a 0 whole
+    root-next b e = ap lastly (sym e ∙ g) ∙ sym (ap (λ (q : Reply). either q (lastly (a v))) y) ∙ root-after
+
+    pub root-met : h ≡ true → Yes ≡ askClauses a 0 whole
+    root-met e = root-next true e
+
+    pub root-unmet : h ≡ false → {m : ℕ} → m ≡ 0 + length T → No (record { number = 14; place = m }) ≡ askClauses a 0 whole
+    root-unmet e n = ap (λ (m : ℕ). No (record { number = 14; place = m })) n ∙ root-next false e
+
+-- ---- what the definitions mention is among the V variables
+
+inputs-in : (n : ℕ) (g : Gate) → All (From 1 n) (inputsOf g) → InputsIn n g
+unfolding inputsOf
+inputs-in n (Constant b) a = tt
+inputs-in n (Copy u) a = omega (arith, a .0)
+inputs-in n (Inverse x) a = omega (arith, a .0)
+inputs-in n (Both x y) a = (omega (arith, a .0), omega (arith, a .1 .0))
+inputs-in n (Either x y) a = (omega (arith, a .0), omega (arith, a .1 .0))
+inputs-in n (AnyOf w m) a = λ e h.
+    let f = subst (From 1 n) (getD-tab m (λ e. w + e) e 0 h) (all-at (From 1 n) (tab m (λ e. w + e)) 0 a e (omega (arith, length-tab m (λ e. w + e)))) in omega arith
+inputs-in n (Step p q s) a = (omega (arith, a .0), omega (arith, a .1 .0), omega (arith, a .1 .1 .0))
+
+module _ (C k : ℕ) (f : Tree Formula) where
+  abbrev nodes : List Node
+  nodes = nodesOf f 0
+
+  all-mentioned : Letters C f → AllMentioned (variablesOf C k nodes) (definitionsOf C k nodes)
+  unfolding variablesOf
+  all-mentioned L x h =
+      let m = all-at (Mentions C k nodes) (definitionsOf C k nodes) (define 0 (Constant false)) (definitions-mention C k f L) x h in
+      record { variable = omega (arith, m .defines); inputs = inputs-in _ _ (m .inputs) }
+
+  module _ {T : NodeTable} (e : T ≡ tableOf (map rowOf nodes)) {F : List ℕ} {s : Sizes} (w : Measured C k (T .kinds) (T .numbers) (T .count) F s) where
+    defined-known : definedIn C k (T .kinds) (T .numbers) (T .sizes) F (T .count) ≡ definitionsOf C k nodes
+    unfolding tableOf
+    defined-known =
+        ap (λ (T : NodeTable). definedIn C k (T .kinds) (T .numbers) (T .sizes) F (T .count)) e
+        ∙ ap (definedIn C k (kinds nodes) (numbers nodes) (sizes nodes) F) (length-map nodes rowOf)
+        ∙ rows-defined C k f F (known C k f e w .first)
+
+    root-known : rootIn (T .kinds) (T .numbers) F k ≡ rootOf C k f
+    unfolding tableOf
+    root-known = ap (λ (T : NodeTable). rootIn (T .kinds) (T .numbers) F k) e ∙ root-at C k f F (known C k f e w .first)
+
+    pub variables-known : s .variables ≡ variablesOf C k nodes
+    variables-known = known C k f e w .variables ∙ sym (variables-are C k f)
+
+    pub table-mentioned : Letters C f → (A : List ℕ) → length A ≡ s .variables
+        → AllMentioned (length A) (definedIn C k (T .kinds) (T .numbers) (T .sizes) F (T .count)) × Variable (length A) (rootIn (T .kinds) (T .numbers) F k)
+    table-mentioned L A h =
+        let n = sym (h ∙ variables-known) in
+        (subst (λ (D : List Definition). AllMentioned (length A) D) (sym defined-known) (subst (λ (n : ℕ). AllMentioned n (definitionsOf C k nodes)) n (all-mentioned L)), omega (arith, n, root-known, root-in-range C k f))
+
+    pub clauses-known : clausesFor C k (T .kinds) (T .numbers) (T .sizes) F (T .count) ≡ clauseTable C k f
+    unfolding clauseTable
+    clauses-known = ap₂ (λ (D : List Definition) (v : ℕ). clausesBy D ++ (plain v ∷ []) ∷ []) defined-known root-known

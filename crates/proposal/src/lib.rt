@@ -1,0 +1,170 @@
+// A proposed assignment, from anyone: whether it meets every clause, and the recording read from its channel variables.
+use assignments::Checked;
+use grammar::MAX_NODES;
+use refusal::Refusal;
+use refusal::Reply;
+use rows::NodeTable;
+ghost use mathlib.Core.Path.{_≡_};
+ghost use mathlib.Core.List.{map};
+ghost use Prim.Native.Nat.{ℕ, _+_, _*_, _^_, _≤_, _<_};
+ghost use lib.ListN.{length, getD};
+ghost use Rattle.refusal.specs.Asked.{asked};
+ghost use Rattle.interval.specs.Listing.{sum};
+ghost use Rattle.interval.specs.Limits.{maxSteps};
+ghost use Rattle.grammar.specs.Limits.{maxNodes, maxChannels};
+ghost use Rattle.grammar.specs.Trees.{Tree};
+ghost use Rattle.grammar.specs.declared.Sort.the-variants.{Formula};
+ghost use Rattle.formula.specs.Nodes.{nodesOf};
+ghost use Rattle.rows.specs.Table.{rowOf, tableOf};
+ghost use Rattle.meaning.specs.Meaning.{bit};
+ghost use Rattle.circuit.specs.Circuit.{channelOf};
+ghost use Rattle.weights.specs.Weights.{clauseWeight, weightTo};
+ghost use Rattle.clauses.specs.Clauses.{clausesBy};
+ghost use Rattle.clause_table.specs.Rows.{Low};
+ghost use Rattle.assignments.specs.Extension.{valueIn, recordingOf};
+ghost use Rattle.assignments.specs.Calls.{askClauses, proposed};
+ghost use Rattle.unmet.specs.Mentioned.{Variable, AllMentioned};
+ghost use Rattle.proposal.specs.Rows.{definedIn, rootIn, clausesFor, TableFor, checkQuestions, proposedBy};
+
+// Question 14 of the clauses of all nodes, in number order; `numbered` has the number of each node's first clause.
+fn ask_nodes<'a>(
+    assignment: &[u8],
+    kinds: &'a [u8; MAX_NODES],
+    numbers: &'a [u8; MAX_NODES],
+    sizes: &'a [u8; MAX_NODES],
+    firsts: &[u32; MAX_NODES],
+    numbered: &[u32; MAX_NODES],
+    count: usize,
+    c: u32,
+    k: u32,
+) -> Reply
+    requires { ⌜ (c ≤ maxChannels) × (k ≤ maxSteps) × (count ≤ maxNodes) × Low (now firsts) × Low (now numbered) ⌝ }
+    requires { ⌜ ((x : ℕ) → x < count → getD (now numbered) x 0 ≡ 0 + weightTo clauseWeight k (now kinds) (now numbers) x) ⌝ }
+    requires { ⌜ AllMentioned (length (now assignment)) (definedIn c k (now kinds) (now numbers) (now sizes) (now firsts) count) ⌝ }
+    ensures { λ r. ⌜ r ≡ askClauses (valueIn (now (assignment .entry))) 0 (clausesBy (definedIn c k (now (kinds .entry)) (now (numbers .entry)) (now (sizes .entry)) (now (firsts .entry)) count)) ⌝ }
+{
+    for x in 0..count {
+        let block = clause_table::block_at(kinds, numbers, sizes, firsts, k, x);
+        if let Reply::No(r) = unmet::ask_node(assignment, c, k, block, numbered[x]) {
+            return Reply::No(r);
+        }
+    }
+    Reply::Yes
+}
+
+// Question 14 of the whole table: the nodes' clauses, then the root alone.
+fn ask_table<'a>(
+    assignment: &[u8],
+    kinds: &'a [u8; MAX_NODES],
+    numbers: &'a [u8; MAX_NODES],
+    sizes: &'a [u8; MAX_NODES],
+    firsts: &[u32; MAX_NODES],
+    count: usize,
+    c: u32,
+    k: u32,
+) -> Reply
+    requires { ⌜ (c ≤ maxChannels) × (k ≤ maxSteps) × (count ≤ maxNodes) × Low (now firsts) ⌝ }
+    requires { ⌜ AllMentioned (length (now assignment)) (definedIn c k (now kinds) (now numbers) (now sizes) (now firsts) count) × Variable (length (now assignment)) (rootIn (now kinds) (now numbers) (now firsts) k) ⌝ }
+    ensures { λ r. ⌜ r ≡ askClauses (valueIn (now (assignment .entry))) 0 (clausesFor c k (now (kinds .entry)) (now (numbers .entry)) (now (sizes .entry)) (now (firsts .entry)) count) ⌝ }
+{
+    let mut numbered = [0; MAX_NODES];
+    let last = weights::sums(
+        kinds,
+        numbers,
+        count,
+        k,
+        weights::clauses(),
+        0,
+        &mut numbered,
+    );
+    if let Reply::No(r) = ask_nodes(
+        assignment,
+        kinds,
+        numbers,
+        sizes,
+        firsts,
+        &numbered,
+        count,
+        c,
+        k,
+    ) {
+        return Reply::No(r);
+    }
+    let root = clause_table::seat(kinds, numbers, firsts, k, 0) + k;
+    if unmet::high(assignment, root) {
+        return Reply::Yes;
+    }
+    Reply::No(Refusal {
+        number: 14,
+        place: last,
+    })
+}
+
+// Questions 12 to 14 and 18, of an accepted formula's node table, with as many places lent for the recording.
+fn ask_proposal(table: NodeTable, c: u32, k: u32, assignment: &[u8], places: usize) -> Reply
+    requires { ⌜ (c ≤ maxChannels) × (k ≤ maxSteps) × (table .count ≤ maxNodes) × TableFor c table ⌝ }
+    ensures { λ r. ⌜ ((f : Tree Formula) → table ≡ tableOf (map rowOf (nodesOf f 0)) → r ≡ asked (checkQuestions c k f (now (assignment .entry)) places) Reply.No Reply.Yes) ⌝ }
+{
+    let mut firsts = [0; MAX_NODES];
+    let s = clause_table::sizes_of(&table.kinds, &table.numbers, table.count, c, k, &mut firsts);
+    if let Reply::No(r) = refusal::ask(12, assignment.len() == s.variables as usize) {
+        return Reply::No(r);
+    }
+    if let Reply::No(r) = evaluator::ask_below(13, 2, assignment) {
+        return Reply::No(r);
+    }
+    if let Reply::No(r) = ask_table(
+        assignment,
+        &table.kinds,
+        &table.numbers,
+        &table.sizes,
+        &firsts,
+        table.count,
+        c,
+        k,
+    ) {
+        return Reply::No(r);
+    }
+    refusal::ask(18, k as usize <= places)
+}
+
+// The byte of instant t: bit b where channel b is high.
+fn recorded(assignment: &[u8], c: usize, t: usize) -> u8
+    requires { ⌜ (c ≤ maxChannels) × (t ≤ maxSteps) × (t * c + c ≤ length (now assignment)) ⌝ }
+    ensures { λ r. ⌜ r ≡ sum (λ b. bit (valueIn (now (assignment .entry)) (channelOf c t b)) * 2 ^ b) c ⌝ }
+{
+    let at = t * c;
+    let mut byte: u8 = 0;
+    for b in 0..c {
+        byte += table::byte_of(assignment[at + b] == 1) << b;
+    }
+    byte
+}
+
+// The recording, to all of `out`.
+fn put_recording(out: &mut [u8], assignment: &[u8], c: usize)
+    requires { ⌜ (c ≤ maxChannels) × (length (now out) ≤ maxSteps) × (length (now out) * c ≤ length (now assignment)) ⌝ }
+    ensures { λ _. ⌜ now (out .exit) ≡ recordingOf c (length (now (out .entry))) (now (assignment .entry)) ⌝ }
+{
+    for t in 0..out.len() {
+        out[t] = recorded(assignment, c, t);
+    }
+}
+
+// Whether a proposed assignment meets every clause of a formula of C channels over k steps; the recording is written where it does.
+pub fn check(text: &[u8], c: u32, k: u32, assignment: &[u8], recording: &mut [u8]) -> Checked
+    ensures { λ r. ⌜ record { answer = r; recording = now (recording .exit) } ≡ proposed c k (now (text .entry)) (now (assignment .entry)) (now (recording .entry)) ⌝ }
+{
+    let tabled = nodes::node_table(text, c, k);
+    let reply = tabled.reply;
+    if let Reply::No(r) = reply {
+        return Checked::Refused(r);
+    }
+    let table = tabled.table;
+    if let Reply::No(r) = ask_proposal(table, c, k, assignment, recording.len()) {
+        return Checked::Refused(r);
+    }
+    let steps = k as usize;
+    put_recording(&mut recording[..steps], assignment, c as usize);
+    Checked::Accepted
+}

@@ -1,0 +1,71 @@
+-- `put_joined` joins the bytes of place e at turn e; both are bits, which join as truths do,
+-- so the slice is filled by the joined truths.
+use mathlib.Core.Path.{refl, ap₂, _∙_}
+use Prim.Native.Nat.{_-_}
+use lib.ListN.{length}
+use borrow.Author.Needs.{needs}
+use Rattle.meaning.specs.Meaning.{bit}
+use Rattle.word.specs.Word.{joined}
+use Rattle.table.specs.Table.{highAt, joinedByte}
+use Rattle.table.proofs.Joined.{joined-bits}
+use Rattle.truths.proofs.Filled.{Filled, begun, turn, done}
+use Rattle.truths.proofs.put_joined.Statement.{statement}
+use Rattle.truths.proofs.put_joined.Tie as tie
+
+abbrev Inv-loop : tie.InvT-loop
+Inv-loop out₀ kind p q e₀ e-end out e = Filled (λ y. bit (joined kind (highAt p y) (highAt q y))) (length out₀) e out
+
+abbrev μ-loop : tie.MeasureT-loop
+μ-loop out₀ kind p q e₀ e-end out e = length out₀ - e
+
+loop-holds : tie.Need-loop-holds Inv-loop μ-loop
+loop-holds c = begun refl
+
+element-copy-out-joined-byte : tie.Need-element-copy-out-joined-byte Inv-loop μ-loop
+element-copy-out-joined-byte c = search needs
+
+element-copy-out-joined-byte-2 : tie.Need-element-copy-out-joined-byte-2 Inv-loop μ-loop
+element-copy-out-joined-byte-2 c = search needs
+
+joined-byte-requires : tie.Need-joined-byte-requires Inv-loop μ-loop
+joined-byte-requires c κs = search needs
+
+slice-write-out : tie.Need-slice-write-out Inv-loop μ-loop
+slice-write-out c = search needs
+
+add-e : tie.Need-add-e Inv-loop μ-loop
+add-e c = search needs
+
+loop-less : tie.Need-loop-less Inv-loop μ-loop
+loop-less c = search needs
+
+loop-again : tie.Need-loop-again Inv-loop μ-loop
+loop-again c =
+    let s = c .before .before .before .before .before .before in
+    let l = c .before .before .before .before .loop in
+    let both = ap₂ (joinedByte (s .args .kind)) (s .pre .1 .at (l .e)) (s .pre .2 .at (l .e)) in
+    let joins = joined-bits (s .args .kind) (highAt (s .args .p .now) (l .e)) (highAt (s .args .q .now) (l .e)) in
+    turn (l .inv) (search needs) (c .joined-byte .ensures ∙ both ∙ joins)
+
+same-length : tie.Need-same-length Inv-loop μ-loop
+same-length c = search needs
+
+returns : tie.Need-returns Inv-loop μ-loop
+returns c = done (c .before .loop .inv) (search needs)
+
+pub put-joined-spec : {M : Type 1} → statement M
+put-joined-spec =
+    tie.close
+    (tie.spec
+    Inv-loop
+    μ-loop
+    loop-holds
+    element-copy-out-joined-byte
+    element-copy-out-joined-byte-2
+    joined-byte-requires
+    slice-write-out
+    add-e
+    loop-less
+    loop-again
+    same-length
+    returns)

@@ -1,0 +1,54 @@
+-- `put_table` copies one byte a turn, so the slice is filled by the table's bytes in order;
+-- the slice is no longer than the table, so that each is there.
+use mathlib.Core.Path.{refl}
+use Prim.Native.Nat.{_-_}
+use lib.ListN.{length, getD}
+use borrow.Author.Needs.{needs}
+use Rattle.truths.proofs.Filled.{Filled, begun, turn, done}
+use Rattle.truths.proofs.put_table.Statement.{statement}
+use Rattle.truths.proofs.put_table.Tie as tie
+
+abbrev Inv-loop : tie.InvT-loop
+Inv-loop out₀ t e₀ e-end out e = Filled (λ y. getD t y 0) (length out₀) e out
+
+abbrev μ-loop : tie.MeasureT-loop
+μ-loop out₀ t e₀ e-end out e = length out₀ - e
+
+loop-holds : tie.Need-loop-holds Inv-loop μ-loop
+loop-holds c = begun refl
+
+element-copy-out-out : tie.Need-element-copy-out-out Inv-loop μ-loop
+element-copy-out-out c = search needs
+
+slice-write-out : tie.Need-slice-write-out Inv-loop μ-loop
+slice-write-out c = search needs
+
+add-e : tie.Need-add-e Inv-loop μ-loop
+add-e c = search needs
+
+loop-less : tie.Need-loop-less Inv-loop μ-loop
+loop-less c = search needs
+
+loop-again : tie.Need-loop-again Inv-loop μ-loop
+loop-again c = turn (c .before .before .loop .inv) (search needs) refl
+
+same-length : tie.Need-same-length Inv-loop μ-loop
+same-length c = search needs
+
+returns : tie.Need-returns Inv-loop μ-loop
+returns c = done (c .before .loop .inv) (search needs)
+
+pub put-table-spec : {M : Type 1} → statement M
+put-table-spec =
+    tie.close
+    (tie.spec
+    Inv-loop
+    μ-loop
+    loop-holds
+    element-copy-out-out
+    slice-write-out
+    add-e
+    loop-less
+    loop-again
+    same-length
+    returns)

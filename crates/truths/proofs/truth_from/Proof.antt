@@ -1,0 +1,86 @@
+-- `truth_from` fills the first places with bits, as many as the assignment has from `at` on but at most n, and leaves 0 at the others;
+-- whichever way it goes, `at` is one before `first`.
+use mathlib.Core.Path.{_≡_, ap, _∙_}
+use mathlib.Core.Logic.{⊎-elim}
+use mathlib.Core.List.{List}
+use Prim.Native.Nat.{ℕ, _+_, _-_, _≤_}
+use native.Mathlib.Omega.{arith}
+use lib.ListN.{length, getD}
+use borrow.Author.Needs.{needs}
+use Rattle.interval.specs.Limits.{maxCount}
+use Rattle.interval.proofs.Fill.{Upto, begun, turn}
+use Rattle.meaning.specs.Meaning.{bit}
+use Rattle.table.specs.Table.{highAt}
+use Rattle.table.proofs.Rows.{zeros}
+use Rattle.truths.proofs.Taken.{taken}
+use Rattle.truths.proofs.truth_from.Statement.{statement}
+use Rattle.truths.proofs.truth_from.Tie as tie
+
+abbrev Inv-loop : tie.InvT-loop
+Inv-loop assignment first n t₀ at e₀ e-end t e = (e ≤ e-end) × Upto maxCount (λ y. bit (highAt assignment (at + y))) (λ y. 0) e t
+
+abbrev μ-loop : tie.MeasureT-loop
+μ-loop assignment first n t₀ at e₀ e-end t e = e-end - e
+
+all-of-requires : tie.Need-all-of-requires Inv-loop μ-loop
+all-of-requires c κs = search needs
+
+sub-at : tie.Need-sub-at Inv-loop μ-loop
+sub-at c = search needs
+
+places-from-requires : tie.Need-places-from-requires Inv-loop μ-loop
+places-from-requires c κs = search needs
+
+loop-holds : tie.Need-loop-holds Inv-loop μ-loop
+loop-holds c =
+    let e = c .before .before .all-of .ensures in
+    (omega arith, begun _ _ _ _ (ap length e) (λ y. ap (λ (t : List ℕ). getD t y 0) e ∙ zeros maxCount y))
+
+add-byte-of : tie.Need-add-byte-of Inv-loop μ-loop
+add-byte-of c = search needs
+
+shared-slice-read-byte-of : tie.Need-shared-slice-read-byte-of Inv-loop μ-loop
+shared-slice-read-byte-of c = search needs
+
+byte-of-requires : tie.Need-byte-of-requires Inv-loop μ-loop
+byte-of-requires c κs = search needs
+
+array-write-t : tie.Need-array-write-t Inv-loop μ-loop
+array-write-t c = search needs
+
+add-e : tie.Need-add-e Inv-loop μ-loop
+add-e c = search needs
+
+loop-less : tie.Need-loop-less Inv-loop μ-loop
+loop-less c = search needs
+
+loop-again : tie.Need-loop-again Inv-loop μ-loop
+loop-again c =
+    let l = c .before .before .before .before .loop in
+    (omega arith, turn _ _ _ _ _ _ (l .inv .1) (search needs) (c .byte-of .ensures))
+
+returns : tie.Need-returns Inv-loop μ-loop
+returns c =
+    let s = c .before .before .before .before .before .before in
+    let j = c .before .before .before .if1 in
+    let o : j .at ≡ s .args .first - 1 = ⊎-elim (λ w. omega arith) (λ w. omega arith) (j .came) in
+    taken (s .args .assignment .now) (s .args .first) (j .at) (s .args .n) o (omega arith) (c .before .loop .inv .1)
+
+pub truth-from-spec : {M : Type 1} → statement M
+truth-from-spec =
+    tie.close
+    (tie.spec
+    Inv-loop
+    μ-loop
+    all-of-requires
+    sub-at
+    places-from-requires
+    loop-holds
+    add-byte-of
+    shared-slice-read-byte-of
+    byte-of-requires
+    array-write-t
+    add-e
+    loop-less
+    loop-again
+    returns)

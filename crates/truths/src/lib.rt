@@ -1,0 +1,90 @@
+// Truths as bytes, 0 or 1: those of a node's part are taken from an assignment, those of the node are written to a part of it.
+use interval::Interval;
+ghost use mathlib.Core.Path.{_≡_};
+ghost use Prim.Native.Nat.{ℕ, _+_, _-_, _≤_, _<_, min};
+ghost use lib.ListN.{length, getD};
+ghost use Rattle.interval.specs.Listing.{tab};
+ghost use Rattle.interval.specs.Limits.{maxSteps, maxCount};
+ghost use Rattle.grammar.specs.Limits.{maxChannels};
+ghost use Rattle.meaning.specs.Meaning.{bit, bitAt, channelAt};
+ghost use Rattle.word.specs.Word.{WordOf, joined};
+ghost use Rattle.table.specs.Table.{highAt, Binary};
+
+// How many of n places from `at` on there are.
+fn places_from(length: usize, at: usize, n: usize) -> usize
+    ensures { λ r. ⌜ r ≡ min n (length - at) ⌝ }
+{
+    if at >= length {
+        return 0;
+    }
+    let left = length - at;
+    if n <= left { n } else { left }
+}
+
+// The truths of n variables from `first` on, and then zeros; a variable past the assignment's end has none.
+pub fn truth_from(assignment: &[u8], first: u32, n: usize) -> [u8; Interval::MAX_COUNT]
+    requires { ⌜ n ≤ maxCount ⌝ }
+    ensures { λ r. ⌜ Binary r × ((e : ℕ) → e < n → highAt r e ≡ highAt (now (assignment .entry)) (first - 1 + e)) ⌝ }
+{
+    let mut t = table::all_of(0);
+    let at = if first == 0 { 0 } else { first as usize - 1 };
+    for e in 0..places_from(assignment.len(), at, n) {
+        t[e] = table::byte_of(assignment[at + e] == 1);
+    }
+    t
+}
+
+// The first bytes of a table.
+pub fn put_table(out: &mut [u8], t: &[u8; Interval::MAX_COUNT])
+    requires { ⌜ length (now out) ≤ maxCount ⌝ }
+    ensures { λ _. ⌜ now (out .exit) ≡ tab (length (now (out .entry))) (λ e. getD (now (t .entry)) e 0) ⌝ }
+{
+    for e in 0..out.len() {
+        out[e] = t[e];
+    }
+}
+
+// 1 where bit c of a byte is.
+pub fn bit_of(byte: u8, c: usize) -> u8
+    requires { ⌜ c < maxChannels ⌝ }
+    ensures { λ r. ⌜ r ≡ bit (bitAt byte c) ⌝ }
+{
+    (byte >> c) % 2
+}
+
+// A letter: channel c at each instant.
+pub fn put_channel(out: &mut [u8], recording: &[u8], c: usize)
+    requires { ⌜ c < maxChannels ⌝ }
+    ensures { λ _. ⌜ now (out .exit) ≡ tab (length (now (out .entry))) (λ t. bit (channelAt (now (recording .entry)) c t)) ⌝ }
+{
+    for t in 0..out.len() {
+        out[t] = bit_of(rows::byte_at(recording, t), c);
+    }
+}
+
+// `!`, `&` or `|`, by kind, from the truths of its parts; `!` has one.
+pub fn put_joined(
+    out: &mut [u8],
+    kind: u8,
+    p: &[u8; Interval::MAX_COUNT],
+    q: &[u8; Interval::MAX_COUNT],
+)
+    requires { ⌜ (length (now out) ≤ maxCount) × Binary (now p) × Binary (now q) ⌝ }
+    ensures { λ _. ⌜ now (out .exit) ≡ tab (length (now (out .entry))) (λ e. bit (joined kind (highAt (now (p .entry)) e) (highAt (now (q .entry)) e))) ⌝ }
+{
+    for e in 0..out.len() {
+        out[e] = table::joined_byte(kind, p[e], q[e]);
+    }
+}
+
+// The word of a state assertion, from its truths.
+pub fn word_of(p: &[u8; Interval::MAX_COUNT], k: usize) -> u32
+    requires { ⌜ (k ≤ maxSteps) × Binary (now p) ⌝ }
+    ensures { λ r. ⌜ WordOf k (highAt (now (p .entry))) r ⌝ }
+{
+    let mut word: u32 = 0;
+    for t in 0..k {
+        word += (p[t] as u32) << t;
+    }
+    word
+}

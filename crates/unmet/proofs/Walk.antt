@@ -1,0 +1,185 @@
+-- Question 14 of clauses that follow others: the first no answers. So of definitions one after another, as a walk gives them, either all
+-- up to one are met, and the next clause's number is how many these have, or the first no is the answer.
+use mathlib.Core.Path.{_≡_, refl, sym, ap, _∙_, subst}
+use mathlib.Core.Bool.{Bool, true, false, cond}
+use mathlib.Core.List.{List, [], _∷_, _++_, append-nil, flatMap}
+use Prim.Native.Nat.{ℕ, suc, _+_, _≤_, _<_}
+use native.Mathlib.Numerals.{add-one}
+use native.Mathlib.Omega.{arith}
+use lib.ListN.{length, take, drop, length-append, take-append-drop, List·getD-append}
+use lib.Seq.{take-suc, take-all, getD-append-add}
+use Rattle.refusal.specs.declared.Refusal.{Refusal}
+use Rattle.refusal.specs.declared.Reply.{Reply}
+use Rattle.refusal.specs.declared.Reply.the-variants.{Yes, No}
+use Rattle.interval.specs.Places.{countOf}
+use Rattle.interval.specs.Limits.{maxCount}
+use Rattle.circuit.specs.Gates.{Assignment}
+use Rattle.circuit.specs.Circuit.{Definition, define}
+use Rattle.circuit.specs.declared.Gate.{Gate}
+use Rattle.blocks.specs.Blocks.{isChop, gateOf, definedBy, Bounded, bound}
+use Rattle.blocks.specs.declared.Block.{Block}
+use Rattle.blocks.specs.declared.Position.{Position}
+use Rattle.blocks.specs.declared.Rule.the-variants.{Cut}
+use Rattle.weights.specs.Weights.{clauseWeight, weightOf, weightBy, maxWeight, maxSum}
+use Rattle.weights.specs.declared.Weight.{Weight}
+use Rattle.weights.proofs.Weights.{block-weight, weighed}
+use Rattle.clauses.specs.Clauses.{Clause, clausesOf, clausesBy, meetsClause}
+use Rattle.clauses.proofs.Sizes.{gate-clauses, clauses-by}
+use Rattle.gates.specs.Within.{Within}
+use Rattle.node_clauses.specs.Nodes.{choppedBy, nodeBy}
+use Rattle.node_clauses.specs.Walk.{definitionIn, Walks}
+use Rattle.node_clauses.proofs.Walk.{definition-here, light, within-here}
+use Rattle.node_clauses.proofs.Nodes.{clauses-join, Halves, chopped, node-known}
+use Rattle.assignments.specs.Calls.{askClauses}
+use Rattle.unmet.specs.Mentioned.{Variable, InputsIn, Mentioned, AllMentioned}
+
+-- ---- clauses after clauses
+
+-- the first no of two
+abbrev pub either : Reply → Reply → Reply
+either Yes q = q
+either (No r) q = No r
+
+unless : (b : Bool) (p q : Reply) (r : Refusal) → cond b (either p q) (No r) ≡ either (cond b p (No r)) q
+unless true p q r = refl
+unless false p q r = refl
+
+module _ (a : Assignment) where
+  pub ask-append : (n : ℕ) (S T : List Clause) → askClauses a n (S ++ T) ≡ either (askClauses a n S) (askClauses a (n + length S) T)
+  unfolding askClauses
+  ask-append n [] T = ap (λ (m : ℕ). askClauses a m T) (omega arith)
+  ask-append n (c ∷ S) T =
+      let s : suc n + length S ≡ n + suc (length S) = omega arith in
+      let e = ask-append (suc n) S T ∙ ap (λ (m : ℕ). either (askClauses a (suc n) S) (askClauses a m T)) s in
+      rw e (unless (meetsClause a c) (askClauses a (suc n) S) (askClauses a (n + suc (length S)) T) _)
+
+-- ---- definitions after definitions
+
+module _ (D E : List Definition) {F : List Definition} (e : D ++ E ≡ F) where
+  joined : clausesBy F ≡ clausesBy D ++ clausesBy E
+  joined = ap clausesBy (sym e) ∙ clauses-join D E
+
+  length-joined : length (clausesBy F) ≡ length (clausesBy D) + length (clausesBy E)
+  length-joined = ap length joined ∙ length-append (clausesBy D) (clausesBy E)
+
+  module _ (a : Assignment) (n : ℕ) {q : Reply} (f : q ≡ askClauses a n (clausesBy D)) where
+    both-asked : askClauses a n (clausesBy F) ≡ either q (askClauses a (n + length (clausesBy D)) (clausesBy E))
+    both-asked = ap (askClauses a n) joined ∙ ask-append a n (clausesBy D) (clausesBy E) ∙ rw f refl
+
+    pub first-no : {r : Refusal} → q ≡ No r → No r ≡ askClauses a n (clausesBy F)
+    first-no g = sym (both-asked ∙ rw g refl)
+
+    pub then-asked : {m : ℕ} {p : Reply} → q ≡ Yes → m ≡ n + length (clausesBy D) → p ≡ askClauses a m (clausesBy E) → p ≡ askClauses a n (clausesBy F)
+    then-asked g h i = sym (both-asked ∙ rw (g, ← h) (sym i))
+
+  module _ {n : ℕ} (f : AllMentioned n F) where
+    all : AllMentioned n (D ++ E)
+    all = subst (AllMentioned n) (sym e) f
+
+    pub first-mentioned : AllMentioned n D
+    first-mentioned x h = subst (Mentioned n) (List·getD-append D E _ x h) (all x (omega (arith, length-append D E)))
+
+    pub then-mentioned : AllMentioned n E
+    then-mentioned x h = subst (Mentioned n) (getD-append-add D E x _) (all (length D + x) (omega (arith, length-append D E)))
+
+-- ---- a loop: of D the first x definitions are met, whose clauses have the numbers from n on to m
+
+pub record Met (a : Assignment) (n : ℕ) (D : List Definition) (m x : ℕ) : Type 0 where
+  pub all : Yes ≡ askClauses a n (clausesBy (take x D))
+  pub next : m ≡ n + length (clausesBy (take x D))
+
+module _ {a : Assignment} {n : ℕ} {D : List Definition} where
+  pub met-begun : Met a n D n 0
+  unfolding askClauses clausesBy flatMap
+  met-begun = record { all = refl; next = omega arith }
+
+  module _ {m x : ℕ} (t : Met a n D m x) where
+    pub met-done : length D ≤ x → Yes ≡ askClauses a n (clausesBy D)
+    met-done h = t .all ∙ ap (λ (E : List Definition). askClauses a n (clausesBy E)) (take-all x D h)
+
+    -- the definition in place x comes next
+    module _ (h : x < length D) {v : ℕ} {gate : Gate} (e : definitionIn D x ≡ define v gate) where
+      one : clausesBy (define v gate ∷ []) ≡ clausesOf v gate
+      unfolding clausesBy flatMap
+      one = append-nil (clausesOf v gate)
+
+      one-more : take x D ++ (define v gate ∷ []) ≡ take (x + 1) D
+      one-more = rw (add-one x, take-suc D x (definitionIn [] 0) h, e) refl
+
+      module _ {q : Reply} (f : q ≡ askClauses a m (clausesOf v gate)) where
+        up-to-here : q ≡ askClauses a n (clausesBy (take (x + 1) D))
+        up-to-here = then-asked (take x D) (define v gate ∷ []) one-more a n (t .all) refl (t .next) (rw one f)
+
+        pub met-turn : {w : ℕ} → q ≡ Yes → w ≡ weightOf clauseWeight gate → Met a n D (m + w) (x + 1)
+        met-turn g i = record { all = sym g ∙ up-to-here; next = omega (arith, t .next, i, length-joined (take x D) (define v gate ∷ []) one-more, ap length one, gate-clauses v gate) }
+
+        pub met-stopped : {r : Refusal} → q ≡ No r → No r ≡ askClauses a n (clausesBy D)
+        met-stopped g = first-no (take (x + 1) D) (drop (x + 1) D) (take-append-drop (x + 1) D) a n up-to-here g
+
+      -- no number is more than all clauses come to
+      pub met-few : m + weightOf clauseWeight gate ≤ n + length (clausesBy D)
+      met-few = omega (arith, t .next, length-joined (take x D) (define v gate ∷ []) one-more, ap length one, gate-clauses v gate, length-joined (take (x + 1) D) (drop (x + 1) D) (take-append-drop (x + 1) D))
+
+-- ---- a block, as the code walks it
+
+block-clauses : (C k : ℕ) (b : Block) → length (clausesBy (definedBy C k b)) ≡ weightBy clauseWeight k (b .points) (b .rule)
+block-clauses C k b = clauses-by (definedBy C k b) ∙ block-weight clauseWeight C k b
+
+module _ {C k : ℕ} {block : Block} (s : Bounded C k block × (block .points ≤ maxCount)) where
+  clauses-few : length (clausesBy (definedBy C k block)) ≤ maxWeight
+  clauses-few =
+      let l = light s {v = clauseWeight} refl (omega arith) (omega arith) (omega arith) in
+      omega (arith, block-clauses C k block, weighed l (block .rule) refl refl .1)
+
+  module _ {a : Assignment} {n count m x : ℕ} {p : Position} (w : Walks C k block count p x) (t : Met a n (definedBy C k block) m x) (h : x < count)
+      {gate : Gate} (g : gate ≡ gateOf C k block x (p .row) (p .line) (p .cell)) where
+    inside : x < length (definedBy C k block)
+    inside = omega (arith, w .whole)
+
+    here : definitionIn (definedBy C k block) x ≡ define (block .first + x) gate
+    here = definition-here C k block w h g
+
+    pub gate-few : (weightOf clauseWeight gate ≤ maxWeight) × (m + weightOf clauseWeight gate ≤ n + maxWeight)
+    gate-few = omega (arith, t .next, met-few t inside here, clauses-few)
+
+    pub gate-asks : {l : ℕ} → AllMentioned l (definedBy C k block) → n ≤ maxSum + maxWeight
+        → Variable l (block .first + x) × InputsIn l gate × Within gate × (weightOf clauseWeight gate ≤ maxWeight) × (m < bound)
+    gate-asks {l} f i =
+        let d = subst (Mentioned l) here (f x inside) in
+        (d .variable, d .inputs, within-here s w h g, gate-few .0, omega (arith, gate-few .1))
+
+    module _ {q : Reply} (f : q ≡ askClauses a m (clausesOf (block .first + x) gate)) where
+      pub block-turn : {w : ℕ} → q ≡ Yes → w ≡ weightOf clauseWeight gate → Met a n (definedBy C k block) (m + w) (x + 1)
+      block-turn e i = met-turn t inside here f e i
+
+      pub block-stopped : {r : Refusal} → q ≡ No r → No r ≡ askClauses a n (clausesBy (definedBy C k block))
+      block-stopped e = met-stopped t inside here f e
+
+-- ---- a chop: its triples, then its intervals
+
+module _ (C : ℕ) {k : ℕ} {b t s : Block} (h : Halves k b t s) where
+  abbrev whole : List Definition
+  whole = choppedBy C k (b .first + countOf k) b
+
+  module _ {l : ℕ} (f : AllMentioned l whole) where
+    pub triples-mentioned : AllMentioned l (definedBy C k t)
+    triples-mentioned = first-mentioned (definedBy C k t) (definedBy C k s) (chopped C h) f
+
+    pub intervals-mentioned : AllMentioned l (definedBy C k s)
+    intervals-mentioned = then-mentioned (definedBy C k t) (definedBy C k s) (chopped C h) f
+
+  module _ (a : Assignment) (n : ℕ) {q : Reply} (f : q ≡ askClauses a n (clausesBy (definedBy C k t))) where
+    pub triples-no : {r : Refusal} → q ≡ No r → No r ≡ askClauses a n (clausesBy whole)
+    triples-no g = first-no (definedBy C k t) (definedBy C k s) (chopped C h) a n f g
+
+    pub intervals-asked : {w : Weight} {m : ℕ} {p : Reply} → q ≡ Yes → w ≡ clauseWeight → m ≡ weightBy w k (b .points) Cut → p ≡ askClauses a (n + m) (clausesBy (definedBy C k s))
+        → p ≡ askClauses a n (clausesBy whole)
+    intervals-asked g o e i =
+        let m = e ∙ ap (λ (w : Weight). weightBy w k (b .points) Cut) o ∙ ap (λ (t : Block). weightBy clauseWeight k (t .points) (t .rule)) (sym (h .triples)) ∙ sym (block-clauses C k t) in
+        then-asked (definedBy C k t) (definedBy C k s) (chopped C h) a n f g (ap (λ (m : ℕ). n + m) m) i
+
+-- ---- a node, known to be a chop or not
+
+pub node-asked : (a : Assignment) (n C k : ℕ) (b : Block) {c d : Bool} {q : Reply} → c ≡ isChop (b .rule) → c ≡ d → q ≡ askClauses a n (clausesBy (nodeBy C k b d))
+    → q ≡ askClauses a n (clausesBy (nodeBy C k b (isChop (b .rule))))
+node-asked a n C k b e f g = g ∙ ap (λ (D : List Definition). askClauses a n (clausesBy D)) (node-known C k b e f)

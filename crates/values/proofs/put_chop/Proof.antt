@@ -1,0 +1,76 @@
+-- `put_chop` puts the chop's table, whose bytes are its truths in order (Tables.antt), and then its triples, into what is left:
+-- that is as much as they need.
+use mathlib.Core.Path.{_≡_, sym, ap₂, _∙_}
+use mathlib.Core.List.{List, _++_, append-nil}
+use Prim.Native.Nat.{ℕ, _-_}
+use native.Mathlib.Omega.{arith}
+use lib.ListN.{length, take, drop, length-append}
+use lib.Seq.{length-take-le, take-at, drop-at, drop-length}
+use borrow.Rule.Slice.PartMut.{putMid}
+use Rattle.interval.specs.Places.{countOf}
+use Rattle.values.proofs.Tables.{table-values, bits-table}
+use borrow.Author.Needs.{needs}
+use Rattle.values.proofs.put_chop.Statement.{statement}
+use Rattle.values.proofs.put_chop.Tie as tie
+
+-- a list whose rest is put anew
+rest-put : (a : ℕ) (x r y : List ℕ) → length x ≡ a → putMid a (length (x ++ r) - a) (x ++ r) y ≡ x ++ y
+rest-put a x r y e =
+    let n : length (x ++ r) - a ≡ length r = omega (arith, length-append x r) in
+    rw (n, take-at x r a e, drop-at x r a e, drop-length r, append-nil y)
+
+count-requires : tie.Need-count-requires
+count-requires c κs = search needs
+
+slice-relend-prefix-put-table : tie.Need-slice-relend-prefix-put-table
+slice-relend-prefix-put-table c = search needs
+
+slice-aggregate-put-table : tie.Need-slice-aggregate-put-table
+slice-aggregate-put-table c = sym (length-take-le _ _ (omega arith))
+
+chop-table-requires : tie.Need-chop-table-requires
+chop-table-requires c κs = search needs
+
+put-table-requires : tie.Need-put-table-requires
+put-table-requires c κs = omega (arith, length-take-le (c .before .before .before .count .result) (c .before .before .before .before .before .args .out .now) (omega arith))
+
+sub-put-triples : tie.Need-sub-put-triples
+sub-put-triples c = search needs
+
+part-put-triples-start : tie.Need-part-put-triples-start
+part-put-triples-start c = search needs
+
+part-put-triples-end : tie.Need-part-put-triples-end
+part-put-triples-end c = search needs
+
+put-triples-requires : tie.Need-put-triples-requires
+put-triples-requires c κs = search needs
+
+same-length : tie.Need-same-length
+same-length c = search needs
+
+returns : tie.Need-returns
+returns c = let a = c .before .before .before .before .before .before .before .before .before .before .before .before .args in
+    let s = c .before .before .before .before .before .before .before .before .before .before .before .before .pre in
+    let n = c .before .before .before .before .before .before .before .before .before .before .count in
+    let w : length (take (n .result) (a .out .now)) ≡ countOf (a .k) = length-take-le (n .result) (a .out .now) (omega arith) ∙ n .ensures .0 in
+    let T = c .before .before .before .before .before .before .before .before .chop-table .ensures _ _ (bits-table (s .2)) (bits-table (s .3)) in
+    let t = c .before .before .before .before .before .before .put-table in
+    let e = t .ensures ∙ table-values (a .k) _ w T in
+    rest-put (n .result) (t .last .0) (drop (n .result) (a .out .now)) _ (search needs) ∙ ap₂ (λ (x y : List ℕ). x ++ y) e (c .before .before .put-triples .ensures)
+
+pub put-chop-spec : {M : Type 1} → statement M
+put-chop-spec =
+    tie.close
+    (tie.spec
+    count-requires
+    slice-relend-prefix-put-table
+    slice-aggregate-put-table
+    chop-table-requires
+    put-table-requires
+    sub-put-triples
+    part-put-triples-start
+    part-put-triples-end
+    put-triples-requires
+    same-length
+    returns)

@@ -1,0 +1,57 @@
+use native.Mathlib.Omega.{arith}
+use borrow.Author.Needs.{needs}
+-- `put_instant` writes one channel's bit a turn, at the channel's place,
+-- and after the last turn all are written (Filled.antt of `truths`).
+use mathlib.Core.Path.{_≡_, refl}
+use Prim.Native.Nat.{_-_}
+use lib.ListN.{length}
+use Rattle.meaning.specs.Meaning.{bit, bitAt}
+use Rattle.truths.proofs.Filled.{Filled, begun, turn, done}
+use Rattle.values.proofs.put_instant.Statement.{statement}
+use Rattle.values.proofs.put_instant.Tie as tie
+
+abbrev Inv-loop : tie.InvT-loop
+Inv-loop out₀ byte c₀ c-end out c = (c-end ≡ length out₀) × Filled (λ c. bit (bitAt byte c)) (length out₀) c out
+
+abbrev μ-loop : tie.MeasureT-loop
+μ-loop out₀ byte c₀ c-end out c = length out₀ - c
+
+loop-holds : tie.Need-loop-holds Inv-loop μ-loop
+loop-holds c = (refl, begun refl)
+
+bit-of-requires : tie.Need-bit-of-requires Inv-loop μ-loop
+bit-of-requires c κs = search needs
+
+slice-write-out : tie.Need-slice-write-out Inv-loop μ-loop
+slice-write-out c = search needs
+
+add-c : tie.Need-add-c Inv-loop μ-loop
+add-c c = search needs
+
+loop-less : tie.Need-loop-less Inv-loop μ-loop
+loop-less c = search needs
+
+loop-again : tie.Need-loop-again Inv-loop μ-loop
+loop-again c = let l = c .before .before .loop in
+    (l .inv .0, turn (l .inv .1) (omega arith) (c .bit-of .ensures))
+
+same-length : tie.Need-same-length Inv-loop μ-loop
+same-length c = search needs
+
+returns : tie.Need-returns Inv-loop μ-loop
+returns c = done (c .before .loop .inv .1) (omega arith)
+
+pub put-instant-spec : {M : Type 1} → statement M
+put-instant-spec =
+    tie.close
+    (tie.spec
+    Inv-loop
+    μ-loop
+    loop-holds
+    bit-of-requires
+    slice-write-out
+    add-c
+    loop-less
+    loop-again
+    same-length
+    returns)

@@ -1,0 +1,104 @@
+use native.Mathlib.Omega.{arith}
+use borrow.Author.Needs.{needs}
+-- `put_levels` fills one part a turn with the table of the next level (Parts.antt of `cuts`), which gives that level's truths in order
+-- (Tables.antt). The word measures as the state assertion does.
+use mathlib.Core.Path.{_≡_, refl, _∙_}
+use mathlib.Core.Bool.{Bool}
+use Prim.Native.Nat.{ℕ, suc, _+_, _-_}
+use Rattle.interval.specs.Places.{countOf}
+use Rattle.grammar.specs.declared.Sort.the-variants.{Formula}
+use Rattle.meaning.specs.Meaning.{bitAt, lasts}
+use Rattle.word.specs.Word.{WordOf}
+use Rattle.table.proofs.Measure.{measured-word}
+use Rattle.assignments.specs.Extension.{truthValues}
+use Rattle.cuts.proofs.Parts.{Parts, begun-even, room, part-length, turn, done}
+use Rattle.values.proofs.Tables.{truths-count, table-values}
+use Rattle.values.proofs.put_levels.Statement.{statement}
+use Rattle.values.proofs.put_levels.Tie as tie
+
+abbrev Inv-loop : tie.InvT-loop
+Inv-loop out₀ n word k count at₀ c₀ c-end out at c = (c-end ≡ suc n) × ((f : ℕ → Bool) → WordOf k f word → Parts (λ c. truthValues Formula k (lasts c f)) (λ c. countOf k) (suc n) out₀ at out c)
+
+abbrev μ-loop : tie.MeasureT-loop
+μ-loop out₀ n word k count at₀ c₀ c-end out at c = suc n - c
+
+-- by the word itself
+sofar : (c : tie.At-loop Inv-loop μ-loop) → let a = c .before .before .before .args in let l = c .loop in
+    Parts (λ n. truthValues Formula (a .k) (lasts n (bitAt (a .word)))) (λ n. countOf (a .k)) (suc (a .n)) (a .out .now) (l .at) (l .out) (l .c)
+sofar c = c .loop .inv .1 (bitAt (c .before .before .before .args .word)) (record { at = λ t h. refl })
+
+count-requires : tie.Need-count-requires Inv-loop μ-loop
+count-requires c κs = search needs
+
+add-c-end : tie.Need-add-c-end Inv-loop μ-loop
+add-c-end c = search needs
+
+loop-holds : tie.Need-loop-holds Inv-loop μ-loop
+loop-holds c = (omega arith, λ f W. begun-even (λ n. truths-count _ (lasts n f)) (c .before .before .pre .2))
+
+add-end : tie.Need-add-end Inv-loop μ-loop
+add-end c = omega (arith, room (sofar (c .before)) (omega arith), sofar (c .before) .long)
+
+sub-put-table : tie.Need-sub-put-table Inv-loop μ-loop
+sub-put-table c = search needs
+
+part-put-table-start : tie.Need-part-put-table-start Inv-loop μ-loop
+part-put-table-start c = search needs
+
+part-put-table-end : tie.Need-part-put-table-end Inv-loop μ-loop
+part-put-table-end c = omega (arith, room (sofar (c .before)) (omega arith))
+
+cast-measured-table : tie.Need-cast-measured-table Inv-loop μ-loop
+cast-measured-table c = search needs
+
+measured-table-requires : tie.Need-measured-table-requires Inv-loop μ-loop
+measured-table-requires c κs = search needs
+
+put-table-requires : tie.Need-put-table-requires Inv-loop μ-loop
+put-table-requires c κs = let l = c .before .before .before .before .loop in
+    omega (arith, part-length (sofar (c .before .before .before .before)) (omega arith) (l .at + c .before .before .before .before .before .count .result) (omega arith))
+
+add-c : tie.Need-add-c Inv-loop μ-loop
+add-c c = search needs
+
+loop-less : tie.Need-loop-less Inv-loop μ-loop
+loop-less c = search needs
+
+loop-again : tie.Need-loop-again Inv-loop μ-loop
+loop-again c = let a = c .before .before .before .before .before .before .before .before .before .before .args in
+    let l = c .before .before .before .before .before .before .before .loop in
+    let t = c .before .before .before .before .measured-table in (
+      l .inv .0,
+      λ f W.
+          let p = l .inv .1 f W in
+          let o : l .at + c .before .before .before .before .before .before .before .before .count .result ≡ l .at + countOf (a .k) = omega arith in
+          turn p (omega arith) _ o (c .before .before .put-table .ensures ∙ table-values (a .k) (lasts (l .c) f) (part-length p (omega arith) _ o) (measured-word (a .k) 7 (l .c) (a .word) f _ W (t .ensures))),
+    )
+
+same-length : tie.Need-same-length Inv-loop μ-loop
+same-length c = sofar (c .before) .long
+
+returns : tie.Need-returns Inv-loop μ-loop
+returns c = λ f W. done (c .before .loop .inv .1 f W) (omega arith)
+
+pub put-levels-spec : {M : Type 1} → statement M
+put-levels-spec =
+    tie.close
+    (tie.spec
+    Inv-loop
+    μ-loop
+    count-requires
+    add-c-end
+    loop-holds
+    add-end
+    sub-put-table
+    part-put-table-start
+    part-put-table-end
+    cast-measured-table
+    measured-table-requires
+    put-table-requires
+    add-c
+    loop-less
+    loop-again
+    same-length
+    returns)

@@ -1,0 +1,97 @@
+// The values of a node's block, written to the part of an assignment that it fills, and the channels' values before all blocks.
+use blocks::Rule;
+use grammar::MAX_CHANNELS;
+use interval::Interval;
+ghost use mathlib.Core.Path.{_≡_};
+ghost use mathlib.Core.Bool.{Bool};
+ghost use mathlib.Core.List.{_++_};
+ghost use Prim.Native.Nat.{ℕ, suc, _+_, _*_, _≤_};
+ghost use lib.ListN.{length};
+ghost use Rattle.interval.specs.Listing.{rows, tab};
+ghost use Rattle.interval.specs.Limits.{maxSteps};
+ghost use Rattle.interval.specs.Places.{countOf, tripleCountOf};
+ghost use Rattle.grammar.specs.Limits.{maxChannels};
+ghost use Rattle.grammar.specs.declared.Sort.the-variants.{Formula};
+ghost use Rattle.meaning.specs.Meaning.{bit, bitAt, lasts, chops};
+ghost use Rattle.word.specs.Word.{WordOf};
+ghost use Rattle.assignments.specs.Extension.{channelValues, truthValues, cutValues};
+ghost use Rattle.table.specs.Table.{highAt, Binary};
+ghost use Rattle.cuts.specs.Cuts.{onPlaces};
+ghost use Rattle.values.specs.Values.{valuesBy, Fits};
+
+// An instant's channels.
+fn put_instant(out: &mut [u8], byte: u8)
+    requires { ⌜ length (now out) ≤ maxChannels ⌝ }
+    ensures { λ _. ⌜ now (out .exit) ≡ tab (length (now (out .entry))) (λ c. bit (bitAt byte c)) ⌝ }
+{
+    for c in 0..out.len() {
+        out[c] = truths::bit_of(byte, c);
+    }
+}
+
+// The channels at all instants.
+pub fn put_channels(out: &mut [u8], c: usize, recording: &[u8])
+    requires { ⌜ (c ≤ maxChannels) × (length (now recording) ≤ maxSteps) × (length (now out) ≡ length (now recording) * c) ⌝ }
+    ensures { λ _. ⌜ now (out .exit) ≡ channelValues c (length (now (recording .entry))) (now (recording .entry)) ⌝ }
+{
+    let mut at = 0;
+    for t in 0..recording.len() {
+        let end = at + c;
+        put_instant(&mut out[at..end], recording[t]);
+        at = end;
+    }
+}
+
+// Levels 0 to n of a duration, from the word of its state assertion.
+fn put_levels(out: &mut [u8], n: u32, word: u32, k: usize)
+    requires { ⌜ (k ≤ maxSteps) × (n ≤ 255) × (length (now out) ≡ suc n * countOf k) ⌝ }
+    ensures { λ _. ⌜ ((f : ℕ → Bool) → WordOf k f word → now (out .exit) ≡ rows (suc n) (λ c. truthValues Formula k (lasts c f))) ⌝ }
+{
+    let count = Interval::count(k);
+    let mut at = 0;
+    for c in 0..n + 1 {
+        let end = at + count;
+        truths::put_table(
+            &mut out[at..end],
+            &table::measured_table(7, c as u8, word, k),
+        );
+        at = end;
+    }
+}
+
+// A chop: its intervals, then its triples.
+fn put_chop(out: &mut [u8], p: &[u8; Interval::MAX_COUNT], q: &[u8; Interval::MAX_COUNT], k: usize)
+    requires { ⌜ (k ≤ maxSteps) × (length (now out) ≡ countOf k + tripleCountOf k) × Binary (now p) × Binary (now q) ⌝ }
+    ensures { λ _. ⌜ now (out .exit) ≡ truthValues Formula k (chops (onPlaces k (highAt (now (p .entry)))) (onPlaces k (highAt (now (q .entry))))) ++ cutValues k (onPlaces k (highAt (now (p .entry)))) (onPlaces k (highAt (now (q .entry)))) ⌝ }
+{
+    let count = Interval::count(k);
+    truths::put_table(&mut out[..count], &chop::chop_table(p, q, k));
+    cuts::put_triples(&mut out[count..], p, q, k);
+}
+
+// The values of a node's own block, which is lent whole, from the truths of its parts.
+pub fn put_values(
+    out: &mut [u8],
+    rule: Rule,
+    k: usize,
+    recording: &[u8],
+    p: &[u8; Interval::MAX_COUNT],
+    q: &[u8; Interval::MAX_COUNT],
+)
+    requires { ⌜ (k ≤ maxSteps) × Fits k (length (now out)) rule × Binary (now p) × Binary (now q) ⌝ }
+    ensures { λ _. ⌜ now (out .exit) ≡ valuesBy k (now (recording .entry)) (length (now (out .entry))) (highAt (now (p .entry))) (highAt (now (q .entry))) rule ⌝ }
+{
+    match rule {
+        Rule::Fixed(up) => truths::put_table(out, &table::all_of(table::byte_of(up))),
+        Rule::Letter(c) => truths::put_channel(out, recording, c as usize % MAX_CHANNELS),
+        Rule::Negation => truths::put_joined(out, 2, p, q),
+        Rule::And => truths::put_joined(out, 3, p, q),
+        Rule::Or => truths::put_joined(out, 4, p, q),
+        Rule::Chop => put_chop(out, p, q, k),
+        Rule::Duration(n) => put_levels(out, n, truths::word_of(p, k), k),
+        Rule::Throughout => {
+            truths::put_table(out, &table::measured_table(8, 0, truths::word_of(p, k), k))
+        }
+        Rule::Cut => truths::put_table(out, &table::all_of(0)),
+    }
+}
