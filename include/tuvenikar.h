@@ -141,7 +141,8 @@ uint64_t tuv_table(const uint8_t *text, size_t text_length, uint32_t c, uint32_t
  * Written: on TUV_WRITTEN the v bytes of the assignment, also where the formula does not hold: byte x is variable x + 1, 0 or 1.
  *          For `#a>=1`, c 1, k 1: 0, 1, 1, 1, 0, 0, 0, 0 for recording 0 and 1, 1, 1, 1, 0, 1, 0, 1 for recording 1.
  * Answers: TUV_WRITTEN, a refusal 1 to 7, 10, 11 or 18.
- * Stack:   TO BE MEASURED
+ * Stack:   50,000 bytes for any input: 176 for each level of brackets and signs (measured: 49,296 for 255 `(`; 15,504 for the
+ *          deepest text that is accepted).
  */
 uint64_t tuv_extend(const uint8_t *text, size_t text_length, uint32_t c, uint32_t k, const uint8_t *recording,
                     size_t recording_length, uint8_t *assignment, size_t assignment_length);
@@ -152,7 +153,8 @@ uint64_t tuv_extend(const uint8_t *text, size_t text_length, uint32_t c, uint32_
  * Written: on TUV_ACCEPTED the k bytes of the recording that the channels' variables are; the formula holds on the whole of it.
  * Answers: TUV_ACCEPTED, a refusal 1 to 7, 12 to 14 or 18. What tuv_extend wrote is accepted where the formula holds, but for
  *          want of room (18); where it does not, it is refused for the last clause (TUV_CLAUSE at m - 1).
- * Stack:   TO BE MEASURED
+ * Stack:   47,000 bytes for any input: 176 for each level of brackets and signs (measured: 46,608 for 255 `(`; 12,816 for the
+ *          deepest text that is accepted).
  */
 uint64_t tuv_check(const uint8_t *text, size_t text_length, uint32_t c, uint32_t k, const uint8_t *assignment,
                    size_t assignment_length, uint8_t *recording, size_t recording_length);

@@ -159,15 +159,17 @@ module _ (C k : ℕ) (f : Tree Formula) where
         subst (λ (n : ℕ). Measured C k (kinds nodes) (numbers nodes) n F s) (length-map nodes rowOf)
         (subst (λ (T : NodeTable). Measured C k (T .kinds) (T .numbers) (T .count) F s) e w)
 
+    pub variables-known : s .variables ≡ variablesOf C k nodes
+    variables-known = known .variables ∙ sym variables-are
+
     literals-known : s .literals ≡ length places
     literals-known = known .literals ∙ sym literals-are
 
     five-known : fiveOf s ≡ sizesOf C k f
     unfolding sizesOf
     five-known =
-        let v = known .variables ∙ sym variables-are in
         let m = known .clauses ∙ sym clauses-are in
-        λ i. known .channels i ∷ known .steps i ∷ v i ∷ m i ∷ literals-known i ∷ []
+        λ i. known .channels i ∷ known .steps i ∷ variables-known i ∷ m i ∷ literals-known i ∷ []
 
     places-known : tablePlaces C k (T .kinds) (T .numbers) (T .sizes) F (T .count) ≡ places
     unfolding tableOf

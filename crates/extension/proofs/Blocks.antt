@@ -1,23 +1,23 @@
 -- A block's values, by its rule from the truths of the node's parts by their places, are those of the node:
 -- each rule is the meaning of its kind of node, and asks its parts' truth at their own points alone.
 use mathlib.Core.Path.{_≡_, refl, sym, ap, ap₂, _∙_}
-use mathlib.Core.Bool.{Bool, true, not, cond, _&&_, _||_}
+use mathlib.Core.Bool.{Bool, not, _&&_, _||_}
 use mathlib.Core.List.{List, [], _∷_, _++_, map}
-use Prim.Native.Nat.{ℕ, zero, suc, _+_, _-_, _*_, _%_, _≤_, _<_}
+use Prim.Native.Nat.{ℕ, zero, suc, _+_, _-_, _%_, _≤_, _<_}
 use native.Mathlib.Nat.{mod-eq-of-lt}
 use native.Mathlib.Omega.{arith}
 use lib.Dec.{leb}
-use lib.ListN.{length, getD}
+use lib.ListN.{length}
 use lib.Seq.{sets, ext-getD}
 use borrow.Rule.Slice.PartMut.{putMid}
-use Rattle.interval.specs.Listing.{rows, tab}
+use Rattle.interval.specs.Listing.{tab}
 use Rattle.interval.specs.Places.{countOf, placeOf, intervalsOf, triplesOf}
 use Rattle.interval.specs.Limits.{maxSteps, maxCount, IntervalOf, TripleOf}
 use Rattle.interval.specs.declared.Interval.{Interval}
 use Rattle.interval.specs.declared.Triple.{Triple}
 use Rattle.interval.proofs.Counts.{count-le}
 use Rattle.interval.proofs.Listing.{rows-same, length-tab, getD-tab}
-use Rattle.interval.proofs.Laws.{intervals-numbered, triples-numbered}
+use Rattle.interval.proofs.Laws.{intervals-numbered}
 use Rattle.grammar.specs.Limits.{maxChannels}
 use Rattle.grammar.specs.Trees.{and, or, chop, Tree, constant, letter, negation, pair, duration, throughout, Letters}
 use Rattle.grammar.specs.declared.Sort.{Sort}

@@ -6,7 +6,7 @@ use Prim.Native.Nat.{ℕ, _+_, _*_, _≤_}
 use native.Mathlib.Omega.{arith}
 use lib.Dec.{leb}
 use lib.ListN.{length, drop, length-append, length-drop}
-use lib.Seq.{sets, sets-eq}
+use lib.Seq.{sets}
 use borrow.Author.Tests.{leb-true}
 use Rattle.refusal.specs.Asked.{question, asked}
 use Rattle.refusal.specs.declared.Refusal.{Refusal}
@@ -15,7 +15,6 @@ use Rattle.refusal.specs.declared.Reply.the-variants.{Yes, No}
 use Rattle.refusal.proofs.Laws.{asked-append, replied-yes, replied-no}
 use Rattle.grammar.specs.Limits.{maxChannels}
 use Rattle.grammar.specs.Trees.{Tree, Letters}
-use Rattle.grammar.specs.Reader.{tree, read}
 use Rattle.grammar.specs.declared.Sort.the-variants.{Formula}
 use Rattle.grammar.proofs.Laws.{prints-as-text}
 use Rattle.formula.specs.Nodes.{Node, nodesOf, nodesIn}
@@ -35,7 +34,7 @@ use Rattle.clause_table.specs.Rows.{Measured}
 use Rattle.clause_table.specs.declared.Sizes.{Sizes}
 use Rattle.clause_table.specs.declared.Written.the-variants.{Done}
 use Rattle.clause_table.proofs.Measure.{stored-over}
-use Rattle.clause_table.proofs.Call.{known, variables-are}
+use Rattle.clause_table.proofs.Call.{variables-known}
 use Rattle.assignments.specs.Extension.{channelValues, nodeValues, extensionOf}
 use Rattle.assignments.specs.Calls.{askPlaces, Extended, notExtended, extended}
 use Rattle.assignments.proofs.Values.{channels-length, extension-length}
@@ -62,12 +61,9 @@ channels-back C k recording A {out} o l h =
 
 module _ (C k : ℕ) (f : Tree Formula) (L : Letters maxChannels f) {T : NodeTable} (e : T ≡ tableOf (map rowOf (nodesOf f 0))) {F : List ℕ} {s : Sizes} (w : Measured C k (T .kinds) (T .numbers) (T .count) F s)
     (recording A : List ℕ) where
-  variables-known : s .variables ≡ variablesOf C k (nodesOf f 0)
-  variables-known = known C k f e w .variables ∙ sym (variables-are C k f)
-
   question-known : question 18 0 (leb (s .variables) (length A)) ≡ askPlaces (variablesOf C k (nodesOf f 0)) (length A)
   unfolding askPlaces
-  question-known = ap (λ (n : ℕ). question 18 0 (leb n (length A))) variables-known
+  question-known = ap (λ (n : ℕ). question 18 0 (leb n (length A))) (variables-known C k f e w)
 
   abbrev done : Extended
   done = record { answer = Done; assignment = over (extensionOf C k recording (nodesOf f 0)) A }
@@ -99,7 +95,7 @@ module _ (C k : ℕ) (f : Tree Formula) (L : Letters maxChannels f) {T : NodeTab
       let next : 0 + length channels ≡ k * C = omega (arith, n) in
       let all : A″ ≡ sets A 0 (channels ++ nodes) =
       c C f (seated w) in-table ∙ ap (λ (B : List ℕ). sets B (k * C) nodes) first ∙ sym (sets-append A 0 channels nodes ∙ ap (λ (i : ℕ). sets (sets A 0 channels) i nodes) next) in
-      ap (λ (B : List ℕ). record { answer = Done; assignment = B }) (stored-over (channels ++ nodes) A all (omega (arith, many, enough, variables-known)))
+      ap (λ (B : List ℕ). record { answer = Done; assignment = B }) (stored-over (channels ++ nodes) A all (omega (arith, many, enough, variables-known C k f e w)))
       ∙ ap (λ (a : Reply). asked (a ∷ []) (notExtended A) done) (sym q ∙ question-known)
 
 -- ---- the whole call

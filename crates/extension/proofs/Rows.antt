@@ -21,8 +21,9 @@ use Rattle.formula.specs.Nodes.{Node, node, nodesOf}
 use Rattle.formula.proofs.Lists.{All, all-append}
 use Rattle.rows.specs.Table.{sortCode, headOf, rowOf, tableOf}
 use Rattle.nodes.proofs.Standing.{nodes-count, stands, Begins, node-at}
-use Rattle.meaning.specs.Meaning.{bit, truth}
-use Rattle.circuit.specs.Circuit.{pointsOf, widthOf, blocksOf, variablesOf, truthOf}
+use Rattle.meaning.specs.Meaning.{truth}
+use Rattle.word.proofs.Words.{high-bit}
+use Rattle.circuit.specs.Circuit.{pointsOf, widthOf, variablesOf, truthOf}
 use Rattle.circuit.proofs.Blocks.{truth-lt, blocks-append, blocks-parts}
 use Rattle.table.specs.Table.{highAt}
 use Rattle.blocks.specs.Blocks.{isChop, numberOf, ruleOf, rulesFor, ruleBy}
@@ -82,10 +83,6 @@ drop-all P zero l a = a
 drop-all P (suc n) [] a = tt
 drop-all P (suc n) (w ∷ l) a = drop-all P n l (a .1)
 
-bit-high : (b : Bool) → eqb (bit b) 1 ≡ b
-bit-high true = refl
-bit-high false = refl
-
 module _ (C k : ℕ) (recording : List ℕ) (f : Tree Formula) (L : Letters maxChannels f) (firsts : List ℕ)
     (h : (y : ℕ) → y < length (nodesOf f 0) → getD firsts y 0 ≡ start (nodesOf f 0) C k y) where
   abbrev nodes : List Node
@@ -135,7 +132,7 @@ module _ (C k : ℕ) (recording : List ℕ) (f : Tree Formula) (L : Letters maxC
       let i : truthOf k x + e < length (later n) =
       omega (arith, truth-lt k x e l, ap length v, values-length k recording (nodesOf x at ++ m), blocks-append k (nodesOf x at) m, blocks-parts k x at, blocks-parts k x 0) in
       t e l ∙ ap (highAt A) p ∙ a (truthOf k x + e) i ∙ ap (λ (l : List ℕ). highAt l (truthOf k x + e)) v
-      ∙ ap (λ (b : ℕ). eqb b 1) (truth-stands k recording x at m e l) ∙ bit-high (truth recording x (pointAt s k e))
+      ∙ ap (λ (b : ℕ). eqb b 1) (truth-stands k recording x at m e l) ∙ high-bit (truth recording x (pointAt s k e))
 
   two-are : (A : List ℕ) (f g : ℕ → Bool) {s : Sort} (o : Link s) (x y : Tree s) (n at : ℕ) (m : List Node) → drop n nodes ≡ nodesOf (pair o x y) at ++ m → Later A (n + 1)
       → TruthFrom A (block n .left) (pointsOf s k) f → TruthFrom A (block n .right) (pointsOf s k) g → PartsAre k recording f g (pair o x y)

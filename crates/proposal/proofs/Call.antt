@@ -14,7 +14,7 @@ use Rattle.refusal.specs.declared.Reply.{Reply}
 use Rattle.refusal.specs.declared.Reply.the-variants.{Yes, No}
 use Rattle.refusal.proofs.Laws.{asked-append, replied-yes, replied-no}
 use Rattle.grammar.specs.Trees.{Tree}
-use Rattle.grammar.specs.Reader.{Read, tree, read}
+use Rattle.grammar.specs.Reader.{Read}
 use Rattle.grammar.specs.declared.Sort.the-variants.{Formula}
 use Rattle.formula.specs.Nodes.{Node, nodesOf, nodesIn}
 use Rattle.formula.specs.Questions.{formulaQuestions, acceptOf}
@@ -35,7 +35,8 @@ use Rattle.assignments.specs.Calls.{askAssignment, askValues, askClauses, askPl
 use Rattle.assignments.specs.declared.Checked.the-variants.{Accepted}
 use Rattle.assignments.proofs.Recordings.{recording-length}
 use Rattle.proposal.specs.Rows.{clausesFor, TableFor, checkQuestions}
-use Rattle.proposal.proofs.Table.{variables-known, clauses-known}
+use Rattle.clause_table.proofs.Call.{variables-known}
+use Rattle.proposal.proofs.Table.{clauses-known}
 
 -- question 12, answered with yes
 pub length-yes : (A : List ℕ) (n : ℕ) → question 12 0 (eqb (length A) n) ≡ Yes → length A ≡ n

@@ -8,7 +8,7 @@ use Prim.Native.Nat.{ℕ, zero, suc, _+_, _≤_, _<_}
 use native.Mathlib.Nat.{eq-or-lt-of-le}
 use native.Mathlib.Numerals.{add-one}
 use native.Mathlib.Omega.{arith}
-use lib.ListN.{length, getD, length-map}
+use lib.ListN.{length, length-map}
 use Rattle.refusal.specs.declared.Refusal.{Refusal}
 use Rattle.refusal.specs.declared.Reply.{Reply}
 use Rattle.refusal.specs.declared.Reply.the-variants.{Yes, No}
@@ -36,10 +36,10 @@ use Rattle.node_clauses.specs.Nodes.{nodeBy}
 use Rattle.clause_table.specs.Rows.{rowDefinitions, Measured}
 use Rattle.clause_table.specs.declared.Sizes.{Sizes}
 use Rattle.clause_table.proofs.Places.{kinds, numbers, sizes, rows-defined, root-at}
-use Rattle.clause_table.proofs.Call.{known, variables-are, rows-weigh}
+use Rattle.clause_table.proofs.Call.{known, variables-known, rows-weigh}
 use Rattle.clause_table.proofs.Laws.{root-in-range}
 use Rattle.assignments.specs.Calls.{askClauses}
-use Rattle.unmet.specs.Mentioned.{Variable, InputsIn, Mentioned, AllMentioned}
+use Rattle.unmet.specs.Mentioned.{Variable, InputsIn, AllMentioned}
 use Rattle.unmet.proofs.Walk.{either, ask-append, first-no, then-asked, first-mentioned, then-mentioned}
 use Rattle.proposal.specs.Rows.{definedIn, rootIn, clausesFor}
 
@@ -162,13 +162,10 @@ module _ (C k : ℕ) (f : Tree Formula) where
     unfolding tableOf
     root-known = ap (λ (T : NodeTable). rootIn (T .kinds) (T .numbers) F k) e ∙ root-at C k f F (known C k f e w .first)
 
-    pub variables-known : s .variables ≡ variablesOf C k nodes
-    variables-known = known C k f e w .variables ∙ sym (variables-are C k f)
-
     pub table-mentioned : Letters C f → (A : List ℕ) → length A ≡ s .variables
         → AllMentioned (length A) (definedIn C k (T .kinds) (T .numbers) (T .sizes) F (T .count)) × Variable (length A) (rootIn (T .kinds) (T .numbers) F k)
     table-mentioned L A h =
-        let n = sym (h ∙ variables-known) in
+        let n = sym (h ∙ variables-known C k f e w) in
         (subst (λ (D : List Definition). AllMentioned (length A) D) (sym defined-known) (subst (λ (n : ℕ). AllMentioned n (definitionsOf C k nodes)) n (all-mentioned L)), omega (arith, n, root-known, root-in-range C k f))
 
     pub clauses-known : clausesFor C k (T .kinds) (T .numbers) (T .sizes) F (T .count) ≡ clauseTable C k f
