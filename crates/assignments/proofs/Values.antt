@@ -60,8 +60,8 @@ pointAt State k e = e
 pointAt Formula k e = getD (intervalsOf k) e (record { i = 0; j = 0 })
 
 pub truth-length : (s : Sort) (k : ℕ) (g : Point s → Bool) → length (truthValues s k g) ≡ pointsOf s k
-truth-length State k g = length-tab k (λ t. bit (g t))
-truth-length Formula k g = mapped-length (intervals-numbered k) (λ v. bit (g v))
+truth-length State k g = length-tab k _
+truth-length Formula k g = mapped-length (intervals-numbered k) _
 
 pub truth-at : (s : Sort) (k : ℕ) (g : Point s → Bool) (e : ℕ) → e < pointsOf s k → getD (truthValues s k g) e 0 ≡ bit (g (pointAt s k e))
 truth-at State k g e h = getD-tab k (λ t. bit (g t)) e 0 h
