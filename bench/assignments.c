@@ -13,7 +13,6 @@
 #include <string.h>
 
 enum { STEPS = 32, DRAWS = 1000, UNTOUCHED = 0xa5 };
-enum { UNMET = 14, YES = 65, WRITTEN = 66, ACCEPTED = 67 };
 static const double GOAL = 1.5;
 
 struct engine {
@@ -61,7 +60,7 @@ static void find_sizes(const struct line *line)
 static bool holds(const struct line *line)
 {
     const char *text = line->exercise.text;
-    return plain_evaluate((const uint8_t *)text, strlen(text), line->c, line->k, 0, line->k, recording, line->k) == YES;
+    return plain_evaluate((const uint8_t *)text, strlen(text), line->c, line->k, 0, line->k, recording, line->k) == TUV_YES;
 }
 
 /* Draws recordings until the formula holds of one, or any where it holds of none: all clauses but the last are met then, too. */
@@ -79,7 +78,7 @@ static void record(const struct line *line)
 /* All that either has written is compared, so also that nothing else was touched. */
 static void compare(const struct line *line)
 {
-    uint64_t wanted = holds(line) ? ACCEPTED : UNMET + ((uint64_t)(sizes[TUV_M] - 1) << 32);
+    uint64_t wanted = holds(line) ? TUV_ACCEPTED : TUV_CLAUSE + ((uint64_t)(sizes[TUV_M] - 1) << 32);
     memset(results, UNTOUCHED, sizeof results);
     for (uint32_t e = 0; e < 2; e++) {
         results[e].extended = extend(line, e);
@@ -87,7 +86,7 @@ static void compare(const struct line *line)
     }
     const struct result *engine = &results[ENGINE], *plain = &results[PLAIN];
     bool same = memcmp(engine, plain, sizeof *engine) == 0;
-    if (same && engine->extended == WRITTEN && engine->checked == wanted)
+    if (same && engine->extended == TUV_WRITTEN && engine->checked == wanted)
         return;
     fprintf(stderr, "bench: assignments of %s at k %u: the engine answers %llx and %llx, the plain one %llx and %llx; %s\n",
             line->exercise.name, line->k, (unsigned long long)engine->extended, (unsigned long long)engine->checked,

@@ -9,7 +9,7 @@
 #include <sys/wait.h>
 
 enum { STEPS = 32, MOST_TRIED = 12 /* channel variables, where every recording is tried */, CHANGES = 8 /* of one assignment */ };
-enum { UNMET = 14, ACCEPTED = 67, UNWRITTEN = 0xa5 };
+enum { UNWRITTEN = 0xa5 };
 
 enum claim { TABLED, EXTENDED, CHECKED, NAMED, SOLVED, AGREED, TAKEN, SATISFIED, EXTENDED_BACK, CLAIMS };
 
@@ -220,7 +220,7 @@ static uint64_t check(const uint8_t *assignment, uint8_t *recording)
 }
 
 /* The answer to an assignment whose first unmet clause is this one. */
-static uint64_t answer_for(uint32_t unmet) { return unmet == sizes[TUV_M] ? ACCEPTED : UNMET + ((uint64_t)unmet << 32); }
+static uint64_t answer_for(uint32_t unmet) { return unmet == sizes[TUV_M] ? TUV_ACCEPTED : TUV_CLAUSE + ((uint64_t)unmet << 32); }
 
 /* What needs no solver: a random recording, its extension, and this with one value changed. */
 static void try_extension(void)
@@ -247,7 +247,7 @@ static void try_model(const uint8_t *model)
 {
     static uint8_t assignment[TUV_MOST_VARIABLES];
     uint8_t recording[STEPS];
-    claim(TAKEN, check(model, recording) == ACCEPTED);
+    claim(TAKEN, check(model, recording) == TUV_ACCEPTED);
     claim(SATISFIED, satisfies(recording));
     claim(EXTENDED_BACK, extends(recording, assignment) && memcmp(assignment, model, sizes[TUV_V]) == 0);
 }
