@@ -7,7 +7,8 @@ use Prim.Native.Nat.{ℕ, zero, suc, _+_, _*_, _<_}
 use native.Mathlib.Nat.{zero-add}
 use native.Mathlib.Omega.{arith}
 use lib.ListN.{length, getD, length-append, length-map, List·getD-append}
-use Rattle.interval.specs.Listing.{rows, sum}
+use lib.Seq.{ext-getD}
+use Rattle.interval.specs.Listing.{rows, tab, sum}
 use Rattle.interval.specs.Places.{countOf, intervalsOf, triplesOf}
 use Rattle.interval.specs.Limits.{IntervalOf, TripleOf}
 use Rattle.interval.proofs.Listing.{sum-ones, sum-times, length-rows, getD-rows, length-tab, getD-tab}
@@ -66,6 +67,14 @@ truth-length Formula k g = mapped-length (intervals-numbered k) _
 pub truth-at : (s : Sort) (k : ℕ) (g : Point s → Bool) (e : ℕ) → e < pointsOf s k → getD (truthValues s k g) e 0 ≡ bit (g (pointAt s k e))
 truth-at State k g e h = getD-tab k (λ t. bit (g t)) e 0 h
 truth-at Formula k g e h = mapped-at (intervals-numbered k) (λ v. bit (g v)) e (record { i = 0; j = 0 }) h
+
+-- a truth at each point, listed by the points' places
+pub truth-tab : (s : Sort) (k : ℕ) (g : Point s → Bool) (x : ℕ → ℕ) → ((e : ℕ) → e < pointsOf s k → x e ≡ bit (g (pointAt s k e))) → tab (pointsOf s k) x ≡ truthValues s k g
+truth-tab s k g x h =
+    let n = length-tab (pointsOf s k) x in
+    ext-getD 0 _ _ (n ∙ sym (truth-length s k g)) (λ e l.
+    let m : e < pointsOf s k = omega (arith, n) in
+    getD-tab (pointsOf s k) x e 0 m ∙ h e m ∙ sym (truth-at s k g e m))
 
 -- each byte is below n, of an assignment 2: "one byte a variable, 0 or 1"
 abbrev pub EachBelow : ℕ → List ℕ → Type 0

@@ -8,15 +8,14 @@ use native.Mathlib.Nat.{mod-eq-of-lt}
 use native.Mathlib.Omega.{arith}
 use lib.Dec.{leb}
 use lib.ListN.{length}
-use lib.Seq.{sets, ext-getD}
+use lib.Seq.{sets}
 use borrow.Rule.Slice.PartMut.{putMid}
 use Rattle.interval.specs.Listing.{tab}
 use Rattle.interval.specs.Places.{countOf, placeOf, intervalsOf, triplesOf}
 use Rattle.interval.specs.Limits.{maxSteps, maxCount, IntervalOf, TripleOf}
 use Rattle.interval.specs.declared.Interval.{Interval}
 use Rattle.interval.specs.declared.Triple.{Triple}
-use Rattle.interval.proofs.Counts.{count-le}
-use Rattle.interval.proofs.Listing.{rows-same, length-tab, getD-tab}
+use Rattle.interval.proofs.Listing.{rows-same}
 use Rattle.interval.proofs.Laws.{intervals-numbered}
 use Rattle.grammar.specs.Limits.{maxChannels}
 use Rattle.grammar.specs.Trees.{and, or, chop, Tree, constant, letter, negation, pair, duration, throughout, Letters}
@@ -32,9 +31,10 @@ use Rattle.blocks.specs.declared.Block.{Block}
 use Rattle.blocks.specs.declared.Rule.{Rule}
 use Rattle.blocks.specs.declared.Rule.the-variants.{Fixed, Letter, Negation, And, Or, Chop, Duration, Throughout, Cut}
 use Rattle.assignments.specs.Extension.{truthValues, cuts, cutValues, blockValues}
-use Rattle.assignments.proofs.Values.{pointAt, truth-length, truth-at}
+use Rattle.assignments.proofs.Values.{pointAt, truth-tab}
 use Rattle.cuts.specs.Cuts.{onPlaces}
 use Rattle.values.specs.Values.{valuesBy, Fits}
+use Rattle.values.proofs.Tables.{few-intervals}
 use Rattle.table.specs.Table.{highAt}
 use Rattle.extension.specs.Rows.{firstPoints, secondPoints, Makes}
 use Rattle.extension.proofs.Sets.{part-stored}
@@ -51,13 +51,8 @@ some-agree f g i zero h = refl
 some-agree f g i (suc n) h = ap₂ (λ (x y : Bool). x || y) (some-agree f g i n (λ m l r. h m l (omega arith))) (h (i + n) (omega arith) (omega arith))
 
 module _ (k : ℕ) where
-  -- truths by place
   tab-truth : (s : Sort) (g : Point s → Bool) (f : ℕ → Bool) → ((e : ℕ) → e < pointsOf s k → f e ≡ g (pointAt s k e)) → tab (pointsOf s k) (λ e. bit (f e)) ≡ truthValues s k g
-  tab-truth s g f h =
-      ext-getD 0 _ _ (length-tab (pointsOf s k) (λ e. bit (f e)) ∙ sym (truth-length s k g))
-      (λ e l.
-      let m : e < pointsOf s k = omega (arith, length-tab (pointsOf s k) (λ e. bit (f e))) in
-      getD-tab (pointsOf s k) (λ e. bit (f e)) e 0 m ∙ ap bit (h e m) ∙ sym (truth-at s k g e m))
+  tab-truth s g f h = truth-tab s k g (λ e. bit (f e)) (λ e l. ap bit (h e l))
 
   truths-agree : (f g : Interval → Bool) → ((v : Interval) → IntervalOf k v → f v ≡ g v) → truthValues Formula k f ≡ truthValues Formula k g
   truths-agree f g h = map-agree (IntervalOf k) (λ v. bit (f v)) (λ v. bit (g v)) (intervalsOf k) (intervals-in k) (λ v o. ap bit (h v o))
@@ -118,17 +113,13 @@ block-values k recording f g (throughout x) L p = truths-agree k _ _ (fills-agre
 
 -- no block goes by more of a part's truth than a table holds
 module _ (k n : ℕ) (h : k ≤ maxSteps) where
-  few-intervals : countOf k ≤ maxCount
-  unfolding countOf
-  few-intervals = count-le maxSteps k h
-
   pub few-first : (r : Rule) → Fits k n r → firstPoints k n r ≤ maxCount
   few-first (Fixed v) f = omega arith
   few-first (Letter c) f = omega arith
   few-first Negation f = f
   few-first And f = f
   few-first Or f = f
-  few-first Chop f = few-intervals
+  few-first Chop f = few-intervals k h
   few-first (Duration m) f = omega arith
   few-first Throughout f = omega arith
   few-first Cut f = omega arith
@@ -139,7 +130,7 @@ module _ (k n : ℕ) (h : k ≤ maxSteps) where
   few-second Negation f = omega arith
   few-second And f = f
   few-second Or f = f
-  few-second Chop f = few-intervals
+  few-second Chop f = few-intervals k h
   few-second (Duration m) f = omega arith
   few-second Throughout f = omega arith
   few-second Cut f = omega arith

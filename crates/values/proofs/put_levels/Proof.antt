@@ -12,7 +12,8 @@ use Rattle.word.specs.Word.{WordOf}
 use Rattle.table.proofs.Measure.{measured-word}
 use Rattle.assignments.specs.Extension.{truthValues}
 use Rattle.cuts.proofs.Parts.{Parts, begun-even, room, part-length, turn, done}
-use Rattle.values.proofs.Tables.{truths-count, table-values}
+use Rattle.values.proofs.Tables.{table-values}
+use Rattle.assignments.proofs.Values.{truth-length}
 use Rattle.values.proofs.put_levels.Statement.{statement}
 use Rattle.values.proofs.put_levels.Tie as tie
 
@@ -34,7 +35,7 @@ add-c-end : tie.Need-add-c-end Inv-loop μ-loop
 add-c-end c = search needs
 
 loop-holds : tie.Need-loop-holds Inv-loop μ-loop
-loop-holds c = (omega arith, λ f W. begun-even (λ n. truths-count _ (lasts n f)) (c .before .before .pre .2))
+loop-holds c = (omega arith, λ f W. begun-even (λ n. truth-length Formula _ (lasts n f)) (c .before .before .pre .2))
 
 add-end : tie.Need-add-end Inv-loop μ-loop
 add-end c = omega (arith, room (sofar (c .before)) (omega arith), sofar (c .before) .long)

@@ -3,13 +3,12 @@
 use mathlib.Core.Path.{_≡_, refl, _∙_, subst}
 use native.Mathlib.Omega.{arith}
 use lib.ListN.{length}
-use Rattle.interval.proofs.Laws.{counts-at-32}
 use Rattle.meaning.specs.Meaning.{fills}
 use Rattle.table.specs.Table.{highAt}
 use Rattle.table.proofs.Measure.{measured-word}
 use Rattle.blocks.specs.declared.Rule.{Rule}
 use Rattle.values.specs.Values.{valuesBy, Fits}
-use Rattle.values.proofs.Tables.{table-values}
+use Rattle.values.proofs.Tables.{few-intervals, table-values}
 use Rattle.values.proofs.Rules.{values-by, same-values}
 use borrow.Author.Needs.{needs}
 use Rattle.values.proofs.put_values.Statement.{statement}
@@ -84,7 +83,7 @@ measured-table-requires : tie.Need-measured-table-requires
 measured-table-requires c κs = search needs
 
 put-table-requires-2 : tie.Need-put-table-requires-2
-put-table-requires-2 c κs = omega (arith, fits (c .before .before .before .before .before .before .before .before) (c .before .before .before .before .enum-told5 .given .1), counts-at-32 _ (c .before .before .before .before .before .before .before .before .pre .0))
+put-table-requires-2 c κs = omega (arith, fits (c .before .before .before .before .before .before .before .before) (c .before .before .before .before .enum-told5 .given .1), few-intervals _ (c .before .before .before .before .before .before .before .before .pre .0))
 
 enum-told-6 : tie.Need-enum-told-6
 enum-told-6 c = search needs
