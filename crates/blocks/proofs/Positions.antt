@@ -1,10 +1,10 @@
 -- A position inside a block is an interval or a triple of k steps, its place is at least its cell, and one level of a duration takes I
--- places; the next position inside has the next place, since no line between is empty.
+-- places; the next position inside has the next place, since no line between is empty. The triples of intervals stand as the intervals do.
 use mathlib.Core.Path.{_≡_, refl, sym, ap, subst}
 use mathlib.Core.Logic.{⊎-elim}
 use mathlib.Core.Bool.{Bool, true, false, cond, false≢true}
 use Prim.Native.Nat.{ℕ, zero, suc, _+_, _-_, _*_, _%_, _^_, _≤_, _<_}
-use native.Mathlib.Nat.{mul-le-mul, eq-or-lt-of-le}
+use native.Mathlib.Nat.{suc-mul, mul-le-mul, eq-or-lt-of-le}
 use native.Mathlib.Numerals.{add-one}
 use native.Mathlib.Omega.{arith}
 use lib.ListN.{getD, List·getD-eq-default}
@@ -12,10 +12,11 @@ use lib.Dec.{ltb}
 use borrow.Author.Tests.{lt-ltb, le-ltb, ltb-true, ltb-false}
 use Rattle.interval.specs.Listing.{sum}
 use Rattle.interval.specs.Shape.{Inside, count}
-use Rattle.interval.specs.Places.{countOf}
+use Rattle.interval.specs.Places.{countOf, triplePlaceOf}
 use Rattle.interval.specs.Limits.{maxSteps, maxCount}
 use Rattle.interval.proofs.Counts.{intervals-count}
-use Rattle.blocks.specs.Blocks.{rulesFor, ruleBy, formOf, rowsOf, linesOf, cellsOf, nextOf, numberOf, shapeOf, Placed, gateBy, gateOf}
+use Rattle.interval.proofs.Laws.{triples-numbered, counts-at-32}
+use Rattle.blocks.specs.Blocks.{rulesFor, ruleBy, formOf, rowsOf, linesOf, cellsOf, nextOf, numberOf, shapeOf, Placed, Before, bound, gateBy, gateOf}
 use Rattle.blocks.specs.declared.Block.{Block}
 use Rattle.blocks.specs.declared.Form.{Form}
 use Rattle.blocks.specs.declared.Form.the-variants.{Line, Intervals, Triples}
@@ -52,16 +53,16 @@ rule-number kind n h = go (kind % 16)
 -- ---- the tests of the code choose what the definition does
 
 module _ (points k : ℕ) (r : Rule) (p : Position) {f : Form} (e : f ≡ formOf r) where
-  pub next-cell : p .cell + 1 < cellsOf points k (p .line) f → record { row = p .row; line = p .line; cell = p .cell + 1 } ≡ nextOf points k r p
+  pub next-cell : p .cell + 1 < cellsOf points k (p .line) f → record { row = p .row; line = p .line; cell = p .cell + 1; before = p .before + (p .cell + 1) } ≡ nextOf points k r p
   unfolding nextOf
   next-cell h = simp (sym e, lt-ltb _ _ h)
 
   module _ (h : cellsOf points k (p .line) f ≤ p .cell + 1) where
-    pub next-line : p .line + 1 < linesOf k (p .row) f → record { row = p .row; line = p .line + 1; cell = 0 } ≡ nextOf points k r p
+    pub next-line : p .line + 1 < linesOf k (p .row) f → record { row = p .row; line = p .line + 1; cell = 0; before = p .before + (p .cell + 1) } ≡ nextOf points k r p
     unfolding nextOf
     next-line l = simp (sym e, le-ltb _ _ h, lt-ltb _ _ l)
 
-    pub next-row : linesOf k (p .row) f ≤ p .line + 1 → record { row = p .row + 1; line = 0; cell = 0 } ≡ nextOf points k r p
+    pub next-row : linesOf k (p .row) f ≤ p .line + 1 → record { row = p .row + 1; line = 0; cell = 0; before = 0 } ≡ nextOf points k r p
     unfolding nextOf
     next-row l = simp (sym e, le-ltb _ _ h, le-ltb _ _ l)
 
@@ -87,6 +88,15 @@ module _ {points k x a i d : ℕ} {r : Rule} (p : Placed points k r x a i d) whe
 
   pub triple-position : r ≡ Cut → (d ≤ i) × (a + i ≤ k)
   triple-position e = let q = by-rule e in omega (arith, q .inside .1)
+
+-- before the triples of a chop's interval stand those of the intervals before it
+pub chop-before : {points k x : ℕ} {r : Rule} (p : Position) → Placed points k r x (p .row) (p .line) (p .cell) → Before points k r p → r ≡ Chop → k ≤ maxSteps
+    → (p .before ≡ triplePlaceOf k (record { i = p .line; m = p .line; j = p .line + p .cell })) × (p .before ≤ 6545)
+unfolding triplePlaceOf
+chop-before {points} {k} p q b e h =
+    let n : p .line + p .cell - p .line ≡ p .cell = omega arith in
+    let t : p .before ≡ triplePlaceOf k (record { i = p .line; m = p .line; j = p .line + p .cell }) = omega (arith, subst (λ (r : Rule). Before points k r p) e b, ap (sum suc) n) in
+    (t, omega (arith, t, triples-numbered k .below (record { i = p .line; m = p .line; j = p .line + p .cell }) (omega (arith, chop-position q e)), counts-at-32 k h .1))
 
 -- a block's gate, its rule being known
 pub gate-by : (C k : ℕ) (b : Block) (x a i d : ℕ) {q : Rule} → b .rule ≡ q → gateBy C k (b .first) (b .left) (b .right) x a i d q ≡ gateOf C k b x a i d
@@ -183,7 +193,7 @@ module _ (points k : ℕ) (r : Rule) where
 
       go : (c : Bool) → ltb (p .cell + 1) (cellsOf points k (p .line) (formOf r)) ≡ c → (d : Bool) → ltb (p .line + 1) lines ≡ d
           → PlacedAt (x + 1)
-          (cond c (record { row = p .row; line = p .line; cell = p .cell + 1 }) (cond d (record { row = p .row; line = p .line + 1; cell = 0 }) (record { row = p .row + 1; line = 0; cell = 0 })))
+          (cond c (record { row = p .row; line = p .line; cell = p .cell + 1; before = p .before + (p .cell + 1) }) (cond d (record { row = p .row; line = p .line + 1; cell = 0; before = p .before + (p .cell + 1) }) (record { row = p .row + 1; line = 0; cell = 0; before = 0 })))
       go true e d f = record { inside = (q .inside .0, (q .inside .1 .0, ltb-true _ _ e)); at = omega (arith, q .at) }
       go false e true f =
           let l = ltb-true _ _ f in
@@ -211,3 +221,52 @@ position-small {points} {k} {x} {a} {i} {d} {r} p n h l = go r (p .inside) n
     go (Duration m) q n = omega (arith, q)
     go Throughout q n = omega (arith, q)
     go Cut q n = omega (arith, q)
+
+-- ---- the cells before, each counting its number and one more
+
+module _ (points k : ℕ) (r : Rule) where
+  pub first-before : Before points k r (record { row = 0; line = 0; cell = 0; before = 0 })
+  unfolding sum
+  first-before = refl
+
+  pub next-before : {x : ℕ} (p : Position) → PlacedAt points k r x p → Before points k r p → Before points k r (nextOf points k r p)
+  unfolding nextOf sum
+  next-before p q b = go (ltb (p .cell + 1) (cells (p .line))) refl (ltb (p .line + 1) (linesOf k (p .row) (formOf r))) refl
+    where
+      cells : ℕ → ℕ
+      cells i = cellsOf points k i (formOf r)
+
+      go : (c : Bool) → ltb (p .cell + 1) (cells (p .line)) ≡ c → (d : Bool) → ltb (p .line + 1) (linesOf k (p .row) (formOf r)) ≡ d
+          → Before points k r
+          (cond c (record { row = p .row; line = p .line; cell = p .cell + 1; before = p .before + (p .cell + 1) })
+          (cond d (record { row = p .row; line = p .line + 1; cell = 0; before = p .before + (p .cell + 1) }) (record { row = p .row + 1; line = 0; cell = 0; before = 0 })))
+      go true e d f = omega (arith, b, sum-next suc (p .cell))
+      go false e true f =
+          let n : cells (p .line) ≡ p .cell + 1 = omega (arith, q .inside .1 .1, ltb-false (p .cell + 1) (cells (p .line)) e) in
+          omega (arith, b, sum-next (λ i. sum suc (cells i)) (p .line), ap (sum suc) n, sum-next suc (p .cell))
+      go false e false f = omega arith
+
+sum-at-most : (w : ℕ → ℕ) (b n : ℕ) → ((i : ℕ) → i < n → w i ≤ b) → sum w n ≤ n * b
+unfolding sum
+sum-at-most w b zero h = omega arith
+sum-at-most w b (suc n) h = omega (arith, sum-at-most w b n (λ i l. h i (omega arith)), h n (omega arith), suc-mul n b)
+
+pub before-small : {points k x : ℕ} {r : Rule} (p : Position) → Placed points k r x (p .row) (p .line) (p .cell) → Before points k r p → k ≤ maxSteps → points ≤ maxCount → p .before < bound
+before-small {points} {k} {x} {r} p q b h l =
+    let f = few (formOf r) in
+    let c = f (p .line) (q .inside .1 .0) in
+    omega (
+      arith,
+      b,
+      c,
+      sum-at-most (λ i. sum suc (cellsOf points k i (formOf r))) (maxCount * maxCount) (p .line) (λ i m. line-few (f i (omega (arith, q .inside .1 .0)) .0)),
+      line-few {n = p .cell} (omega (arith, q .inside .1 .1)),
+    )
+  where
+    few : (f : Form) (i : ℕ) → i < linesOf k (p .row) f → (cellsOf points k i f ≤ maxCount) × (i ≤ maxSteps)
+    few Line i m = omega arith
+    few Intervals i m = omega arith
+    few Triples i m = omega arith
+
+    line-few : {n : ℕ} → n ≤ maxCount → sum suc n ≤ maxCount * maxCount
+    line-few {n} m = omega (arith, sum-at-most suc maxCount n (λ i o. omega arith))

@@ -93,9 +93,9 @@ shapeOf points k r = stack (rowsOf k r) (λ a. stack (linesOf k a (formOf r)) (�
 -- the position after one
 unfoldable pub nextOf : ℕ → ℕ → Rule → Position → Position
 nextOf points k r p =
-    cond (ltb (p .cell + 1) (cellsOf points k (p .line) (formOf r))) (record { row = p .row; line = p .line; cell = p .cell + 1 })
-    (cond (ltb (p .line + 1) (linesOf k (p .row) (formOf r))) (record { row = p .row; line = p .line + 1; cell = 0 })
-    (record { row = p .row + 1; line = 0; cell = 0 }))
+    cond (ltb (p .cell + 1) (cellsOf points k (p .line) (formOf r))) (record { row = p .row; line = p .line; cell = p .cell + 1; before = p .before + (p .cell + 1) })
+    (cond (ltb (p .line + 1) (linesOf k (p .row) (formOf r))) (record { row = p .row; line = p .line + 1; cell = 0; before = p .before + (p .cell + 1) })
+    (record { row = p .row + 1; line = 0; cell = 0; before = 0 }))
 
 -- `[S]` and a duration in place x of their block from b on, S from s on: p stands in the place before, q one level below p
 abbrev pub throughoutBy : ℕ → ℕ → ℕ → ℕ → ℕ → Gate
@@ -143,6 +143,14 @@ bound = 2 ^ 31
 pub record Placed (points k : ℕ) (r : Rule) (x a i d : ℕ) : Type 0 where
   pub inside : Inside (shapeOf points k r) (a, (i, d))
   pub at : x ≡ place (shapeOf points k r) (a, (i, d))
+
+-- the cells of row a, each as many entries as its number and one more: where the row is one of intervals, its triples
+abbrev pub cutsOf : ℕ → ℕ → Rule → ℕ → Shape
+cutsOf points k r a = stack (linesOf k a (formOf r)) (λ i. stack (cellsOf points k i (formOf r)) (λ d. line (suc d)))
+
+-- so many stand before those of position p
+abbrev pub Before : ℕ → ℕ → Rule → Position → Type 0
+Before points k r p = p .before ≡ place (cutsOf points k r (p .row)) (p .line, (p .cell, 0))
 
 -- a letter's channel, a duration's n
 abbrev pub numberOf : Rule → ℕ

@@ -1,12 +1,11 @@
 // The blocks of a formula's variables as the code walks them: the gate at a position, the next position, and what gates weigh.
 use circuit::Gate;
 use interval::Interval;
-use interval::Triple;
 ghost use mathlib.Core.Path.{_≡_};
 ghost use Prim.Native.Nat.{_+_, _-_, _^_, _≤_, _<_};
 ghost use Rattle.interval.specs.Places.{countOf, placeOf};
 ghost use Rattle.interval.specs.Limits.{maxSteps};
-ghost use Rattle.blocks.specs.Blocks.{ruleBy, isChop, formOf, linesOf, cellsOf, nextOf, bound, Placed, Bounded, chopBy, levelBy, throughoutBy, tripleBy, gateOf};
+ghost use Rattle.blocks.specs.Blocks.{ruleBy, isChop, formOf, linesOf, cellsOf, nextOf, bound, Placed, Before, Bounded, levelBy, throughoutBy, tripleBy, gateOf};
 
 // What the gates of a block go by. A chop has two blocks: its intervals, and its triples, which cut an interval in two.
 pub enum Rule {
@@ -39,10 +38,12 @@ pub struct Block {
 }
 
 // Where a gate stands in its block: a duration's level, i and j - i of an interval; i, j - i and m - i of a triple; a place of a line.
+// The cells of its row before it count 1, 2, .. from each line's first on: as the intervals before an interval have triples.
 pub struct Position {
     pub row: u32,
     pub line: u32,
     pub cell: u32,
+    pub before: u32,
 }
 
 // The rule of a node, by its kind and number in the node table.
@@ -129,18 +130,20 @@ fn cells(form: Form, points: u32, k: u32, line: u32) -> u32
 
 // The position after this one: the next cell, or the next line's first, or the next row's first.
 pub fn next(rule: Rule, points: u32, k: u32, p: Position) -> Position
-    requires { ⌜ (k ≤ maxSteps) × (p .row < bound) × (p .line < bound) × (p .cell < bound) ⌝ }
+    requires { ⌜ (k ≤ maxSteps) × (p .row < bound) × (p .line < bound) × (p .cell < bound) × (p .before < bound) ⌝ }
     ensures { λ r. ⌜ r ≡ nextOf points k rule p ⌝ }
 {
     let form = form_of(rule);
     let row = p.row;
     let line = p.line;
-    let cell = p.cell;
-    if cell + 1 < cells(form, points, k, line) {
+    let cell = p.cell + 1;
+    let before = p.before + cell;
+    if cell < cells(form, points, k, line) {
         return Position {
             row,
             line,
-            cell: cell + 1,
+            cell,
+            before,
         };
     }
     if line + 1 < lines(form, k, row) {
@@ -148,44 +151,29 @@ pub fn next(rule: Rule, points: u32, k: u32, p: Position) -> Position
             row,
             line: line + 1,
             cell: 0,
+            before,
         };
     }
     Position {
         row: row + 1,
         line: 0,
         cell: 0,
+        before: 0,
     }
 }
 
-// The place of [i, j].
-fn place(i: u32, j: u32, k: u32) -> u32
-    requires { ⌜ (i ≤ j) × (j ≤ k) × (k ≤ maxSteps) ⌝ }
-    ensures { λ r. ⌜ (r ≡ placeOf k (record { i = i; j = j })) × (r < bound) ⌝ }
+// The place of the interval of so many steps from i on among the intervals of k steps, I in all: those that start before i are all but
+// those of k - i steps.
+fn place(i: u32, steps: u32, k: u32, all: u32) -> u32
+    requires { ⌜ (i + steps ≤ k) × (k ≤ maxSteps) × (all ≡ countOf k) ⌝ }
+    ensures { λ r. ⌜ (r ≡ placeOf k (record { i = i; j = i + steps })) × (r < bound) ⌝ }
 {
-    let v = Interval {
-        i: i as usize,
-        j: j as usize,
-    };
-    v.place(k as usize) as u32
-}
-
-// Any of the triples of the interval of d steps from i on, the triples' variables from w on.
-fn chop_gate(k: u32, w: u32, i: u32, d: u32) -> Gate
-    requires { ⌜ (w < bound) × (i + d ≤ k) × (k ≤ maxSteps) ⌝ }
-    ensures { λ r. ⌜ r ≡ chopBy k w i d ⌝ }
-{
-    let start = i as usize;
-    let t = Triple {
-        i: start,
-        m: start,
-        j: start + d as usize,
-    };
-    Gate::AnyOf(w + t.place(k as usize) as u32, d + 1)
+    all - Interval::count((k - i) as usize) as u32 + steps
 }
 
 // Level a of a duration on the interval of d steps from i on, in place x of its block from b on, the state assertion from s on.
-fn level_gate(k: u32, b: u32, s: u32, x: u32, a: u32, i: u32, d: u32) -> Gate
-    requires { ⌜ (k ≤ maxSteps) × (b < bound) × (s < bound) × (x < 2 ^ 24) × (i + d ≤ k) × ((1 ≤ a) → (1 ≤ d) → 1 + countOf k ≤ x) ⌝ }
+fn level_gate(k: u32, all: u32, b: u32, s: u32, x: u32, a: u32, i: u32, d: u32) -> Gate
+    requires { ⌜ (k ≤ maxSteps) × (all ≡ countOf k) × (b < bound) × (s < bound) × (x < 2 ^ 24) × (i + d ≤ k) × ((1 ≤ a) → (1 ≤ d) → 1 + countOf k ≤ x) ⌝ }
     ensures { λ r. ⌜ r ≡ levelBy k b s x a i d ⌝ }
 {
     if a == 0 {
@@ -195,7 +183,7 @@ fn level_gate(k: u32, b: u32, s: u32, x: u32, a: u32, i: u32, d: u32) -> Gate
         return Gate::Constant(false);
     }
     let p = x - 1;
-    let q = p - Interval::count(k as usize) as u32;
+    let q = p - all;
     Gate::Step(b + p, b + q, s + (i + (d - 1)))
 }
 
@@ -211,18 +199,17 @@ fn throughout_gate(b: u32, s: u32, x: u32, i: u32, d: u32) -> Gate
 }
 
 // The triple that starts at a, of i steps, chopped after d.
-fn triple_gate(k: u32, l: u32, r: u32, a: u32, i: u32, d: u32) -> Gate
-    requires { ⌜ (k ≤ maxSteps) × (l < bound) × (r < bound) × (d ≤ i) × (a + i ≤ k) ⌝ }
+fn triple_gate(k: u32, all: u32, l: u32, r: u32, a: u32, i: u32, d: u32) -> Gate
+    requires { ⌜ (k ≤ maxSteps) × (all ≡ countOf k) × (l < bound) × (r < bound) × (d ≤ i) × (a + i ≤ k) ⌝ }
     ensures { λ z. ⌜ z ≡ tripleBy k l r a i d ⌝ }
 {
-    let m = a + d;
-    Gate::Both(l + place(a, m, k), r + place(m, a + i, k))
+    Gate::Both(l + place(a, d, k, all), r + place(a + d, i - d, k, all))
 }
 
-// The gate in place x of a block, at position p.
-pub fn gate_at(c: u32, k: u32, block: Block, x: u32, p: Position) -> Gate
-    requires { ⌜ Bounded c k block × (x < 2 ^ 24) ⌝ }
-    requires { ⌜ Placed (block .points) k (block .rule) x (p .row) (p .line) (p .cell) ⌝ }
+// The gate in place x of a block, at position p; k steps have I intervals in all.
+pub fn gate_at(c: u32, k: u32, all: u32, block: Block, x: u32, p: Position) -> Gate
+    requires { ⌜ Bounded c k block × (x < 2 ^ 24) × (all ≡ countOf k) ⌝ }
+    requires { ⌜ Placed (block .points) k (block .rule) x (p .row) (p .line) (p .cell) × Before (block .points) k (block .rule) p ⌝ }
     ensures { λ r. ⌜ r ≡ gateOf c k block x (p .row) (p .line) (p .cell) ⌝ }
 {
     let rule = block.rule;
@@ -235,9 +222,9 @@ pub fn gate_at(c: u32, k: u32, block: Block, x: u32, p: Position) -> Gate
         Rule::Negation => Gate::Inverse(left + x),
         Rule::And => Gate::Both(left + x, right + x),
         Rule::Or => Gate::Either(left + x, right + x),
-        Rule::Chop => chop_gate(k, left, p.line, p.cell),
-        Rule::Duration(_) => level_gate(k, first, left, x, p.row, p.line, p.cell),
+        Rule::Chop => Gate::AnyOf(left + p.before, p.cell + 1),
+        Rule::Duration(_) => level_gate(k, all, first, left, x, p.row, p.line, p.cell),
         Rule::Throughout => throughout_gate(first, left, x, p.line, p.cell),
-        Rule::Cut => triple_gate(k, left, right, p.row, p.line, p.cell),
+        Rule::Cut => triple_gate(k, all, left, right, p.row, p.line, p.cell),
     }
 }

@@ -18,12 +18,12 @@ use Rattle.interval.proofs.Laws.{triples-numbered}
 use Rattle.circuit.specs.Circuit.{Definition, define}
 use Rattle.circuit.specs.declared.Gate.{Gate}
 use Rattle.circuit.specs.declared.Gate.the-variants.{Constant}
-use Rattle.blocks.specs.Blocks.{shapeOf, gateBy, gateOf, definedBy, Placed, Bounded, bound, nextOf}
+use Rattle.blocks.specs.Blocks.{shapeOf, gateBy, gateOf, definedBy, Placed, Before, Bounded, bound, nextOf}
 use Rattle.blocks.specs.declared.Block.{Block}
 use Rattle.blocks.specs.declared.Position.{Position}
 use Rattle.blocks.specs.declared.Rule.{Rule}
 use Rattle.blocks.specs.declared.Rule.the-variants.{Fixed, Letter, Negation, And, Or, Chop, Duration, Throughout, Cut}
-use Rattle.blocks.proofs.Positions.{first-placed, next-placed, chop-position, position-small}
+use Rattle.blocks.proofs.Positions.{first-placed, next-placed, first-before, next-before, chop-position, position-small, before-small}
 use Rattle.weights.specs.Weights.{variableWeight, weightBy, maxWeight, Light}
 use Rattle.weights.specs.declared.Weight.{Weight}
 use Rattle.weights.proofs.Weights.{block-length, shape-weight}
@@ -54,10 +54,15 @@ module _ (C k : ℕ) (block : Block) where
   abbrev D : List Definition
   D = definedBy C k block
 
-  pub begins : {n : ℕ} {one : Weight} → one ≡ variableWeight → n ≡ weightBy one k (block .points) (block .rule) → n ≤ maxWeight → Walks C k block n (record { row = 0; line = 0; cell = 0 }) 0
+  pub begins : {n : ℕ} {one : Weight} → one ≡ variableWeight → n ≡ weightBy one k (block .points) (block .rule) → n ≤ maxWeight → Walks C k block n (record { row = 0; line = 0; cell = 0; before = 0 }) 0
   begins o e l =
       let c = e ∙ ap (λ (w : Weight). weightBy w k (block .points) (block .rule)) o ∙ shape-weight k (block .points) (block .rule) in
-      record { whole = c ∙ sym (block-length C k block); few = l; here = λ h. first-placed (block .points) k (block .rule) (omega (arith, c)) }
+      record {
+        whole = c ∙ sym (block-length C k block);
+        few = l;
+        here = λ h. first-placed (block .points) k (block .rule) (omega (arith, c));
+        before = first-before (block .points) k (block .rule);
+      }
 
   module _ {n x : ℕ} {p : Position} (w : Walks C k block n p x) (h : x < n) where
     pub goes-on : {q : Position} → q ≡ nextOf (block .points) k (block .rule) p → Walks C k block n q (x + 1)
@@ -66,6 +71,7 @@ module _ (C k : ℕ) (block : Block) where
       few = w .few;
       here = λ l. subst (λ (q : Position). Placed (block .points) k (block .rule) (x + 1) (q .row) (q .line) (q .cell)) (sym e)
           (next-placed (block .points) k (block .rule) x p (w .here h) (omega (arith, w .whole, block-length C k block)));
+      before = subst (Before (block .points) k (block .rule)) (sym e) (next-before (block .points) k (block .rule) p (w .here h) (w .before));
     }
 
     pub definition-here : {gate : Gate} → gate ≡ gateOf C k block x (p .row) (p .line) (p .cell) → definitionIn D x ≡ define (block .first + x) gate
@@ -79,7 +85,7 @@ module _ (C k : ℕ) (block : Block) where
 
   -- the writing loop's laws
   module _ {v m : List ℕ} {at n : ℕ} where
-    pub walk-begun : Walks C k block n (record { row = 0; line = 0; cell = 0 }) 0 → Walked C k block v m at n v m (record { row = 0; line = 0; cell = 0 }) at 0
+    pub walk-begun : Walks C k block n (record { row = 0; line = 0; cell = 0; before = 0 }) 0 → Walked C k block v m at n v m (record { row = 0; line = 0; cell = 0; before = 0 }) at 0
     walk-begun w = record { walks = w; sofar = begun }
 
     module _ {v′ m′ : List ℕ} {p : Position} {b x : ℕ} (w : Walked C k block v m at n v′ m′ p b x) where
@@ -141,5 +147,5 @@ module _ {C k : ℕ} {block : Block} (s : Bounded C k block × (block .points �
     pub within-here : {gate : Gate} → gate ≡ gateOf C k block x (p .row) (p .line) (p .cell) → Within gate
     within-here g = subst Within (sym g) (gate-within C k block (s .0) x (p .row) (p .line) (p .cell) (w .here h))
 
-    pub small-here : (k ≤ maxSteps) × (p .row < bound) × (p .line < bound) × (p .cell < bound)
-    small-here = omega (arith, s .0 .steps, position-small (w .here h) (s .0 .number) (s .0 .steps) (s .1))
+    pub small-here : (k ≤ maxSteps) × (p .row < bound) × (p .line < bound) × (p .cell < bound) × (p .before < bound)
+    small-here = omega (arith, s .0 .steps, position-small (w .here h) (s .0 .number) (s .0 .steps) (s .1), before-small p (w .here h) (w .before) (s .0 .steps) (s .1))

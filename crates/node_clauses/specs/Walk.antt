@@ -6,7 +6,7 @@ use Prim.Native.Nat.{ℕ, _≤_, _<_}
 use lib.ListN.{length, getD}
 use Rattle.circuit.specs.Circuit.{Definition, define}
 use Rattle.circuit.specs.declared.Gate.the-variants.{Constant}
-use Rattle.blocks.specs.Blocks.{definedBy, Placed}
+use Rattle.blocks.specs.Blocks.{definedBy, Placed, Before}
 use Rattle.blocks.specs.declared.Block.{Block}
 use Rattle.blocks.specs.declared.Position.{Position}
 use Rattle.weights.specs.Weights.{maxWeight}
@@ -27,6 +27,7 @@ pub record Walks (C k : ℕ) (block : Block) (n : ℕ) (p : Position) (x : ℕ) 
   pub whole : n ≡ length (definedBy C k block)
   pub few : n ≤ maxWeight
   pub here : x < n → Placed (block .points) k (block .rule) x (p .row) (p .line) (p .cell)
+  pub before : Before (block .points) k (block .rule) p
 
 pub record Walked (C k : ℕ) (block : Block) (v m : List ℕ) (at n : ℕ) (v′ m′ : List ℕ) (p : Position) (at′ x : ℕ) : Type 0 where
   pub walks : Walks C k block n p x

@@ -30,15 +30,17 @@ fn walk_block(
     let rule = block.rule;
     let points = block.points;
     let first = block.first;
+    let all = Interval::count(k as usize) as u32;
     let count = weights::weigh(weights::variables(), k, points, rule);
     let mut p = Position {
         row: 0,
         line: 0,
         cell: 0,
+        before: 0,
     };
     let mut b = at;
     for x in 0..count {
-        let gate = blocks::gate_at(c, k, block, x, p);
+        let gate = blocks::gate_at(c, k, all, block, x, p);
         b = gates::put_gate(variables, marks, b, first + x, gate);
         p = blocks::next(rule, points, k, p);
     }

@@ -3,6 +3,7 @@ use blocks::Block;
 use blocks::Position;
 use blocks::Rule;
 use circuit::Gate;
+use interval::Interval;
 use refusal::Refusal;
 use refusal::Reply;
 ghost use mathlib.Core.Path.{_≡_};
@@ -132,15 +133,17 @@ fn ask_block(assignment: &[u8], c: u32, k: u32, block: Block, n: u32) -> Reply
     let rule = block.rule;
     let points = block.points;
     let first = block.first;
+    let all = Interval::count(k as usize) as u32;
     let count = weights::weigh(weights::variables(), k, points, rule);
     let mut p = Position {
         row: 0,
         line: 0,
         cell: 0,
+        before: 0,
     };
     let mut m = n;
     for x in 0..count {
-        let gate = blocks::gate_at(c, k, block, x, p);
+        let gate = blocks::gate_at(c, k, all, block, x, p);
         if let Reply::No(r) = ask_gate(assignment, first + x, gate, m) {
             return Reply::No(r);
         }

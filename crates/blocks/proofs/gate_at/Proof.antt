@@ -1,8 +1,9 @@
 -- Each rule's gate is its definition's; a position inside the block is an interval or a triple of k steps,
 -- so the gates of intervals and triples may be asked for (Positions.antt).
-use Rattle.blocks.proofs.Positions.{chop-position, throughout-position, level-position, triple-position, gate-by, channel-fits}
+use Rattle.blocks.proofs.Positions.{chop-position, chop-before, throughout-position, level-position, triple-position, gate-by, channel-fits}
 use native.Mathlib.Omega.{arith}
-use mathlib.Core.Path.{_∙_}
+use mathlib.Core.Path.{ap₂, _∙_}
+use Rattle.circuit.specs.declared.Gate.the-variants.{AnyOf}
 use borrow.Author.Needs.{needs}
 use Rattle.blocks.proofs.gate_at.Statement.{statement}
 use Rattle.blocks.proofs.gate_at.Tie as tie
@@ -13,64 +14,67 @@ enum-known-rule c = search needs
 enum-known-rule-2 : tie.Need-enum-known-rule-2
 enum-known-rule-2 c = search needs
 
-mul-t13 : tie.Need-mul-t13
-mul-t13 c = let s = c .before .before .before in omega (arith, channel-fits (s .args .x) (s .args .c) (c .before .rule2 .given .1) (s .pre .0 .0 .number) (s .pre .0 .1) (s .pre .0 .0 .channels))
-
-add-t14 : tie.Need-add-t14
-add-t14 c = let s = c .before .before .before in omega (arith, channel-fits (s .args .x) (s .args .c) (c .before .rule2 .given .1) (s .pre .0 .0 .number) (s .pre .0 .1) (s .pre .0 .0 .channels))
+mul-t14 : tie.Need-mul-t14
+mul-t14 c = let s = c .before .before .before in omega (arith, channel-fits (s .args .x) (s .args .c) (c .before .rule2 .given .1) (s .pre .0 .0 .number) (s .pre .0 .1) (s .pre .0 .0 .channels))
 
 add-t15 : tie.Need-add-t15
 add-t15 c = let s = c .before .before .before in omega (arith, channel-fits (s .args .x) (s .args .c) (c .before .rule2 .given .1) (s .pre .0 .0 .number) (s .pre .0 .1) (s .pre .0 .0 .channels))
 
+add-t16 : tie.Need-add-t16
+add-t16 c = let s = c .before .before .before in omega (arith, channel-fits (s .args .x) (s .args .c) (c .before .rule2 .given .1) (s .pre .0 .0 .number) (s .pre .0 .1) (s .pre .0 .0 .channels))
+
 enum-told : tie.Need-enum-told
 enum-told c = search needs
-
-add-t16 : tie.Need-add-t16
-add-t16 c = search needs
-
-enum-told-2 : tie.Need-enum-told-2
-enum-told-2 c = search needs
 
 add-t17 : tie.Need-add-t17
 add-t17 c = search needs
 
+enum-told-2 : tie.Need-enum-told-2
+enum-told-2 c = search needs
+
 add-t18 : tie.Need-add-t18
 add-t18 c = search needs
-
-enum-told-3 : tie.Need-enum-told-3
-enum-told-3 c = search needs
 
 add-t19 : tie.Need-add-t19
 add-t19 c = search needs
 
+enum-told-3 : tie.Need-enum-told-3
+enum-told-3 c = search needs
+
 add-t20 : tie.Need-add-t20
 add-t20 c = search needs
+
+add-t21 : tie.Need-add-t21
+add-t21 c = search needs
 
 enum-told-4 : tie.Need-enum-told-4
 enum-told-4 c = search needs
 
-chop-gate-requires : tie.Need-chop-gate-requires
-chop-gate-requires c κs = omega (arith, chop-position (c .before .before .pre .1) (c .enum-told4 .given .1))
+add-t22 : tie.Need-add-t22
+add-t22 c = let s = c .before .before .before in omega (arith, chop-before (s .args .p) (s .pre .1 .0) (s .pre .1 .1) (c .before .enum-told4 .given .1) (s .pre .0 .0 .steps), s .pre .0 .0 .left)
+
+add-t23 : tie.Need-add-t23
+add-t23 c = let s = c .before .before .before .before in omega (arith, chop-position (s .pre .1 .0) (c .before .before .enum-told4 .given .1), s .pre .0 .0 .steps)
 
 enum-told-5 : tie.Need-enum-told-5
 enum-told-5 c = search needs
 
 level-gate-requires : tie.Need-level-gate-requires
 level-gate-requires c κs = let s = c .before .before in
-    let p = level-position (s .pre .1) (c .enum-told5 .given .1) in
-    (s .pre .0 .0 .steps, s .pre .0 .0 .first, s .pre .0 .0 .left, omega arith, p .0, p .1)
+    let p = level-position (s .pre .1 .0) (c .enum-told5 .given .1) in
+    (s .pre .0 .0 .steps, s .pre .0 .2, s .pre .0 .0 .first, s .pre .0 .0 .left, omega arith, p .0, p .1)
 
 enum-told-6 : tie.Need-enum-told-6
 enum-told-6 c = search needs
 
 throughout-gate-requires : tie.Need-throughout-gate-requires
-throughout-gate-requires c κs = omega (arith, throughout-position (c .before .before .pre .1) (c .enum-told6 .given .1))
+throughout-gate-requires c κs = omega (arith, throughout-position (c .before .before .pre .1 .0) (c .enum-told6 .given .1))
 
 enum-told-7 : tie.Need-enum-told-7
 enum-told-7 c = search needs
 
 triple-gate-requires : tie.Need-triple-gate-requires
-triple-gate-requires c κs = omega (arith, triple-position (c .before .before .pre .1) (c .enum-told7 .given .1))
+triple-gate-requires c κs = omega (arith, triple-position (c .before .before .pre .1 .0) (c .enum-told7 .given .1))
 
 returns : tie.Need-returns
 returns c = gate-by _ _ _ _ _ _ _ (c .before .rule .given .1)
@@ -88,7 +92,9 @@ returns-5 : tie.Need-returns-5
 returns-5 c = gate-by _ _ _ _ _ _ _ (c .enum-told3 .given .1)
 
 returns-6 : tie.Need-returns-6
-returns-6 c = c .chop-gate .ensures ∙ gate-by _ _ _ _ _ _ _ (c .before .enum-told4 .given .1)
+returns-6 c = let s = c .before .before .before .before in
+    let e = c .before .before .enum-told4 .given .1 in
+    ap₂ AnyOf (omega (arith, chop-before (s .args .p) (s .pre .1 .0) (s .pre .1 .1) e (s .pre .0 .0 .steps))) (omega arith) ∙ gate-by _ _ _ _ _ _ _ e
 
 returns-7 : tie.Need-returns-7
 returns-7 c = c .level-gate .ensures ∙ gate-by _ _ _ _ _ _ _ (c .before .enum-told5 .given .1)
@@ -105,19 +111,20 @@ gate-at-spec =
     (tie.spec
     enum-known-rule
     enum-known-rule-2
-    mul-t13
-    add-t14
+    mul-t14
     add-t15
-    enum-told
     add-t16
-    enum-told-2
+    enum-told
     add-t17
+    enum-told-2
     add-t18
-    enum-told-3
     add-t19
+    enum-told-3
     add-t20
+    add-t21
     enum-told-4
-    chop-gate-requires
+    add-t22
+    add-t23
     enum-told-5
     level-gate-requires
     enum-told-6

@@ -9,33 +9,39 @@ use Rattle.node_clauses.proofs.walk_block.Statement.{statement}
 use Rattle.node_clauses.proofs.walk_block.Tie as tie
 
 abbrev Inv-loop : tie.InvT-loop
-Inv-loop variables₀ marks₀ at c k block rule points first count p₀ b₀ x₀ variables marks p b x = Walked c k block variables₀ marks₀ at count variables marks p b x
+Inv-loop variables₀ marks₀ at c k block rule points first all count p₀ b₀ x₀ variables marks p b x = Walked c k block variables₀ marks₀ at count variables marks p b x
 
 abbrev μ-loop : tie.MeasureT-loop
-μ-loop variables₀ marks₀ at c k block rule points first count p₀ b₀ x₀ variables marks p b x = count - x
+μ-loop variables₀ marks₀ at c k block rule points first all count p₀ b₀ x₀ variables marks p b x = count - x
+
+count-requires : tie.Need-count-requires Inv-loop μ-loop
+count-requires c κs = search needs
+
+cast-all : tie.Need-cast-all Inv-loop μ-loop
+cast-all c = search needs
 
 variables-requires : tie.Need-variables-requires Inv-loop μ-loop
 variables-requires c κs = search needs
 
 weigh-requires : tie.Need-weigh-requires Inv-loop μ-loop
-weigh-requires c κs = light (c .before .before .before .pre .1) (c .variables .ensures) (omega arith) (omega arith) (omega arith)
+weigh-requires c κs = light (c .before .before .before .before .pre .1) (c .variables .ensures) (omega arith) (omega arith) (omega arith)
 
 loop-holds : tie.Need-loop-holds Inv-loop μ-loop
 loop-holds c = walk-begun _ _ _ (begins _ _ _ (c .before .variables .ensures) (c .weigh .ensures .0) (c .weigh .ensures .1))
 
 gate-at-requires : tie.Need-gate-at-requires Inv-loop μ-loop
-gate-at-requires c κs = let w = c .before .loop .inv .walks in ((c .before .before .before .before .before .before .pre .1 .0, omega (arith, w .few, c .loop-test .taken)), w .here (search needs))
+gate-at-requires c κs = let w = c .before .loop .inv .walks in ((c .before .before .before .before .before .before .before .pre .1 .0, omega (arith, w .few, c .loop-test .taken), c .before .before .before .before .count .ensures .0), (w .here (search needs), w .before))
 
 add-put-gate : tie.Need-add-put-gate Inv-loop μ-loop
-add-put-gate c = let w = c .before .before .before .before .loop .inv .walks in omega (arith, w .few, c .before .before .before .loop-test .taken, c .before .before .before .before .before .before .before .before .before .pre .1 .0 .first)
+add-put-gate c = let w = c .before .before .before .before .loop .inv .walks in omega (arith, w .few, c .before .before .before .loop-test .taken, c .before .before .before .before .before .before .before .before .before .before .pre .1 .0 .first)
 
 put-gate-requires : tie.Need-put-gate-requires Inv-loop μ-loop
 put-gate-requires c κs = let w = c .before .before .before .before .loop .inv in
     let g = c .before .before .gate-at .ensures in
-    (walk-room _ _ _ w (search needs) g (c .before .before .before .before .before .before .before .before .before .pre .0), within-here (c .before .before .before .before .before .before .before .before .before .pre .1) (w .walks) (search needs) g)
+    (walk-room _ _ _ w (search needs) g (c .before .before .before .before .before .before .before .before .before .before .pre .0), within-here (c .before .before .before .before .before .before .before .before .before .before .pre .1) (w .walks) (search needs) g)
 
 next-requires : tie.Need-next-requires Inv-loop μ-loop
-next-requires c κs = small-here (c .before .before .before .before .before .before .before .before .before .before .before .before .before .before .pre .1) (c .before .before .before .before .before .before .before .before .before .loop .inv .walks) (search needs)
+next-requires c κs = small-here (c .before .before .before .before .before .before .before .before .before .before .before .before .before .before .before .pre .1) (c .before .before .before .before .before .before .before .before .before .loop .inv .walks) (search needs)
 
 add-x : tie.Need-add-x Inv-loop μ-loop
 add-x c = search needs
@@ -61,6 +67,8 @@ walk-block-spec =
     (tie.spec
     Inv-loop
     μ-loop
+    count-requires
+    cast-all
     variables-requires
     weigh-requires
     loop-holds
