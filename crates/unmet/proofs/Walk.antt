@@ -13,13 +13,16 @@ use Rattle.refusal.specs.declared.Reply.{Reply}
 use Rattle.refusal.specs.declared.Reply.the-variants.{Yes, No}
 use Rattle.interval.specs.Places.{countOf}
 use Rattle.interval.specs.Limits.{maxCount}
-use Rattle.circuit.specs.Gates.{Assignment}
+use Rattle.interval.specs.Listing.{rows, sum}
+use Rattle.interval.proofs.Listing.{rows-same, length-tab, getD-tab}
+use Rattle.circuit.specs.Gates.{Assignment, valueOf}
 use Rattle.circuit.specs.Circuit.{Definition, define}
 use Rattle.circuit.specs.declared.Gate.{Gate}
+use Rattle.circuit.specs.declared.Gate.the-variants.{Constant}
 use Rattle.blocks.specs.Blocks.{isChop, gateOf, definedBy, Bounded, bound}
 use Rattle.blocks.specs.declared.Block.{Block}
 use Rattle.blocks.specs.declared.Position.{Position}
-use Rattle.blocks.specs.declared.Rule.the-variants.{Cut}
+use Rattle.blocks.specs.declared.Rule.the-variants.{Fixed, Cut}
 use Rattle.weights.specs.Weights.{clauseWeight, weightOf, weightBy, maxWeight, maxSum}
 use Rattle.weights.specs.declared.Weight.{Weight}
 use Rattle.weights.proofs.Weights.{block-weight, weighed}
@@ -31,7 +34,8 @@ use Rattle.node_clauses.specs.Walk.{definitionIn, Walks}
 use Rattle.node_clauses.proofs.Walk.{definition-here, light, within-here}
 use Rattle.node_clauses.proofs.Nodes.{clauses-join, Halves, chopped, node-known}
 use Rattle.assignments.specs.Calls.{askClauses}
-use Rattle.unmet.specs.Mentioned.{Variable, InputsIn, Mentioned, AllMentioned}
+use Rattle.unmet.specs.Mentioned.{Variable, InputsIn, Mentioned, AllMentioned, constants}
+use Rattle.unmet.proofs.Gates.{no, gate-met, unmet-known}
 
 -- ---- clauses after clauses
 
@@ -154,6 +158,50 @@ module _ {C k : ℕ} {block : Block} (s : Bounded C k block × (block .points �
 
       pub block-stopped : {r : Refusal} → q ≡ No r → No r ≡ askClauses a n (clausesBy (definedBy C k block))
       block-stopped e = met-stopped t inside here f e
+
+-- ---- a constant's block: one clause a variable
+
+module _ (w n : ℕ) (up : Bool) (e : ℕ) (h : e < n) where
+  constant-inside : e < length (constants w n up)
+  constant-inside = omega (arith, length-tab n (λ e. define (w + e) (Constant up)))
+
+  constant-here : definitionIn (constants w n up) e ≡ define (w + e) (Constant up)
+  constant-here = getD-tab n (λ e. define (w + e) (Constant up)) e (definitionIn [] 0) h
+
+module _ (a : Assignment) (m w n : ℕ) (up : Bool) where
+  pub constants-begun : Met a m (constants w n up) (m + 0) 0
+  constants-begun = let s : Met a m (constants w n up) m 0 = met-begun in record { all = s .all; next = omega (arith, s .next) }
+
+  pub constants-done : {e : ℕ} → Met a m (constants w n up) (m + e) e → n ≤ e → Yes ≡ askClauses a m (clausesBy (constants w n up))
+  constants-done t h = met-done t (omega (arith, length-tab n (λ e. define (w + e) (Constant up))))
+
+  module _ {e : ℕ} (t : Met a m (constants w n up) (m + e) e) (h : e < n) {b : Bool} (f : b ≡ a (w + e)) where
+    pub constants-turn : b ≡ up → Met a m (constants w n up) (m + (e + 1)) (e + 1)
+    unfolding valueOf weightOf
+    constants-turn g =
+        let s = met-turn t (constant-inside w n up e h) (constant-here w n up e h) (gate-met a (w + e) (m + e) (Constant up) (sym f ∙ g)) {w = 1} refl refl in
+        record { all = s .all; next = omega (arith, s .next) }
+
+    pub constants-stopped : (b ≡ up → ⊥) → no (m + e) ≡ askClauses a m (clausesBy (constants w n up))
+    unfolding valueOf
+    constants-stopped d =
+        let z : m + e ≡ m + e + 0 = omega arith in
+        met-stopped t (constant-inside w n up e h) (constant-here w n up e h) (ap no z ∙ unmet-known a {gate = Constant up} {g = Constant up} {up = b} 0 refl refl (w + e) (m + e) f d) refl
+
+module _ (C k : ℕ) (b : Block) {up : Bool} (e : b .rule ≡ Fixed up) where
+  constants-defined : constants (b .first) (b .points) up ≡ definedBy C k b
+  unfolding definedBy gateOf rows sum
+  constants-defined =
+      let same : record { rule = Fixed up; points = b .points; first = b .first; left = b .left; right = b .right } ≡ b = λ i. record { rule = sym e i; points = b .points; first = b .first; left = b .left; right = b .right } in
+      rows-same (b .points) _ _ (λ p h. ap (λ (q : ℕ). define (b .first + q) (Constant up) ∷ []) (omega arith)) ∙ ap (definedBy C k) same
+
+  pub constants-mentioned : {l : ℕ} → AllMentioned l (definedBy C k b) → (x : ℕ) → x < b .points → Variable l (b .first + x)
+  constants-mentioned {l} f x h =
+      subst (Mentioned l) (constant-here (b .first) (b .points) up x h)
+      (subst (AllMentioned l) (sym constants-defined) f x (constant-inside (b .first) (b .points) up x h)) .variable
+
+  pub constants-asked : (a : Assignment) (n : ℕ) {q : Reply} → q ≡ askClauses a n (clausesBy (constants (b .first) (b .points) up)) → q ≡ askClauses a n (clausesBy (definedBy C k b))
+  constants-asked a n g = g ∙ ap (λ (D : List Definition). askClauses a n (clausesBy D)) constants-defined
 
 -- ---- a chop: its triples, then its intervals
 

@@ -1,9 +1,10 @@
 -- What the code asks of definitions before it looks their variables up in an assignment of n bytes. No call open to others cites these.
-use mathlib.Core.Bool.{false, true}
+use mathlib.Core.Bool.{Bool, false, true}
 use mathlib.Core.Path.{_≡_}
 use mathlib.Core.List.{List}
 use Prim.Native.Nat.{ℕ, _+_, _≤_, _<_}
 use lib.ListN.{length, getD}
+use Rattle.interval.specs.Listing.{tab}
 use Rattle.circuit.specs.Gates.{Assignment}
 use Rattle.circuit.specs.Circuit.{Definition, define}
 use Rattle.circuit.specs.declared.Gate.{Gate}
@@ -35,3 +36,7 @@ pub record FirstHigh (a : Assignment) (w n r : ℕ) : Type 0 where
   pub upto : r ≤ n
   pub low : (e : ℕ) → e < r → a (w + e) ≡ false
   pub high : r < n → a (w + r) ≡ true
+
+-- n variables from w on, each the same constant
+abbrev pub constants : ℕ → ℕ → Bool → List Definition
+constants w n up = tab n (λ e. define (w + e) (Constant up))

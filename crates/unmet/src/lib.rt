@@ -20,7 +20,7 @@ ghost use Rattle.gates.specs.Within.{Within};
 ghost use Rattle.node_clauses.specs.Nodes.{choppedBy, nodeBy, Fine};
 ghost use Rattle.assignments.specs.Extension.{valueIn};
 ghost use Rattle.assignments.specs.Calls.{askClauses};
-ghost use Rattle.unmet.specs.Mentioned.{Variable, InputsIn, AllMentioned, FirstHigh};
+ghost use Rattle.unmet.specs.Mentioned.{Variable, InputsIn, AllMentioned, FirstHigh, constants};
 
 // Whether variable v is high.
 pub fn high(assignment: &[u8], v: u32) -> bool
@@ -124,6 +124,24 @@ fn clause_count(gate: Gate) -> u32
     }
 }
 
+// Question 14 of the clauses of n variables from w on that are all to be high or low (up), one clause each, numbered from m on.
+fn ask_constants(assignment: &[u8], w: u32, n: u32, up: bool, m: u32) -> Reply
+    requires { ⌜ (w < bound) × (n ≤ maxCount) × (m < bound) × ((e : ℕ) → e < n → Variable (length (now assignment)) (w + e)) ⌝ }
+    ensures { λ r. ⌜ r ≡ askClauses (valueIn (now (assignment .entry))) m (clausesBy (constants w n up)) ⌝ }
+{
+    let mut e = 0;
+    while e < n {
+        if high(assignment, w + e) != up {
+            return Reply::No(Refusal {
+                number: 14,
+                place: m + e,
+            });
+        }
+        e += 1;
+    }
+    Reply::Yes
+}
+
 // Question 14 of a block's clauses, position after position.
 fn ask_block(assignment: &[u8], c: u32, k: u32, block: Block, n: u32) -> Reply
     requires { ⌜ (Bounded c k block × (block .points ≤ maxCount)) × (n ≤ maxSum + maxWeight) ⌝ }
@@ -169,7 +187,7 @@ fn ask_chop(assignment: &[u8], c: u32, k: u32, block: Block, n: u32) -> Reply
     ask_block(assignment, c, k, intervals, n + before)
 }
 
-// Question 14 of the clauses of a node's own definitions, numbered from n on.
+// Question 14 of the clauses of a node's own definitions, numbered from n on. A constant needs no gates.
 pub fn ask_node(assignment: &[u8], c: u32, k: u32, block: Block, n: u32) -> Reply
     requires { ⌜ Fine c k block × (n ≤ maxSum) ⌝ }
     requires { ⌜ AllMentioned (length (now assignment)) (nodeBy c k block (isChop (block .rule))) ⌝ }
@@ -178,6 +196,9 @@ pub fn ask_node(assignment: &[u8], c: u32, k: u32, block: Block, n: u32) -> Repl
     let rule = block.rule;
     if blocks::is_chop(rule) {
         return ask_chop(assignment, c, k, block, n);
+    }
+    if let Rule::Fixed(up) = rule {
+        return ask_constants(assignment, block.first, block.points, up, n);
     }
     ask_block(assignment, c, k, block, n)
 }

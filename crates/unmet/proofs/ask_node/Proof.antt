@@ -1,7 +1,7 @@
--- A chop has two blocks, any other node one
--- (Nodes.antt of node_clauses).
+-- A chop has two blocks, any other node one (Nodes.antt of node_clauses);
+-- a constant's is asked variable after variable (Walk.antt).
 use Rattle.unmet.specs.Mentioned.{AllMentioned}
-use Rattle.unmet.proofs.Walk.{node-asked}
+use Rattle.unmet.proofs.Walk.{constants-mentioned, constants-asked, node-asked}
 use Rattle.node_clauses.proofs.Nodes.{node-known}
 use mathlib.Core.Path.{sym, subst}
 use native.Mathlib.Omega.{arith}
@@ -18,12 +18,33 @@ ask-chop-requires c κs = let s = c .before .before .before .pre in (s .0, subst
 returns : tie.Need-returns
 returns c = node-asked _ _ _ _ (c .before .before .before .before .args .block) (c .before .before .is-chop .ensures) (c .before .if1 .taken) (c .ask-chop .ensures)
 
-ask-block-requires : tie.Need-ask-block-requires
-ask-block-requires c κs = let s = c .before .before .before .pre in (((s .0 .0 .bounded, s .0 .0 .points), omega (arith, s .0 .1)), subst (AllMentioned _) (sym (node-known _ _ (c .before .before .before .args .block) (c .before .is-chop .ensures) (c .if1 .left))) (s .1))
+enum-known-rule : tie.Need-enum-known-rule
+enum-known-rule c = search needs
+
+ask-constants-requires : tie.Need-ask-constants-requires
+ask-constants-requires c κs = let s = c .before .before .before .before .before .before in
+    let d = subst (AllMentioned _) (sym (node-known _ _ (s .args .block) (c .before .before .before .before .is-chop .ensures) (c .before .before .before .if1 .left))) (s .pre .1) in
+    (s .pre .0 .0 .bounded .first, s .pre .0 .0 .points, omega (arith, s .pre .0 .1), constants-mentioned _ _ (s .args .block) (c .before .rule .given .1) d)
 
 returns-2 : tie.Need-returns-2
-returns-2 c = node-asked _ _ _ _ (c .before .before .before .before .args .block) (c .before .before .is-chop .ensures) (c .before .if1 .left) (c .ask-block .ensures)
+returns-2 c = let s = c .before .before .before .before .before .before .before in
+    node-asked _ _ _ _ (s .args .block) (c .before .before .before .before .before .is-chop .ensures) (c .before .before .before .before .if1 .left) (constants-asked _ _ (s .args .block) (c .before .before .rule .given .1) _ _ (c .ask-constants .ensures))
+
+ask-block-requires : tie.Need-ask-block-requires
+ask-block-requires c κs = let s = c .before .before .before .before .pre in (((s .0 .0 .bounded, s .0 .0 .points), omega (arith, s .0 .1)), subst (AllMentioned _) (sym (node-known _ _ (c .before .before .before .before .args .block) (c .before .before .is-chop .ensures) (c .before .if1 .left))) (s .1))
+
+returns-3 : tie.Need-returns-3
+returns-3 c = node-asked _ _ _ _ (c .before .before .before .before .before .args .block) (c .before .before .before .is-chop .ensures) (c .before .before .if1 .left) (c .ask-block .ensures)
 
 pub ask-node-spec : {M : Type 1} → statement M
 ask-node-spec =
-    tie.close (tie.spec is-chop-requires ask-chop-requires returns ask-block-requires returns-2)
+    tie.close
+    (tie.spec
+    is-chop-requires
+    ask-chop-requires
+    returns
+    enum-known-rule
+    ask-constants-requires
+    returns-2
+    ask-block-requires
+    returns-3)
