@@ -128,7 +128,7 @@ enum tuv_most {
  *          variable, in marks its mark. For `#a>=1`, c 1, k 1: sizes 1, 1, 8, 12, 21, and 21 places of the other two, which
  *          begin with 2, 3, 4, 5, 6, 5, 2 and 3, 3, 3, 2, 0, 1, 3: four clauses of one literal and one of three.
  * Answers: TUV_WRITTEN, a refusal 1 to 7 or 18.
- * Stack:   47,000 bytes for any input: 176 for each level of brackets and signs (measured: 46,256 for 255 `(`; 12,464 for the
+ * Stack:   47,000 bytes for any input: 176 for each level of brackets and signs (measured: 46,208 for 255 `(`; 12,416 for the
  *          deepest text that is accepted).
  */
 uint64_t tuv_table(const uint8_t *text, size_t text_length, uint32_t c, uint32_t k, uint32_t *sizes, size_t sizes_length,
@@ -153,7 +153,7 @@ uint64_t tuv_extend(const uint8_t *text, size_t text_length, uint32_t c, uint32_
  * Written: on TUV_ACCEPTED the k bytes of the recording that the channels' variables are; the formula holds on the whole of it.
  * Answers: TUV_ACCEPTED, a refusal 1 to 7, 12 to 14 or 18. What tuv_extend wrote is accepted where the formula holds, but for
  *          want of room (18); where it does not, it is refused for the last clause (TUV_CLAUSE at m - 1).
- * Stack:   47,000 bytes for any input: 176 for each level of brackets and signs (measured: 46,608 for 255 `(`; 12,816 for the
+ * Stack:   47,000 bytes for any input: 176 for each level of brackets and signs (measured: 46,592 for 255 `(`; 12,800 for the
  *          deepest text that is accepted).
  */
 uint64_t tuv_check(const uint8_t *text, size_t text_length, uint32_t c, uint32_t k, const uint8_t *assignment,
