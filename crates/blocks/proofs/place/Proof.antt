@@ -4,17 +4,17 @@ use mathlib.Core.Path.{_≡_}
 use Prim.Native.Nat.{ℕ, _+_, _-_, _≤_}
 use native.Mathlib.Omega.{arith}
 use borrow.Author.Needs.{needs}
-use Rattle.interval.proofs.Counts.{interval-place-code}
-use Rattle.interval.proofs.Laws.{counts-at-32}
+use Rattle.interval.proofs.Counts.{interval-place-code, count-le}
 use Rattle.interval.specs.Places.{countOf, placeOf}
-use Rattle.interval.specs.Limits.{maxSteps}
+use Rattle.interval.specs.Limits.{maxSteps, maxCount}
 use Rattle.blocks.proofs.place.Statement.{statement}
 use Rattle.blocks.proofs.place.Tie as tie
 
-by-counts : (k i d a b : ℕ) → (i + d ≤ k) × (k ≤ maxSteps) × (a ≡ countOf k) → b ≡ countOf (k - i) → (b ≤ a) × (a ≤ 561) × (a - b + d ≡ placeOf k (record { i = i; j = i + d }))
+by-counts : (k i d a b : ℕ) → (i + d ≤ k) × (k ≤ maxSteps) × (a ≡ countOf k) → b ≡ countOf (k - i) → (b ≤ a) × (a ≤ maxCount) × (a - b + d ≡ placeOf k (record { i = i; j = i + d }))
+unfolding countOf
 by-counts k i d a b h e =
     let p = interval-place-code k (record { i = i; j = i + d }) a b (omega arith) (h .2) e in
-    (p .0, omega (arith, counts-at-32 k (h .1) .0), omega (arith, p .1))
+    (p .0, omega (arith, count-le maxSteps k (h .1)), omega (arith, p .1))
 
 sub-count : tie.Need-sub-count
 sub-count c = search needs
