@@ -38,7 +38,7 @@ enum-known-gate-4 : tie.Need-enum-known-gate-4
 enum-known-gate-4 c = search needs
 
 high-requires-3 : tie.Need-high-requires-3
-high-requires-3 c κs = (rw (c .before .before .gate4 .given .1) at (c .before .before .before .before .before .pre .0)) .1
+high-requires-3 c κs = let p = rw (c .before .before .gate4 .given .1) at (c .before .before .before .before .before .pre .0) in search (p .1, p .2)
 
 high-requires-4 : tie.Need-high-requires-4
 high-requires-4 c κs = (rw (c .before .before .gate4 .given .1) at (c .before .before .before .before .before .pre .0)) .0
