@@ -1,7 +1,7 @@
 -- A question answered with yes has all its tests true: so a file is as long as its sizes say, and arrays are as long as the sizes
 -- that come with them, which makes the bytes to be written 20 + 5L.
 use mathlib.Core.Path.{_≡_, refl, sym, ap, ap₂, _∙_}
-use mathlib.Core.Bool.{Bool, true, false, false≢true, _&&_}
+use mathlib.Core.Bool.{Bool, true, false≢true, _&&_}
 use mathlib.Core.List.{List, _∷_}
 use Prim.Native.Nat.{ℕ, _≤_}
 use native.Mathlib.Omega.{arith}

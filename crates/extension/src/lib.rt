@@ -9,7 +9,7 @@ use refusal::Reply;
 use rows::NodeTable;
 ghost use mathlib.Core.Path.{_≡_};
 ghost use mathlib.Core.List.{List, map};
-ghost use Prim.Native.Nat.{ℕ, _+_, _-_, _*_, _≤_};
+ghost use Prim.Native.Nat.{ℕ, _-_, _*_, _≤_};
 ghost use lib.ListN.{length};
 ghost use lib.Seq.{sets};
 ghost use Rattle.interval.specs.Limits.{maxSteps};

@@ -3,7 +3,7 @@
 use mathlib.Core.Path.{_≡_, refl, sym, ap, _∙_}
 use mathlib.Core.Bool.{Bool, true, false, _&&_, false≢true}
 use mathlib.Core.List.{List, [], _∷_, _++_, append-nil}
-use Prim.Native.Nat.{ℕ, _+_, _≤_}
+use Prim.Native.Nat.{ℕ, _≤_}
 use native.Mathlib.Omega.{arith}
 use lib.Dec.{leb}
 use lib.ListN.{length, getD, take, drop, length-append, length-take, length-map, replicate, drop-of-length-le}
@@ -16,7 +16,6 @@ use Rattle.refusal.specs.declared.Reply.the-variants.{Yes, No}
 use Rattle.refusal.proofs.Laws.{replied-yes, replied-no}
 use Rattle.formula.specs.Questions.{formulaQuestions, acceptOf}
 use Rattle.formula.proofs.Asked.{test-yes, asked-one}
-use Rattle.formula.proofs.Laws.{accepted}
 use Rattle.clauses.specs.Entries.{Entry, variablesIn, marksIn}
 use Rattle.clause_table.specs.Table.{After, sizesIn, placesIn, askRoom, over, refused, writtenTable, tabled}
 use Rattle.clause_table.specs.declared.Written.the-variants.{Done, Refused}

@@ -1,9 +1,7 @@
--- What the code asks of a node table before it looks variables up, and what the call does with it. No call open to others cites these.
+-- What the code asks of a node table before it looks variables up, and the questions that it then asks. No call open to others cites these.
 use mathlib.Core.Path.{_≡_}
 use mathlib.Core.List.{List, [], _∷_, _++_, map}
 use Prim.Native.Nat.{ℕ, _+_}
-use lib.ListN.{length}
-use Rattle.refusal.specs.Asked.{asked}
 use Rattle.refusal.specs.declared.Reply.{Reply}
 use Rattle.interval.specs.Listing.{rows}
 use Rattle.grammar.specs.Trees.{Tree, Letters}
@@ -14,10 +12,8 @@ use Rattle.rows.specs.declared.NodeTable.{NodeTable}
 use Rattle.circuit.specs.Circuit.{Definition, variablesOf}
 use Rattle.clauses.specs.Clauses.{Clause, plain, clausesBy, clauseTable}
 use Rattle.clause_table.specs.Rows.{seatBy, rowDefinitions}
-use Rattle.clause_table.specs.Table.{over}
-use Rattle.assignments.specs.Extension.{valueIn, recordingOf}
-use Rattle.assignments.specs.Calls.{askAssignment, askValues, askClauses, askPlaces, Proposed, notAccepted}
-use Rattle.assignments.specs.declared.Checked.the-variants.{Accepted}
+use Rattle.assignments.specs.Extension.{valueIn}
+use Rattle.assignments.specs.Calls.{askAssignment, askValues, askClauses, askPlaces}
 
 -- the definitions of the nodes, and their clauses with the last one, by the columns of the node table
 abbrev pub definedIn : ℕ → ℕ → List ℕ → List ℕ → List ℕ → List ℕ → ℕ → List Definition
@@ -39,7 +35,3 @@ pub record TableFor (C : ℕ) (table : NodeTable) : Type 0 where
 abbrev pub checkQuestions : ℕ → ℕ → Tree Formula → List ℕ → ℕ → List Reply
 checkQuestions C k f A places =
     askAssignment (variablesOf C k (nodesOf f 0)) A ∷ askValues A ∷ askClauses (valueIn A) 0 (clauseTable C k f) ∷ askPlaces k places ∷ []
-
-unfoldable pub proposedBy : ℕ → ℕ → Tree Formula → List ℕ → List ℕ → Proposed
-proposedBy C k f A recording =
-    asked (checkQuestions C k f A (length recording)) (notAccepted recording) (record { answer = Accepted; recording = over (recordingOf C k A) recording })

@@ -1,7 +1,7 @@
 -- A formula's truth on each interval as the code keeps it: "a table with a yes or no for each of the 561 intervals".
 -- No call open to others cites these.
 use mathlib.Core.Path.{_≡_}
-use mathlib.Core.Bool.{Bool, true, cond}
+use mathlib.Core.Bool.{Bool, cond}
 use mathlib.Core.List.{List}
 use Prim.Native.Nat.{ℕ, suc, _+_, _-_, _<_}
 use lib.Bits.{bitAnd, bitOr, bitXor}

@@ -8,7 +8,6 @@ use borrow.Author.Tests.{not-true, not-false}
 use Rattle.unmet.proofs.Gates.{differ}
 use Prim.Native.Nat.{_+_, _-_}
 use mathlib.Core.Path.{refl}
-use native.Mathlib.Omega.{arith}
 use borrow.Author.Needs.{needs}
 use Rattle.unmet.proofs.ask_constants.Statement.{statement}
 use Rattle.unmet.proofs.ask_constants.Tie as tie

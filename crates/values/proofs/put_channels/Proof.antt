@@ -1,5 +1,3 @@
-use native.Mathlib.Omega.{arith}
-use borrow.Author.Needs.{needs}
 -- `put_channels` fills one part a turn with the channels of the next instant,
 -- and each part has a byte for each channel (Parts.antt of `cuts`).
 use mathlib.Core.Path.{_≡_, refl, ap, _∙_}
@@ -10,6 +8,8 @@ use Rattle.interval.proofs.Listing.{length-tab}
 use Rattle.meaning.specs.Meaning.{bit, channelAt}
 use Rattle.assignments.specs.Extension.{channelValues}
 use Rattle.cuts.proofs.Parts.{Parts, begun-even, room, part-length, turn, done}
+use native.Mathlib.Omega.{arith}
+use borrow.Author.Needs.{needs}
 use Rattle.values.proofs.put_channels.Statement.{statement}
 use Rattle.values.proofs.put_channels.Tie as tie
 

@@ -1,5 +1,3 @@
-use native.Mathlib.Omega.{arith}
-use borrow.Author.Needs.{needs}
 -- `put_instant` writes one channel's bit a turn, at the channel's place,
 -- and after the last turn all are written (Filled.antt of `truths`).
 use mathlib.Core.Path.{_≡_, refl}
@@ -7,6 +5,8 @@ use Prim.Native.Nat.{_-_}
 use lib.ListN.{length}
 use Rattle.meaning.specs.Meaning.{bit, bitAt}
 use Rattle.truths.proofs.Filled.{Filled, begun, turn, done}
+use native.Mathlib.Omega.{arith}
+use borrow.Author.Needs.{needs}
 use Rattle.values.proofs.put_instant.Statement.{statement}
 use Rattle.values.proofs.put_instant.Tie as tie
 

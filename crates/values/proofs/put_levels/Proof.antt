@@ -1,5 +1,3 @@
-use native.Mathlib.Omega.{arith}
-use borrow.Author.Needs.{needs}
 -- `put_levels` fills one part a turn with the table of the next level (Parts.antt of `cuts`), which gives that level's truths in order
 -- (Tables.antt). The word measures as the state assertion does.
 use mathlib.Core.Path.{_≡_, refl, _∙_}
@@ -14,6 +12,8 @@ use Rattle.assignments.specs.Extension.{truthValues}
 use Rattle.cuts.proofs.Parts.{Parts, begun-even, room, part-length, turn, done}
 use Rattle.values.proofs.Tables.{table-values}
 use Rattle.assignments.proofs.Values.{truth-length}
+use native.Mathlib.Omega.{arith}
+use borrow.Author.Needs.{needs}
 use Rattle.values.proofs.put_levels.Statement.{statement}
 use Rattle.values.proofs.put_levels.Tie as tie
 
