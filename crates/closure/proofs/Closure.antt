@@ -1,0 +1,135 @@
+-- A literal is added only where every closed set that has what is there has it too, so the closure lies in each of them. It is closed
+-- itself: each literal added leaves one member fewer outside the set, so as many additions as there are members leave none forced.
+use mathlib.Core.Path.{_≡_, refl, sym, ap}
+use mathlib.Core.Logic.{⊎-elim}
+use mathlib.Core.Bool.{Bool, true, false, not, _&&_, false≢true, true≢false}
+use mathlib.Core.List.{List, [], _∷_, List·Memᴰ, List·Memᴰ·cases-cons, List·Memᴰ·not-nil}
+use mathlib.Core.Option.{Option, none, some}
+use Prim.Native.Nat.{ℕ, zero, suc, _+_, _≤_, _<_}
+use native.Mathlib.Omega.{arith}
+use lib.ListN.{length}
+use Rattle.grammar.proofs.Bytes.{both}
+use Rattle.formula.proofs.Lists.{All, all-map}
+use Rattle.meaning.specs.Meaning.{bit}
+use Rattle.clauses.specs.Clauses.{Literal, Clause}
+use Rattle.closure.specs.Closure.{Literals, add, allOpposed, Member, membersIn, firstForced, forced, closure}
+use Rattle.closure.proofs.Sets.{either-way, all-in, In, Below, added, kept, add-below, Opposed, opposed-all, all-opposed}
+
+-- "each literal of a clause whose fellows in that clause are all opposed in the set" is in it
+abbrev pub Keeps : (Literal → Type 0) → Member → Type 0
+Keeps X m = Opposed X (m .fellows) → X (m .self)
+
+abbrev pub Closed : List Clause → (Literal → Type 0) → Type 0
+Closed T X = All (Keeps X) (membersIn T)
+
+-- ---- the first that is forced
+
+data Next (ms : List Member) (S : Literals) : Option Literal → Type 0 where
+  still : All (Keeps (In S)) ms → Next ms S none
+  more : (m : Member) → List·Memᴰ m ms → Opposed (In S) (m .fellows) → S (m .self) ≡ false → Next ms S (some (m .self))
+
+idle : (S : Literals) (m : Member) → not (S (m .self)) && allOpposed S (m .fellows) ≡ false → Keeps (In S) m
+idle S m h o = either-way (S (m .self)) (λ e. e) (λ e. absurd (true≢false (rw (e, all-opposed S (m .fellows) o) at h)))
+
+longer : {m : Member} {ms : List Member} {S : Literals} {o : Option Literal} → Keeps (In S) m → Next ms S o → Next (m ∷ ms) S o
+longer k (still a) = still (k, a)
+longer k (more m i o n) = more m (List·Memᴰ.List·Memᴰ·tail i) o n
+
+not-true : (b : Bool) → not b ≡ true → b ≡ false
+not-true true h = sym h
+not-true false h = refl
+
+next : (ms : List Member) (S : Literals) → Next ms S (firstForced ms S)
+unfolding firstForced
+next [] S = still tt
+next (m ∷ ms) S = go (not (S (m .self)) && allOpposed S (m .fellows)) refl (next ms S)
+  where
+    go : (b : Bool) → not (S (m .self)) && allOpposed S (m .fellows) ≡ b → Next ms S (firstForced ms S)
+        → Next (m ∷ ms) S (elim b [ true ↦ some (m .self) | false ↦ firstForced ms S ])
+    go true e n =
+        let w = both (not (S (m .self))) (allOpposed S (m .fellows)) e in
+        more m (List·Memᴰ.List·Memᴰ·head refl) (opposed-all S (m .fellows) (w .1)) (not-true (S (m .self)) (w .0))
+    go false e n = longer (idle S m e) n
+
+-- ---- members outside the set
+
+abbrev outside : List Member → Literals → ℕ
+outside [] S = 0
+outside (m ∷ ms) S = bit (not (S (m .self))) + outside ms S
+
+bit-le : (b : Bool) → bit b ≤ 1
+bit-le true = omega arith
+bit-le false = omega arith
+
+outside-le : (ms : List Member) (S : Literals) → outside ms S ≤ length ms
+outside-le [] S = omega arith
+outside-le (m ∷ ms) S = omega (arith, bit-le (not (S (m .self))), outside-le ms S)
+
+one-less : (l : Literal) (S : Literals) (m : Member) → bit (not (add l S (m .self))) ≤ bit (not (S (m .self)))
+one-less l S m = either-way (S (m .self)) (λ e. rw (e, kept l S (m .self) e) (omega arith)) (λ e. rw e (bit-le (not (add l S (m .self)))))
+
+fewer : (ms : List Member) (l : Literal) (S : Literals) → outside ms (add l S) ≤ outside ms S
+fewer [] l S = omega arith
+fewer (m ∷ ms) l S = omega (arith, one-less l S m, fewer ms l S)
+
+fewer-still : (ms : List Member) (S : Literals) (m : Member) → List·Memᴰ m ms → S (m .self) ≡ false → outside ms (add (m .self) S) < outside ms S
+fewer-still [] S m i n = absurd (List·Memᴰ·not-nil i)
+fewer-still (x ∷ ms) S m i n =
+    ⊎-elim (λ (e : m ≡ x). here (ap (λ (y : Member). y .self) e)) (λ (t : List·Memᴰ m ms). omega (arith, one-less (m .self) S x, fewer-still ms S m t n)) (List·Memᴰ·cases-cons i)
+  where
+    here : m .self ≡ x .self → outside (x ∷ ms) (add (m .self) S) < outside (x ∷ ms) S
+    here e = rw (← e, n, added (m .self) S) (omega (arith, fewer ms (m .self) S))
+
+-- all are in the set
+none-outside : (ms : List Member) (S : Literals) → outside ms S ≤ 0 → All (Keeps (In S)) ms
+none-outside [] S h = tt
+none-outside (m ∷ ms) S h = (λ o. either-way (S (m .self)) (λ e. e) (λ e. absurd (out e)), none-outside ms S (omega arith))
+  where
+    out : S (m .self) ≡ false → ⊥
+    out e = omega (arith, ap (λ b. bit (not b)) e)
+
+-- ---- the three laws, of n additions
+
+contains : (n : ℕ) (ms : List Member) (S : Literals) → Below S (In (forced n ms S))
+unfolding forced
+contains zero ms S l h = h
+contains (suc n) ms S l h = go (λ m. contains n ms (add m S) l (kept m S l h)) (firstForced ms S)
+  where
+    go : ((m : Literal) → In (forced n ms (add m S)) l) → (o : Option Literal) → In (elim o [ none ↦ S | some m ↦ forced n ms (add m S) ]) l
+    go ih none = h
+    go ih (some m) = ih m
+
+least : (n : ℕ) (ms : List Member) (S : Literals) (X : Literal → Type 0) → All (Keeps X) ms → Below S X → Below (forced n ms S) X
+unfolding forced
+least zero ms S X a h = h
+least (suc n) ms S X a h = go (λ l x. least n ms (add l S) X a (add-below l S X h x)) (next ms S)
+  where
+    go : ((l : Literal) → X l → Below (forced n ms (add l S)) X) → {o : Option Literal} → Next ms S o
+        → Below (elim o [ none ↦ S | some l ↦ forced n ms (add l S) ]) X
+    go ih (still k) = h
+    go ih (more m i o e) = ih (m .self) (all-in (Keeps X) ms a i (all-map _ _ (λ l p. h _ p) (m .fellows) o))
+
+closed : (n : ℕ) (ms : List Member) (S : Literals) → outside ms S ≤ n → All (Keeps (In (forced n ms S))) ms
+unfolding forced
+closed zero ms S h = none-outside ms S h
+closed (suc n) ms S h = go (λ m i e. closed n ms (add (m .self) S) (omega (arith, fewer-still ms S m i e))) (next ms S)
+  where
+    go : ((m : Member) → List·Memᴰ m ms → S (m .self) ≡ false → All (Keeps (In (forced n ms (add (m .self) S)))) ms) → {o : Option Literal} → Next ms S o
+        → All (Keeps (In (elim o [ none ↦ S | some l ↦ forced n ms (add l S) ]))) ms
+    go ih (still k) = k
+    go ih (more m i o e) = ih m i e
+
+-- ---- "the smallest set containing it and each literal of a clause whose fellows in that clause are all opposed in the set"
+
+module _ (T : List Clause) (S : Literals) where
+  pub closure-contains : Below S (In (closure T S))
+  unfolding closure
+  closure-contains = contains (length (membersIn T)) (membersIn T) S
+
+  pub closure-closed : Closed T (In (closure T S))
+  unfolding closure
+  closure-closed = closed (length (membersIn T)) (membersIn T) S (outside-le (membersIn T) S)
+
+  pub closure-least : (X : Literal → Type 0) → Closed T X → Below S X → Below (closure T S) X
+  unfolding closure
+  closure-least X c h = least (length (membersIn T)) (membersIn T) S X c h
