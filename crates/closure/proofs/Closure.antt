@@ -13,7 +13,7 @@ use Rattle.formula.proofs.Lists.{All, all-map}
 use Rattle.meaning.specs.Meaning.{bit}
 use Rattle.clauses.specs.Clauses.{Literal, Clause}
 use Rattle.closure.specs.Closure.{Literals, add, allOpposed, Member, membersIn, firstForced, forced, closure}
-use Rattle.closure.proofs.Sets.{either-way, all-in, In, Below, added, kept, add-below, Opposed, opposed-all, all-opposed}
+use Rattle.closure.proofs.Sets.{either-way, not-true, all-in, In, Below, added, kept, add-below, Opposed, opposed-all, all-opposed}
 
 -- "each literal of a clause whose fellows in that clause are all opposed in the set" is in it
 abbrev pub Keeps : (Literal → Type 0) → Member → Type 0
@@ -34,10 +34,6 @@ idle S m h o = either-way (S (m .self)) (λ e. e) (λ e. absurd (true≢false (r
 longer : {m : Member} {ms : List Member} {S : Literals} {o : Option Literal} → Keeps (In S) m → Next ms S o → Next (m ∷ ms) S o
 longer k (still a) = still (k, a)
 longer k (more m i o n) = more m (List·Memᴰ.List·Memᴰ·tail i) o n
-
-not-true : (b : Bool) → not b ≡ true → b ≡ false
-not-true true h = sym h
-not-true false h = refl
 
 next : (ms : List Member) (S : Literals) → Next ms S (firstForced ms S)
 unfolding firstForced

@@ -19,6 +19,10 @@ pub either-way {ℓ} : {A : Type ℓ} (b : Bool) → (b ≡ true → A) → (b �
 either-way true f g = f refl
 either-way false f g = g refl
 
+pub not-true : (b : Bool) → not b ≡ true → b ≡ false
+not-true true h = sym h
+not-true false h = refl
+
 pub or-cases : (x y : Bool) → x || y ≡ true → (x ≡ true) ⊎ (y ≡ true)
 or-cases true y h = inl refl
 or-cases false y h = inr h
