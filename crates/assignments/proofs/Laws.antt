@@ -2,7 +2,7 @@
 -- The extension's values stand where the gates look for them; the channels and the gates leave no other; the last clause asks for the root.
 use mathlib.Core.Path.{_≡_, sym, ap, _∙_, subst}
 use mathlib.Core.Logic.{_↔_}
-use mathlib.Core.Bool.{Bool, true, and-true, or-false, and-eq-true-iff}
+use mathlib.Core.Bool.{Bool, true, false, _||_, and-true, or-false, and-eq-true-iff}
 use mathlib.Core.List.{List, [], _∷_}
 use Prim.Native.Nat.{ℕ, _+_, _-_, _*_, _^_, _<_}
 use native.Mathlib.Omega.{arith}
@@ -23,11 +23,12 @@ use Rattle.circuit.proofs.Lists.{all-rows, all-at}
 use Rattle.circuit.proofs.Blocks.{From}
 use Rattle.clauses.specs.Clauses.{plain, clausesBy, clauseTable, meetsClause, meetsAll}
 use Rattle.clauses.proofs.Meets.{meets-append, meets-by}
-use Rattle.assignments.specs.Extension.{valueIn, channelValues, nodeValues, extensionOf, recordingOf}
+use Rattle.clause_table.proofs.Laws.{root-in-range}
+use Rattle.assignments.specs.Extension.{valueIn, channelValues, nodeValues, extensionOf, recordingBy, recordingOf}
 use Rattle.assignments.proofs.Values.{EachBelow, node-bits, channels-length, extension-length}
 use Rattle.assignments.proofs.Meets.{Spells, spells-append, spells-row, spelled, on-intervals, part-true, nodes-meet}
 use Rattle.assignments.proofs.Only.{same-channels}
-use Rattle.assignments.proofs.Recordings.{packed-only, recording-length, recording-at, recording-channels}
+use Rattle.assignments.proofs.Recordings.{recording-channels, recording-only}
 
 -- variable 1 + y is byte y
 value-at : (A : List ℕ) (y : ℕ) → valueIn A (1 + y) ≡ eqb (getD A y 0) 1
@@ -60,12 +61,7 @@ module _ (C k : ℕ) (recording : List ℕ) (l : List Node) where
 
   -- the recording is read back from it
   pub recording-back : length recording ≡ k → EachBelow (2 ^ C) recording → recordingOf C k (extensionOf C k recording l) ≡ recording
-  unfolding channelAt
-  recording-back e h =
-      ext-getD 0 _ recording (recording-length C k (extensionOf C k recording l) ∙ sym e) (λ t m.
-      let o : t < k = omega (arith, recording-length C k (extensionOf C k recording l)) in
-      recording-at C k (extensionOf C k recording l) t o
-      ∙ packed-only _ (getD recording t 0) C (all-at _ recording 0 h t (omega arith), record { at = λ c n. sym (extension-channels t c o n) }))
+  recording-back e h = recording-only C k extension recording e h (λ t c o n. extension-channels t c o n)
 
 module _ (C k : ℕ) (f : Tree Formula) where
   -- "meets all clauses but the last"
@@ -117,15 +113,27 @@ module _ (C k : ℕ) (f : Tree Formula) where
   unfolding clauseTable meetsAll
   meets-table a = rw (meets-append a (clausesBy (definitionsOf C k (nodesOf f 0))), and-true) (and-eq-true-iff _ _)
 
-  -- "accepted exactly when it meets every clause": it is the extension of the recording read from it, and the formula holds of that
-  pub accepted-exactly : Letters C f → (A : List ℕ) → length A ≡ variablesOf C k (nodesOf f 0) → EachBelow 2 A
-      → (meetsAll (valueIn A) (clauseTable C k f) ≡ true)
-      ↔ ((A ≡ extensionOf C k (recordingOf C k A) (nodesOf f 0)) × (holds (recordingOf C k A) f (record { i = 0; j = k }) ≡ true))
-  accepted-exactly L A e b =
-      let r = recordingOf C k A in (
-        λ m.
-            let p = meets-table (valueIn A) .0 m in
-            let o = extension-only L r A e b (λ t c h l. sym (recording-channels C k A t c h l)) (p .0) in
-            (o, sym (extension-last r) ∙ sym (ap (λ B. meetsLast (valueIn B)) o) ∙ p .1),
-        λ q. subst (λ B. meetsAll (valueIn B) (clauseTable C k f) ≡ true) (sym (q .0)) (meets-table _ .1 (extension-meets L r, extension-last r ∙ q .1)),
-      )
+  module _ (L : Letters C f) where
+    -- the formula holds of the recording read from an assignment that meets every clause
+    pub meets-holds : (a : Assignment) → meetsAll a (clauseTable C k f) ≡ true → holds (recordingBy C k a) f (record { i = 0; j = k }) ≡ true
+    unfolding meetsClause
+    meets-holds a m =
+        let r = recordingBy C k a in
+        let p = meets-table a .0 m in
+        let root = extension-agrees L r a (λ t c h l. sym (recording-channels C k a t c h l)) (p .0) (rootOf C k f) (root-in-range C k f) in
+        sym (extension-last r) ∙ ap (λ b. b || false) (sym root) ∙ p .1
+
+    -- and the extension of a recording of which it holds meets every clause
+    pub holds-meets : (recording : List ℕ) → holds recording f (record { i = 0; j = k }) ≡ true
+        → meetsAll (valueIn (extensionOf C k recording (nodesOf f 0))) (clauseTable C k f) ≡ true
+    holds-meets recording h = meets-table _ .1 (extension-meets L recording, extension-last recording ∙ h)
+
+    -- "accepted exactly when it meets every clause": it is the extension of the recording read from it, and the formula holds of that
+    pub accepted-exactly : (A : List ℕ) → length A ≡ variablesOf C k (nodesOf f 0) → EachBelow 2 A
+        → (meetsAll (valueIn A) (clauseTable C k f) ≡ true)
+        ↔ ((A ≡ extensionOf C k (recordingOf C k A) (nodesOf f 0)) × (holds (recordingOf C k A) f (record { i = 0; j = k }) ≡ true))
+    accepted-exactly A e b =
+        let r = recordingOf C k A in (
+          λ m. (extension-only L r A e b (λ t c h l. sym (recording-channels C k (valueIn A) t c h l)) (meets-table (valueIn A) .0 m .0), meets-holds (valueIn A) m),
+          λ q. subst (λ B. meetsAll (valueIn B) (clauseTable C k f) ≡ true) (sym (q .0)) (holds-meets r (q .1)),
+        )

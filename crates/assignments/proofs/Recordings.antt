@@ -9,14 +9,16 @@ use native.Mathlib.Numerals.{add-one, one-add}
 use native.Mathlib.Omega.{arith}
 use lib.ListN.{length, getD}
 use lib.Pow.{pow-pos, mod-pow-add}
+use lib.Seq.{ext-getD}
 use Rattle.interval.specs.Listing.{sum}
 use Rattle.interval.proofs.Listing.{length-tab, getD-tab}
 use Rattle.meaning.specs.Meaning.{bitAt, channelAt, bit}
 use Rattle.word.specs.Word.{WordOf}
 use Rattle.word.proofs.Words.{digit, Packed, packed-add}
+use Rattle.circuit.specs.Gates.{Assignment}
 use Rattle.circuit.specs.Circuit.{channelOf}
-use Rattle.circuit.proofs.Lists.{all-rows}
-use Rattle.assignments.specs.Extension.{valueIn, recordingOf}
+use Rattle.circuit.proofs.Lists.{all-rows, all-at}
+use Rattle.assignments.specs.Extension.{recordingBy}
 use Rattle.assignments.proofs.Values.{EachBelow}
 
 -- the number whose first n bits are f
@@ -37,22 +39,31 @@ packed-low f w n p (suc m) h =
 pub packed-only : (f : ℕ → Bool) (w n : ℕ) → Packed n f w → packed f n ≡ w
 packed-only f w n p = packed-low f w n (p .1) n (omega arith) ∙ mod-eq-of-lt (p .0)
 
-module _ (C k : ℕ) (A : List ℕ) where
+module _ (C k : ℕ) (a : Assignment) where
   -- "then written, k bytes"
-  pub recording-length : length (recordingOf C k A) ≡ k
-  unfolding recordingOf
+  pub recording-length : length (recordingBy C k a) ≡ k
+  unfolding recordingBy
   recording-length = length-tab k _
 
-  pub recording-at : (t : ℕ) → t < k → getD (recordingOf C k A) t 0 ≡ packed (λ c. valueIn A (channelOf C t c)) C
-  unfolding recordingOf
+  recording-at : (t : ℕ) → t < k → getD (recordingBy C k a) t 0 ≡ packed (λ c. a (channelOf C t c)) C
+  unfolding recordingBy
   recording-at t h = getD-tab k _ t 0 h
 
   -- "bits C and above are 0"
-  pub recording-below : EachBelow (2 ^ C) (recordingOf C k A)
-  unfolding recordingOf
-  recording-below = all-rows _ k _ (λ t h. (packed-is (λ c. valueIn A (channelOf C t c)) C .0, tt))
+  pub recording-below : EachBelow (2 ^ C) (recordingBy C k a)
+  unfolding recordingBy
+  recording-below = all-rows _ k _ (λ t h. (packed-is (λ c. a (channelOf C t c)) C .0, tt))
 
   -- "The recording read from its channel variables"
-  pub recording-channels : (t c : ℕ) → t < k → c < C → channelAt (recordingOf C k A) c t ≡ valueIn A (channelOf C t c)
+  pub recording-channels : (t c : ℕ) → t < k → c < C → channelAt (recordingBy C k a) c t ≡ a (channelOf C t c)
   unfolding channelAt
-  recording-channels t c h l = ap (λ b. bitAt b c) (recording-at t h) ∙ packed-is (λ c. valueIn A (channelOf C t c)) C .1 .at c l
+  recording-channels t c h l = ap (λ b. bitAt b c) (recording-at t h) ∙ packed-is (λ c. a (channelOf C t c)) C .1 .at c l
+
+  -- it is the only recording with these channels
+  pub recording-only : (recording : List ℕ) → length recording ≡ k → EachBelow (2 ^ C) recording
+      → ((t c : ℕ) → t < k → c < C → a (channelOf C t c) ≡ channelAt recording c t) → recordingBy C k a ≡ recording
+  unfolding channelAt
+  recording-only recording e h s =
+      ext-getD 0 _ recording (recording-length ∙ sym e) (λ t m.
+      let o : t < k = omega (arith, recording-length) in
+      recording-at t o ∙ packed-only _ (getD recording t 0) C (all-at _ recording 0 h t (omega arith), record { at = λ c n. sym (s t c o n) }))

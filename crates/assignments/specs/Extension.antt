@@ -58,5 +58,8 @@ unfoldable pub extensionOf : ℕ → ℕ → List ℕ → List Node → List ℕ
 extensionOf C k recording l = channelValues C k recording ++ nodeValues k recording l
 
 -- "The recording read from its channel variables": byte t has bit c where channel c is high at instant t
-unfoldable pub recordingOf : ℕ → ℕ → List ℕ → List ℕ
-recordingOf C k A = tab k (λ t. sum (λ c. bit (valueIn A (channelOf C t c)) * 2 ^ c) C)
+unfoldable pub recordingBy : ℕ → ℕ → Assignment → List ℕ
+recordingBy C k a = tab k (λ t. sum (λ c. bit (a (channelOf C t c)) * 2 ^ c) C)
+
+abbrev pub recordingOf : ℕ → ℕ → List ℕ → List ℕ
+recordingOf C k A = recordingBy C k (valueIn A)

@@ -1,4 +1,5 @@
 pub mod Lists
+pub mod Values
 pub mod Blocks
 pub mod Once
 pub mod Inputs

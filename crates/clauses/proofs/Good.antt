@@ -43,12 +43,12 @@ abbrev pub Fit : (ℕ → Type 0) → List ℕ → Type 0
 Fit X xs = All X xs × Distinct xs
 
 -- some of these, in their order
-data Some : List ℕ → List ℕ → Type 0 where
+pub data Some : List ℕ → List ℕ → Type 0 where
   none : {ys : List ℕ} → Some [] ys
   skip : {xs ys : List ℕ} {y : ℕ} → Some xs ys → Some xs (y ∷ ys)
   keep : {xs ys : List ℕ} {y : ℕ} → Some xs ys → Some (y ∷ xs) (y ∷ ys)
 
-some-all : (X : ℕ → Type 0) {xs ys : List ℕ} → Some xs ys → All X ys → All X xs
+pub some-all : (X : ℕ → Type 0) {xs ys : List ℕ} → Some xs ys → All X ys → All X xs
 some-all X none h = tt
 some-all X (skip s) h = some-all X s (h .1)
 some-all X (keep s) h = (h .0, some-all X s (h .1))
@@ -59,7 +59,7 @@ some-distinct (skip s) h = some-distinct s (h .1)
 some-distinct (keep {y = y} s) h = (some-all (λ z. y ≢ z) s (h .0), some-distinct s (h .1))
 
 -- a literal of v, then literals of some of ws
-data Of (v : ℕ) (ws : List ℕ) : Clause → Type 0 where
+pub data Of (v : ℕ) (ws : List ℕ) : Clause → Type 0 where
   of : {u : Bool} {c : Clause} → Some (namesOf c) ws → Of v ws (literal u v ∷ c)
 
 wider : {v w : ℕ} {ws : List ℕ} {c : Clause} → Of v ws c → Of v (w ∷ ws) c
@@ -84,7 +84,8 @@ each-of v (w ∷ ws) = (of (keep none), all-map (Of v ws) (Of v (w ∷ ws)) (λ 
 any-of : (v : ℕ) (ws : List ℕ) → All (Of v ws) (anyClauses v ws)
 any-of v ws = all-append (Of v ws) (map (λ w. plain v ∷ negated w ∷ []) ws) ((negated v ∷ map plain ws) ∷ []) (each-of v ws) (of (every ws), tt)
 
-gate-of : (v : ℕ) (g : Gate) → All (Of v (inputsOf g)) (clausesOf v g)
+-- each is a literal of v, then literals of some of the inputs
+pub gate-of : (v : ℕ) (g : Gate) → All (Of v (inputsOf g)) (clausesOf v g)
 unfolding clausesOf inputsOf
 gate-of v (Constant b) = (of none, tt)
 gate-of v (Copy u) = (of (keep none), (of (keep none), tt))

@@ -135,5 +135,5 @@ module _ (C k : ℕ) (t A recording : List ℕ) where
         pub accepted-last : {out : List ℕ} → out ≡ recordingOf C (length (take k recording)) A → record { answer = Accepted; recording = out ++ drop k recording } ≡ proposed C k t A recording
         accepted-last p =
             ap (λ (l : List ℕ). record { answer = Accepted; recording = l ++ drop k recording }) (p ∙ ap (λ (n : ℕ). recordingOf C n A) (recorded-fits .0))
-            ∙ ap (λ (n : ℕ). record { answer = Accepted; recording = recordingOf C k A ++ drop n recording }) (sym (recording-length C k A))
+            ∙ ap (λ (n : ℕ). record { answer = Accepted; recording = recordingOf C k A ++ drop n recording }) (sym (recording-length C k (valueIn A)))
             ∙ sym (proposed-later ∙ replied-yes (notAccepted recording) answer later (sym reply-known ∙ o))

@@ -1,7 +1,7 @@
 -- `put_recording` fills its slice instant by instant,
 -- and each byte is the recording's at that instant.
 use Rattle.truths.proofs.Filled.{Filled, begun, turn, done}
-use Rattle.assignments.specs.Extension.{valueIn, recordingOf}
+use Rattle.assignments.specs.Extension.{valueIn, recordingBy}
 use Rattle.circuit.specs.Circuit.{channelOf}
 use Rattle.interval.specs.Listing.{sum}
 use Rattle.meaning.specs.Meaning.{bit}
@@ -42,7 +42,7 @@ same-length : tie.Need-same-length Inv-loop μ-loop
 same-length c = search needs
 
 returns : tie.Need-returns Inv-loop μ-loop
-unfolding recordingOf
+unfolding recordingBy
 returns c = done (c .before .loop .inv) (omega (arith, c .loop-test .left))
 
 pub put-recording-spec : {M : Type 1} → statement M
