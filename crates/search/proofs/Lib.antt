@@ -1,0 +1,5 @@
+pub mod Order
+pub mod Outcome
+pub mod Ends
+pub mod Call
+pub mod Demand

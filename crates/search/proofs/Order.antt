@@ -1,0 +1,63 @@
+-- Two recordings are compared by their channel values, which are a recording's channels in the order of the variables. So where two
+-- assignments first differ, their recordings do; and recordings whose channels are all alike are the same.
+use mathlib.Core.Path.{_≡_, refl, sym, ap, _∙_}
+use mathlib.Core.Logic.{_⊎_, inl, inr, _≢_}
+use mathlib.Core.Bool.{Bool, true, false}
+use mathlib.Core.List.{List, [], _∷_}
+use Prim.Native.Nat.{ℕ, zero, suc, _+_, _-_, _*_, _^_, _≤_, _<_}
+use native.Mathlib.Nat.{suc-mul, mul-le-mul-right}
+use native.Mathlib.Decide.{ℕ-discrete, decLt}
+use native.Mathlib.Omega.{arith}
+use lib.Dec.{eqb, ltb}
+use lib.ListN.{length, getD}
+use borrow.Author.Tests.{eq-eqb, ne-eqb, lt-ltb, le-ltb}
+use Rattle.interval.specs.Listing.{tab}
+use Rattle.interval.proofs.Listing.{length-tab, getD-tab}
+use Rattle.meaning.specs.Meaning.{bit, channelAt}
+use Rattle.circuit.specs.Gates.{Assignment}
+use Rattle.circuit.specs.Circuit.{channelOf}
+use Rattle.circuit.proofs.Blocks.{From}
+use Rattle.assignments.specs.Extension.{channelValues, recordingBy}
+use Rattle.assignments.proofs.Values.{EachBelow, alike-at, channels-length}
+use Rattle.assignments.proofs.Only.{each-channel}
+use Rattle.assignments.proofs.Recordings.{recording-channels, recording-only}
+use Rattle.closure.proofs.Means.{Order, same, earlier}
+use Rattle.search.specs.Search as search
+use Rattle.search.specs.Search.{lowFirst}
+
+first-difference : (xs ys : List ℕ) (i : ℕ) → i < length xs → i < length ys → ((j : ℕ) → j < i → getD xs j 0 ≡ getD ys j 0) → getD xs i 0 < getD ys i 0
+    → lowFirst xs ys ≡ true
+unfolding lowFirst
+first-difference [] ys i h g s l = absurd (omega arith)
+first-difference (x ∷ xs) [] i h g s l = absurd (omega arith)
+first-difference (x ∷ xs) (y ∷ ys) zero h g s l = rw (ne-eqb x y (λ e. absurd (omega arith)), lowFirst) (lt-ltb x y l)
+first-difference (x ∷ xs) (y ∷ ys) (suc i) h g s l =
+    rw (eq-eqb x y (s 0 (omega arith)), lowFirst) (first-difference xs ys i (omega arith) (omega arith) (λ j p. s (suc j) (omega arith)) l)
+
+-- channel c at instant t is one of the first k·C variables
+channel-to : (C k t c : ℕ) → t < k → c < C → channelOf C t c ≤ k * C
+channel-to C k t c h l = omega (arith, suc-mul t C, mul-le-mul-right {m = suc t} C h)
+
+module _ (C k : ℕ) where
+  -- the values of a recording's channels, by an assignment that has them
+  listed : (r : List ℕ) (a : Assignment) → ((t c : ℕ) → t < k → c < C → a (channelOf C t c) ≡ channelAt r c t)
+      → (v : ℕ) → From 1 (k * C) v → getD (channelValues C k r) (v - 1) 0 ≡ bit (a v)
+  unfolding channelValues
+  listed r a s =
+      let row : ℕ → List ℕ = λ t. tab C (λ c. bit (channelAt r c t)) in
+      each-channel C k (λ v. getD (channelValues C k r) (v - 1) 0 ≡ bit (a v)) (λ t c h l.
+      let e : channelOf C t c - 1 ≡ t * C + c = omega arith in
+      rw e (alike-at C row (λ t. length-tab C _) k t c 0 h l ∙ getD-tab C _ c 0 l ∙ ap bit (sym (s t c h l))))
+
+  module _ (a b : Assignment) (s : List ℕ) (e : length s ≡ k) (h : EachBelow (2 ^ C) s) (g : (t c : ℕ) → t < k → c < C → b (channelOf C t c) ≡ channelAt s c t) where
+    -- the recording of an assignment that is low where it first differs from another comes before the other's
+    pub first-comes : Order (k * C) a b → s ≢ recordingBy C k a → search.earlier C k (recordingBy C k a) s ≡ true
+    first-comes (same f) n = absurd (n (sym (recording-only C k a s e h (λ t c o l. f (channelOf C t c) (omega arith) (channel-to C k t c o l) ∙ g t c o l))))
+    first-comes (earlier v from to below low high) n = unfold search.earlier in
+        let r = recordingBy C k a in
+        let x : (u : ℕ) → From 1 (k * C) u → getD (channelValues C k r) (u - 1) 0 ≡ bit (a u) = listed r a (λ t c o l. sym (recording-channels C k a t c o l)) in
+        let y : (u : ℕ) → From 1 (k * C) u → getD (channelValues C k s) (u - 1) 0 ≡ bit (b u) = listed s b g in
+        first-difference (channelValues C k r) (channelValues C k s) (v - 1) (omega (arith, channels-length C k r)) (omega (arith, channels-length C k s))
+        (λ j l. let p : j ≡ suc j - 1 = omega arith in
+        ap (λ j. getD (channelValues C k r) j 0) p ∙ x (suc j) (omega arith) ∙ ap bit (below (suc j) (omega arith) (omega arith)) ∙ sym (y (suc j) (omega arith)) ∙ ap (λ j. getD (channelValues C k s) j 0) (sym p))
+        (rw (x v (omega arith), y v (omega arith), low, high) (omega arith))
