@@ -3,3 +3,4 @@ pub mod Outcome
 pub mod Ends
 pub mod Call
 pub mod Demand
+pub mod Edges
