@@ -83,9 +83,13 @@ module _ (T : List Clause) (variables channels : ℕ) where
   none-left : (S : Literals) → LeftOpen channels S channels
   none-left S v f t = absurd (omega arith)
 
+  -- every set has a run
+  pub run-from : (S : Literals) → Runs S (treeBelow T variables channels channels S)
+  run-from S = below-runs channels S (none-left S)
+
   pub tree-runs : Runs (closure T nothing) (tree T variables channels)
   unfolding tree
-  tree-runs = below-runs channels (closure T nothing) (none-left (closure T nothing))
+  tree-runs = run-from (closure T nothing)
 
   -- ---- the number of tries
 

@@ -1,0 +1,148 @@
+// A set of literals as values and a trail: a literal put in, what was put in undone, and the set closed under a table.
+ghost use mathlib.Core.Path.{_≡_};
+ghost use mathlib.Core.Bool.{false};
+ghost use Prim.Native.Nat.{_+_, _-_, _^_, _≤_, _<_};
+ghost use lib.ListN.{length, set};
+ghost use Rattle.clauses.specs.Entries.{entry, literalOf};
+ghost use Rattle.closure.specs.Closure.{opposite};
+ghost use Rattle.closing.specs.Values.{heldIn, Trailing, Ranged, undone, Added};
+ghost use Rattle.closing.specs.Closing.{Readable, ClosedTo};
+ghost use Rattle.closing.specs.Passes.{Scanned, PassedTo};
+
+// The place of a variable's value.
+fn place(variable: u32) -> usize
+    requires { ⌜ 1 ≤ variable ⌝ }
+    ensures { λ r. ⌜ r + 1 ≡ variable ⌝ }
+{
+    variable as usize - 1
+}
+
+// A variable's value at its place, and the variable at the top of the trail.
+fn hold(values: &mut [u8], trail: &mut [u32], top: usize, x: usize, value: u8)
+    requires { ⌜ (x < length (now values)) × (top < length (now trail)) × (x + 1 < 2 ^ 32) ⌝ }
+    ensures { λ _. ⌜ now (values .exit) ≡ set (now (values .entry)) x value ⌝ }
+    ensures { λ _. ⌜ now (trail .exit) ≡ set (now (trail .entry)) top (x + 1) ⌝ }
+{
+    values[x] = value;
+    trail[top] = x as u32 + 1;
+}
+
+// The values of the trail's variables from a place on, up to another, are taken back, the last first.
+pub fn undo(values: &mut [u8], trail: &[u32], from: usize, to: usize)
+    requires { ⌜ (from ≤ to) × (to ≤ length (now trail)) × Ranged (now values) (now trail) from to ⌝ }
+    ensures { λ _. ⌜ now (values .exit) ≡ undone (now (trail .entry)) from (to - from) (now (values .entry)) ⌝ }
+{
+    let mut j = to;
+    while from < j {
+        j -= 1;
+        let x = place(trail[j]);
+        values[x] = 0;
+    }
+}
+
+// Whether the literal of a variable and a mark is opposed.
+fn opposed(values: &[u8], variable: u32, mark: u8) -> bool
+    requires { ⌜ (1 ≤ variable) × (variable ≤ length (now values)) ⌝ }
+    ensures { λ r. ⌜ r ≡ heldIn (now (values .entry)) (opposite (literalOf (entry variable mark))) ⌝ }
+{
+    values[place(variable)] == 1 + mark % 2
+}
+
+// The literal of a variable and a mark, which is not opposed, put in where it is not there yet: the top of the trail then.
+pub fn add(values: &mut [u8], trail: &mut [u32], top: usize, variable: u32, mark: u8) -> usize
+    requires { ⌜ (1 ≤ variable) × (variable ≤ length (now values)) × Trailing (now values) (now trail) top × (heldIn (now values) (opposite (literalOf (entry variable mark))) ≡ false) ⌝ }
+    ensures { λ r. ⌜ Added (literalOf (entry variable mark)) (now (values .entry)) (now (trail .entry)) top (now (values .exit)) (now (trail .exit)) r ⌝ }
+{
+    let x = place(variable);
+    if values[x] != 0 {
+        return top;
+    }
+    hold(values, trail, top, x, 2 - mark % 2);
+    top + 1
+}
+
+// What a clause comes to: the place after it, how many of its literals are not opposed (2 for more), the place of the last of them.
+struct Tallied {
+    next: usize,
+    free: usize,
+    last: usize,
+}
+
+// The clause that starts at a place.
+fn scan(variables: &[u32], marks: &[u8], values: &[u8], p: usize) -> Tallied
+    requires { ⌜ Readable (now variables) (now marks) (length (now values)) × (p < length (now variables)) ⌝ }
+    ensures { λ r. ⌜ Scanned (now (variables .entry)) (now (marks .entry)) (now (values .entry)) p r ⌝ }
+{
+    let mut i = p;
+    let mut free = 0;
+    let mut last = p;
+    loop {
+        let mark = marks[i];
+        if !opposed(values, variables[i], mark) {
+            free = if free == 0 { 1 } else { 2 };
+            last = i;
+        }
+        i += 1;
+        if mark >= 2 {
+            return Tallied {
+                next: i,
+                free: free,
+                last: last,
+            };
+        }
+    }
+}
+
+// How closing ended, and how many places of the trail are used.
+pub struct Closed {
+    pub clash: bool,
+    pub top: usize,
+}
+
+// One pass over the table: a clause with all literals opposed ends it, one with all but one gives that one.
+fn pass(variables: &[u32], marks: &[u8], values: &mut [u8], trail: &mut [u32], top: usize) -> Closed
+    requires { ⌜ Readable (now variables) (now marks) (length (now values)) × Trailing (now values) (now trail) top ⌝ }
+    ensures { λ r. ⌜ PassedTo (now (variables .entry)) (now (marks .entry)) (now (values .entry)) (now (trail .entry)) top (now (values .exit)) (now (trail .exit)) r ⌝ }
+{
+    let mut p = 0;
+    let mut t = top;
+    while p < variables.len() {
+        let s = scan(variables, marks, values, p);
+        if s.free == 0 {
+            return Closed {
+                clash: true,
+                top: t,
+            };
+        }
+        if s.free == 1 {
+            let k = s.last;
+            t = add(values, trail, t, variables[k], marks[k]);
+        }
+        p = s.next;
+    }
+    Closed {
+        clash: false,
+        top: t,
+    }
+}
+
+// Passes until one adds nothing or meets a clash.
+pub fn close(
+    variables: &[u32],
+    marks: &[u8],
+    values: &mut [u8],
+    trail: &mut [u32],
+    top: usize,
+) -> Closed
+    requires { ⌜ Readable (now variables) (now marks) (length (now values)) × Trailing (now values) (now trail) top ⌝ }
+    ensures { λ r. ⌜ ClosedTo (now (variables .entry)) (now (marks .entry)) (now (values .entry)) (now (trail .entry)) top (now (values .exit)) (now (trail .exit)) r ⌝ }
+{
+    let mut t = top;
+    loop {
+        let r = pass(variables, marks, values, trail, t);
+        if r.clash | (r.top == t) {
+            return r;
+        }
+        t = r.top;
+    }
+}
