@@ -32,7 +32,7 @@ use Rattle.clauses.proofs.Sizes.{flat-join}
 use Rattle.clause_table.specs.Table.{fiveOf, sizesOf, onTree, sizesIn, placesIn, over}
 use Rattle.clause_table.specs.declared.Sizes.{Sizes}
 use Rattle.clause_table.specs.declared.Written.the-variants.{Done}
-use Rattle.clause_table.proofs.Laws.{table-sound}
+use Rattle.clause_table.proofs.Laws.{table-all, places-named, last-mark}
 use Rattle.clause_file.specs.Questions.{allPass, howMany, askArrays, inLimits, isVariable, isMark, askEntries, closes, endsClosed, askClosed, askBytes}
 use Rattle.clause_file.specs.File.{fileOf, sizesBy, fileLength}
 use Rattle.clause_file.specs.Calls.{FileAfter, fileRefused, arrayQuestions, fileWritten}
@@ -61,12 +61,6 @@ mapped : (P : ℕ → Type 0) (g : Entry → ℕ) (F : List Entry) → All (λ e
 mapped P g [] a = tt
 mapped P g (e ∷ F) a = (a .0, mapped P g F (a .1))
 
-clause-names : (X : ℕ → Type 0) (c : Clause) → All X (namesOf c) → All (λ (e : Entry). X (e .variable)) (entriesOf c)
-unfolding entriesOf
-clause-names X [] a = tt
-clause-names X (l ∷ []) a = (a .0, tt)
-clause-names X (l ∷ m ∷ c) a = (a .0, clause-names X (m ∷ c) (a .1))
-
 low : (b : Bool) → bit b ≤ 1
 low true = omega arith
 low false = omega arith
@@ -76,11 +70,6 @@ unfolding entriesOf
 clause-marks [] = tt
 clause-marks (l ∷ []) = (omega (arith, low (l .plain)), tt)
 clause-marks (l ∷ m ∷ c) = (omega (arith, low (l .plain)), clause-marks (m ∷ c))
-
-table-all : (P : Entry → Type 0) (T : List Clause) → All (λ c. All P (entriesOf c)) T → All P (flat T)
-unfolding flat flatMap
-table-all P [] a = tt
-table-all P (c ∷ T) a = all-append P (entriesOf c) (flat T) (a .0) (table-all P T (a .1))
 
 closed-last : (b : Bool) → bit (closes (bit b + 2)) ≡ 1
 closed-last true = refl
@@ -124,24 +113,17 @@ module _ (C k : ℕ) (f : Tree Formula) where
 
   variables-pass : Letters C f → allPass (isVariable most) (variablesIn F) ≡ true
   variables-pass L =
-      all-pass (isVariable most) (variablesIn F) (mapped InRange (λ (e : Entry). e .variable) F (table-all _ (clauseTable C k f) (all-map (Sound (From 1 most)) _ named (clauseTable C k f) (table-sound C k f L))))
+      all-pass (isVariable most) (variablesIn F) (mapped InRange (λ (e : Entry). e .variable) F (all-map _ _ (λ (e : Entry) w. within (e .variable) w) F (places-named C k f L)))
     where
       within : (v : ℕ) → From 1 most v → InRange v
       within v w = rw (le-leb 1 v (w .0), le-leb v most (omega (arith, w .1)))
-
-      named : (c : Clause) → Sound (From 1 most) c → All (λ (e : Entry). InRange (e .variable)) (entriesOf c)
-      named c s = clause-names InRange c (all-map (From 1 most) InRange within (namesOf c) (s .named))
 
   marks-pass : allPass isMark (marksIn F) ≡ true
   marks-pass =
       all-pass isMark (marksIn F) (mapped (λ m. isMark m ≡ true) (λ (e : Entry). e .mark) F (table-all _ (clauseTable C k f) (all-map Full _ (λ c w. all-map _ _ (λ (e : Entry) h. le-leb (e .mark) 3 h) (entriesOf c) (clause-marks c)) (clauseTable C k f) (full-table C k f))))
 
   ends : endsClosed (marksIn F) ≡ true
-  unfolding clauseTable flat flatMap entriesOf
-  ends =
-      let S = clausesBy (definitionsOf C k (nodesOf f 0)) in
-      let root : List Clause = (plain (rootOf C k f) ∷ []) ∷ [] in
-      ends-closed (marksIn F) (marksIn (flat S)) (ap marksIn (flat-join S root) ∙ map-append (λ (e : Entry). e .mark) (flat S) (flat root))
+  ends = let w = last-mark C k f in ends-closed (marksIn F) (w .0) (w .1)
 
   module _ (L : Letters C f) (c : askChannels C ≡ Yes) (d : askSteps k ≡ Yes) (s : Sizes) (e : fiveOf s ≡ sizesOf C k f) where
     at-size : (n : ℕ) → getD (fiveOf s) n 0 ≡ getD (sizesOf C k f) n 0

@@ -162,7 +162,7 @@ module _ (C k : ℕ) (f : Tree Formula) where
     pub variables-known : s .variables ≡ variablesOf C k nodes
     variables-known = known .variables ∙ sym variables-are
 
-    literals-known : s .literals ≡ length places
+    pub literals-known : s .literals ≡ length places
     literals-known = known .literals ∙ sym literals-are
 
     five-known : fiveOf s ≡ sizesOf C k f
@@ -177,6 +177,15 @@ module _ (C k : ℕ) (f : Tree Formula) where
         ap (λ (T : NodeTable). tablePlaces C k (T .kinds) (T .numbers) (T .sizes) F (T .count)) e
         ∙ ap (tablePlaces C k (kinds nodes) (numbers nodes) (sizes nodes) F) (length-map nodes rowOf)
         ∙ table-places C k f F (known .first)
+
+    -- the table, once its places are written
+    pub arrays-written : {variables marks variables′ marks′ : List ℕ} {at : ℕ} → s .literals ≤ length variables → s .literals ≤ length marks
+        → Wrote variables marks 0 (tablePlaces C k (T .kinds) (T .numbers) (T .sizes) F (T .count)) variables′ marks′ at
+        → (variables′ ≡ over (variablesIn places) variables) × (marks′ ≡ over (marksIn places) marks)
+    arrays-written {variables} {marks} g h t = (
+      stored-over (variablesIn places) variables (t .variables ∙ ap (λ (F : List Entry). sets variables 0 (variablesIn F)) places-known) (omega (arith, g, literals-known, length-map places (λ (e : Entry). e .variable))),
+      stored-over (marksIn places) marks (t .marks ∙ ap (λ (F : List Entry). sets marks 0 (marksIn F)) places-known) (omega (arith, h, literals-known, length-map places (λ (e : Entry). e .mark))),
+    )
 
     module _ (five variables marks : List ℕ) where
       abbrev question : ℕ → Reply
@@ -194,13 +203,9 @@ module _ (C k : ℕ) (f : Tree Formula) where
       written-known q {five′} {variables′} {marks′} z t =
           let g = room-enough (s .literals) (length five) (length variables) (length marks) q in
           let a : five′ ≡ over (sizesOf C k f) five = z ∙ ap (λ (l : List ℕ). over l five) five-known in
-          let p = places-known in
-          let b : variables′ ≡ over (variablesIn places) variables =
-          stored-over (variablesIn places) variables (t .variables ∙ ap (λ (F : List Entry). sets variables 0 (variablesIn F)) p) (omega (arith, g .1, literals-known, length-map places (λ (e : Entry). e .variable))) in
-          let c : marks′ ≡ over (marksIn places) marks =
-          stored-over (marksIn places) marks (t .marks ∙ ap (λ (F : List Entry). sets marks 0 (marksIn F)) p) (omega (arith, g .2, literals-known, length-map places (λ (e : Entry). e .mark))) in
+          let b = arrays-written (g .1) (g .2) t in
           let d : question (length places) ≡ Yes = ap question (sym literals-known) ∙ q in
-          (λ i. record { answer = Done; sizes = a i; variables = b i; marks = c i })
+          (λ i. record { answer = Done; sizes = a i; variables = b .0 i; marks = b .1 i })
           ∙ ap (λ (a : Reply). asked (a ∷ []) (refused five variables marks) (writtenTable (sizesOf C k f) places five variables marks)) (sym d)
 
 -- ---- the whole call

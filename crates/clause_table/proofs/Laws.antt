@@ -1,7 +1,7 @@
 -- A clause names a definition's variable and inputs, which are from 1 to V and no two the same, or the root alone, which lies in its block.
 -- No node's definitions weigh more than 2^24, in variables, clauses or literals, so those of 64 nodes come to 2^30 at the most.
-use mathlib.Core.Path.{_≡_, refl, sym, subst}
-use mathlib.Core.List.{List, [], _∷_}
+use mathlib.Core.Path.{_≡_, refl, sym, ap, _∙_, subst}
+use mathlib.Core.List.{List, [], _∷_, _++_, map-append, flatMap}
 use Prim.Native.Nat.{ℕ, suc, _+_, _*_, _^_, _≤_, _<_}
 use native.Mathlib.Omega.{arith}
 use lib.Dec.{ltb}
@@ -33,13 +33,27 @@ use Rattle.weights.specs.Weights.{weightAll, variableWeight, clauseWeight, lite
 use Rattle.weights.specs.declared.Weight.{Weight}
 use Rattle.weights.proofs.Weights.{weight-append, weighed}
 use Rattle.weights.proofs.Rows.{weightBefore, row-weight, all-weight, row-light}
-use Rattle.clauses.specs.Clauses.{clauseTable}
-use Rattle.clauses.specs.Entries.{flat, readBack}
-use Rattle.clauses.proofs.Good.{Sound, Fit, full-table, sound-table}
+use Rattle.clauses.specs.Clauses.{Clause, plain, clausesBy, clauseTable}
+use Rattle.clauses.specs.Entries.{Entry, entriesOf, flat, marksIn, readBack}
+use Rattle.clauses.proofs.Good.{namesOf, Sound, Fit, full-table, sound-table}
+use Rattle.clauses.proofs.Sizes.{flat-join}
 use Rattle.clauses.proofs.ReadBack.{reads-back}
 use Rattle.clause_table.specs.Table.{sizesOf, onTree, sizesIn}
 use Rattle.clause_table.proofs.Measure.{channels-few}
 use Rattle.clause_table.proofs.Call.{literals-are, clauses-are, variables-are}
+
+-- ---- the places of clauses
+
+clause-names : (X : ℕ → Type 0) (c : Clause) → All X (namesOf c) → All (λ (e : Entry). X (e .variable)) (entriesOf c)
+unfolding entriesOf
+clause-names X [] a = tt
+clause-names X (l ∷ []) a = (a .0, tt)
+clause-names X (l ∷ m ∷ c) a = (a .0, clause-names X (m ∷ c) (a .1))
+
+pub table-all : (P : Entry → Type 0) (T : List Clause) → All (λ c. All P (entriesOf c)) T → All P (flat T)
+unfolding flat flatMap
+table-all P [] a = tt
+table-all P (c ∷ T) a = all-append P (entriesOf c) (flat T) (a .0) (table-all P T (a .1))
 
 -- ---- what the clauses name
 
@@ -59,6 +73,18 @@ module _ (C k : ℕ) (f : Tree Formula) where
   pub table-sound : Letters C f → All (Sound (From 1 (variablesOf C k (nodesOf f 0)))) (clauseTable C k f)
   table-sound L =
       sound-table C k f inRange (all-map (Mentions C k (nodesOf f 0)) _ mentioned-fit (definitionsOf C k (nodesOf f 0)) (definitions-mention C k f L)) root-in-range
+
+  -- so is the variable of every place
+  pub places-named : Letters C f → All (λ (e : Entry). From 1 (variablesOf C k (nodesOf f 0)) (e .variable)) (flat (clauseTable C k f))
+  places-named L = table-all _ (clauseTable C k f) (all-map (Sound inRange) _ (λ c s. clause-names inRange c (s .named)) (clauseTable C k f) (table-sound L))
+
+  -- the root's place closes the table
+  pub last-mark : (m : List ℕ) × (marksIn (flat (clauseTable C k f)) ≡ m ++ 3 ∷ [])
+  unfolding clauseTable flat flatMap entriesOf
+  last-mark =
+      let S = clausesBy (definitionsOf C k (nodesOf f 0)) in
+      let root : List Clause = (plain (rootOf C k f) ∷ []) ∷ [] in
+      (marksIn (flat S), ap marksIn (flat-join S root) ∙ map-append (λ (e : Entry). e .mark) (flat S) (flat root))
 
   -- the places of the table tell its clauses
   pub table-reads-back : readBack (flat (clauseTable C k f)) ≡ clauseTable C k f

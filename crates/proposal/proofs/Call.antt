@@ -78,6 +78,12 @@ module _ (C k : ℕ) (f : Tree Formula) {T : NodeTable} (e : T ≡ tableOf (map 
 
 -- ---- the whole call
 
+-- the node table of an accepted text is a formula's
+pub table-for : (C k : ℕ) (t : List ℕ) (T : Tabled) → T ≡ tabledOf C k t → T .reply ≡ Yes → TableFor C (T .table)
+table-for C k t T e y =
+    let a = accepted C k t (accepts C k t T e y) in
+    record { root = a .root; letters = a .letters; is = table-is C k t T e y ∙ ap (λ (l : List Node). tableOf (map rowOf l)) (nodes-read t (a .root) (a .reads)) }
+
 module _ (C k : ℕ) (t A recording : List ℕ) where
   abbrev answer : Proposed
   answer = record { answer = Accepted; recording = over (recordingOf C k A) recording }
@@ -95,11 +101,6 @@ module _ (C k : ℕ) (t A recording : List ℕ) where
 
   -- once the formula is accepted
   module _ (T : Tabled) (e : T ≡ tabledOf C k t) (y : T .reply ≡ Yes) where
-    pub table-for : TableFor C (T .table)
-    table-for =
-        let a = accepted C k t (accepts C k t T e y) in
-        record { root = a .root; letters = a .letters; is = table-is C k t T e y ∙ ap (λ (l : List Node). tableOf (map rowOf l)) (nodes-read t (a .root) (a .reads)) }
-
     -- the reply to 12 to 14 and 18
     module _ {q : Reply} (g : (f : Tree Formula) → T .table ≡ tableOf (map rowOf (nodesOf f 0)) → q ≡ asked (checkQuestions C k f A (length recording)) No Yes) where
       reply-known : q ≡ asked later No Yes
@@ -107,7 +108,7 @@ module _ (C k : ℕ) (t A recording : List ℕ) where
       reply-known =
           let a = accepted C k t (accepts C k t T e y) in
           let f = a .root in
-          g f (table-for .is)
+          g f (table-for C k t T e y .is)
           ∙ ap (λ (l : List Node). asked (askAssignment (variablesOf C k l) A ∷ askValues A ∷ askClauses (valueIn A) 0 (clauseTable C k f) ∷ askPlaces k (length recording) ∷ []) No Yes) (sym (nodes-read t f (a .reads)))
           ∙ ap (λ (r : Read Formula). asked (askAssignment (variablesOf C k (nodesIn t)) A ∷ askValues A ∷ askClauses (valueIn A) 0 (onTree (clauseTable C k) r) ∷ askPlaces k (length recording) ∷ []) No Yes) (sym (a .reads))
 

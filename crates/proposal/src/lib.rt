@@ -142,7 +142,7 @@ fn recorded(assignment: &[u8], c: usize, t: usize) -> u8
 }
 
 // The recording, to all of `out`.
-fn put_recording(out: &mut [u8], assignment: &[u8], c: usize)
+pub fn put_recording(out: &mut [u8], assignment: &[u8], c: usize)
     requires { ⌜ (c ≤ maxChannels) × (length (now out) ≤ maxSteps) × (length (now out) * c ≤ length (now assignment)) ⌝ }
     ensures { λ _. ⌜ now (out .exit) ≡ recordingOf c (length (now (out .entry))) (now (assignment .entry)) ⌝ }
 {

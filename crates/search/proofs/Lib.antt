@@ -3,4 +3,6 @@ pub mod Outcome
 pub mod Ends
 pub mod Call
 pub mod Demand
+pub mod Drawn
+pub mod Arrays
 pub mod Edges

@@ -1,5 +1,6 @@
 -- Document 01, "First recording" and "Questions in order", 18: the order of recordings, the tree of a formula, and what the search answers
 -- and leaves in the recording's array.
+use mathlib.Core.Path.{_≡_}
 use mathlib.Core.Bool.{Bool, true, false, cond, _&&_}
 use mathlib.Core.List.{List, [], _∷_, _++_}
 use Prim.Native.Nat.{ℕ, _*_}
@@ -61,6 +62,16 @@ ended C k recording t =
 unfoldable pub limited : ℕ → ℕ → ℕ → List ℕ → Trial → Searched
 limited C k B recording t = cond (leb (t .tries) B) (ended C k recording t) (unwritten recording (Spent B))
 
+-- the lengths of the lent arrays
+abbrev pub lentOf : List ℕ → List ℕ → List ℕ → List ℕ → List ℕ → Lent
+lentOf variables marks values trail recording = record {
+  variables = length variables;
+  marks = length marks;
+  values = length values;
+  trail = length trail;
+  recording = length recording;
+}
+
 -- question 18: "Lent to the search: L variables, L marks, V value bytes, V places of 32 bits for a trail, k bytes for the recording."
 unfoldable pub askLent : ℕ → ℕ → ℕ → Lent → Reply
 askLent literals variables k n =
@@ -74,3 +85,7 @@ searchQuestions C k t n = formulaQuestions C k t ++ askLent (length (placesIn C 
 unfoldable pub searched : ℕ → ℕ → List ℕ → ℕ → Lent → List ℕ → Searched
 searched C k t B n recording =
     asked (searchQuestions C k t n) (λ r. unwritten recording (Refused r)) (limited C k B recording (treeIn C k t))
+
+-- a work array: "What the first four hold after a search is free"; a call that is refused is no search, and leaves it as it was
+abbrev pub Unchanged : Answer → List ℕ → List ℕ → Type 0
+Unchanged a before after = (r : Refusal) → a ≡ Refused r → after ≡ before

@@ -11,7 +11,7 @@ use Rattle.closure.specs.Tree.{clashes, Outcome, dead, found, Trial, trial, tri
 use Rattle.closure.specs.Runs.{Lowest, Run, clash, low, high}
 use Rattle.closure.proofs.Runs.{run-from, one-run}
 use Rattle.closing.specs.Values.{heldIn}
-use Rattle.tries.specs.Tries.{Overrun, CameTo, Alive, triesIn, counting, Started}
+use Rattle.tries.specs.Tries.{Overrun, CameTo, Alive, triesIn, counting, Result, Started}
 use Rattle.tries.specs.declared.Below.{Below}
 use Rattle.tries.specs.declared.Below.the-variants.{Dead, Found, Spent}
 
@@ -66,9 +66,12 @@ module _ (T : List Clause) (variables channels : ℕ) where
   tree-run r = one-run T variables channels r
 
   pub clash-started : (limit : ℕ) (values : List ℕ) → clashes variables (closure T nothing) ≡ true → Started T variables channels limit values (Dead 0)
-  clash-started limit values e = (tree-run (clash e), omega arith)
+  clash-started limit values e = record { result = (tree-run (clash e), omega arith) }
 
   pub started : (limit : ℕ) (v₀ values : List ℕ) (r : Below) → CameTo T variables channels (closure T nothing) limit v₀ values r → Started T variables channels limit values r
-  started limit v₀ values (Dead n) c = (tree-run (c .0), c .1)
-  started limit v₀ values (Found n) c = (tree-run (c .0), c .1)
-  started limit v₀ values Spent c = omega (arith, c .beyond, ap (λ (t : Trial). t .tries) (tree-run (c .run)))
+  started limit v₀ values r c = record { result = go r c }
+    where
+      go : (r : Below) → CameTo T variables channels (closure T nothing) limit v₀ values r → Result T variables channels limit values r
+      go (Dead n) c = (tree-run (c .0), c .1)
+      go (Found n) c = (tree-run (c .0), c .1)
+      go Spent c = omega (arith, c .beyond, ap (λ (t : Trial). t .tries) (tree-run (c .run)))

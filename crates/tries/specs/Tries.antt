@@ -68,7 +68,10 @@ pub record Came (variables marks : List ℕ) (channels : ℕ) (S : Literals) (li
   pub same : take top trail ≡ take top t₀
 
 -- what comes of the whole tree
-abbrev pub Started : List Clause → ℕ → ℕ → ℕ → List ℕ → Below → Type 0
-Started T variables channels limit values (Dead n) = (tree T variables channels ≡ trial dead n) × (n ≤ limit)
-Started T variables channels limit values (Found n) = (tree T variables channels ≡ trial (found (heldIn values)) n) × (n ≤ limit)
-Started T variables channels limit values Spent = limit < tree T variables channels .tries
+abbrev pub Result : List Clause → ℕ → ℕ → ℕ → List ℕ → Below → Type 0
+Result T variables channels limit values (Dead n) = (tree T variables channels ≡ trial dead n) × (n ≤ limit)
+Result T variables channels limit values (Found n) = (tree T variables channels ≡ trial (found (heldIn values)) n) × (n ≤ limit)
+Result T variables channels limit values Spent = limit < tree T variables channels .tries
+
+pub record Started (T : List Clause) (variables channels limit : ℕ) (values : List ℕ) (r : Below) : Type 0 where
+  pub result : Result T variables channels limit values r

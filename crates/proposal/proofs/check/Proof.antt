@@ -25,7 +25,7 @@ ask-proposal-requires : tie.Need-ask-proposal-requires
 ask-proposal-requires c κs = let e = c .before .before .before .node-table .ensures in
     let y = c .before .enum-told .given .1 in
     let l = limits _ _ _ _ e y in
-    (l .0, l .1, few-rows _ _ _ _ e y, table-for _ _ _ (c .before .before .before .before .before .before .before .args .assignment .now) (c .before .before .before .before .before .before .before .args .recording .now) _ e y)
+    (l .0, l .1, few-rows _ _ _ _ e y, table-for _ _ _ _ e y)
 
 enum-known-r : tie.Need-enum-known-r
 enum-known-r c = search needs

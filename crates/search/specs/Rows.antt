@@ -1,0 +1,19 @@
+-- What the code does with the node table of an accepted formula. No call open to others cites this.
+use mathlib.Core.List.{List, [], _∷_}
+use Prim.Native.Nat.{ℕ}
+use lib.ListN.{length}
+use Rattle.refusal.specs.Asked.{asked}
+use Rattle.grammar.specs.Trees.{Tree}
+use Rattle.grammar.specs.declared.Sort.the-variants.{Formula}
+use Rattle.formula.specs.Nodes.{nodesOf}
+use Rattle.circuit.specs.Circuit.{variablesOf}
+use Rattle.clauses.specs.Clauses.{clauseTable}
+use Rattle.clauses.specs.Entries.{flat}
+use Rattle.search.specs.Search.{treeOf, Searched, unwritten, limited, askLent}
+use Rattle.search.specs.declared.Answer.the-variants.{Refused}
+use Rattle.search.specs.declared.Lent.{Lent}
+
+-- question 18, and then the search
+unfoldable pub searchedBy : ℕ → ℕ → Tree Formula → ℕ → Lent → List ℕ → Searched
+searchedBy C k f B n recording =
+    asked (askLent (length (flat (clauseTable C k f))) (variablesOf C k (nodesOf f 0)) k n ∷ []) (λ r. unwritten recording (Refused r)) (limited C k B recording (treeOf C k f))
