@@ -8,6 +8,8 @@ use Rattle.clause_table.specs.declared.Written.{Written}
 use Rattle.clause_table.specs.declared.Written.the-variants as written
 use Rattle.assignments.specs.declared.Checked.{Checked}
 use Rattle.assignments.specs.declared.Checked.the-variants as checked
+use Rattle.search.specs.declared.Answer.{Answer}
+use Rattle.search.specs.declared.Answer.the-variants as answer
 use Rattle.nodes.specs.declared.Located.{Located}
 use Rattle.nodes.specs.declared.Located.the-variants as located
 
@@ -34,6 +36,13 @@ packWritten (written.Refused r) = packRefusal r
 unfoldable pub packChecked : Checked → ℕ
 packChecked checked.Accepted = packed 67 0
 packChecked (checked.Refused r) = packRefusal r
+
+-- the search: 68 for found, 69 for none, 70 for spent, each with its count
+unfoldable pub packAnswer : Answer → ℕ
+packAnswer (answer.Found n) = packed 68 n
+packAnswer (answer.None n) = packed 69 n
+packAnswer (answer.Spent n) = packed 70 n
+packAnswer (answer.Refused r) = packRefusal r
 
 -- a node's own text: 71, and its first byte + 256 · its length
 unfoldable pub packLocated : Located → ℕ

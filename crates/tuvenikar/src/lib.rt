@@ -5,6 +5,7 @@ use clause_table::Sizes;
 use clause_table::Written;
 use evaluator::Verdict;
 use nodes::Located;
+use search::Answer;
 ghost use mathlib.Core.Path.{_≡_};
 ghost use mathlib.Core.List.{[], _∷_};
 ghost use Rattle.evaluator.specs.Evaluation.{evaluated};
@@ -13,7 +14,8 @@ ghost use Rattle.clause_table.specs.Table.{tabled};
 ghost use Rattle.assignments.specs.Calls.{extended, proposed};
 ghost use Rattle.clause_file.specs.File.{sizesBy};
 ghost use Rattle.clause_file.specs.Calls.{fileWritten, fileRead};
-ghost use Rattle.tuvenikar.specs.Answers.{packed, packVerdict, packLocated, packWritten, packChecked};
+ghost use Rattle.search.specs.Search.{lentOf, searched, Unchanged};
+ghost use Rattle.tuvenikar.specs.Answers.{packed, packVerdict, packLocated, packWritten, packChecked, packAnswer};
 
 // What, and the place or the value above it.
 fn pack(code: u32, value: u32) -> u64
@@ -60,6 +62,18 @@ fn pack_checked(a: Checked) -> u64
     match a {
         Checked::Accepted => pack(67, 0),
         Checked::Refused(r) => pack(r.number, r.place),
+    }
+}
+
+// Found, none or spent with the count, or the refusal's number and place.
+fn pack_answer(a: Answer) -> u64
+    ensures { λ r. ⌜ r ≡ packAnswer a ⌝ }
+{
+    match a {
+        Answer::Found(n) => pack(68, n),
+        Answer::None(n) => pack(69, n),
+        Answer::Spent(n) => pack(70, n),
+        Answer::Refused(r) => pack(r.number, r.place),
     }
 }
 
@@ -125,6 +139,37 @@ pub extern "C" fn tuv_check(
     ensures { λ r. ⌜ now (recording .exit) ≡ proposed c k (now (text .entry)) (now (assignment .entry)) (now (recording .entry)) .recording ⌝ }
 {
     pack_checked(proposal::check(text, c, k, assignment, recording))
+}
+
+// The first recording that satisfies the formula, within a limit of tries: questions 1 to 7 and 18.
+#[no_mangle]
+pub extern "C" fn tuv_search(
+    text: &[u8],
+    c: u32,
+    k: u32,
+    limit: u32,
+    variables: &mut [u32],
+    marks: &mut [u8],
+    values: &mut [u8],
+    trail: &mut [u32],
+    recording: &mut [u8],
+) -> u64
+    ensures { λ r. ⌜ r ≡ packAnswer (searched c k (now (text .entry)) limit (lentOf (now (variables .entry)) (now (marks .entry)) (now (values .entry)) (now (trail .entry)) (now (recording .entry))) (now (recording .entry)) .answer) ⌝ }
+    ensures { λ r. ⌜ now (recording .exit) ≡ searched c k (now (text .entry)) limit (lentOf (now (variables .entry)) (now (marks .entry)) (now (values .entry)) (now (trail .entry)) (now (recording .entry))) (now (recording .entry)) .recording ⌝ }
+    ensures { λ r. ⌜ Unchanged (searched c k (now (text .entry)) limit (lentOf (now (variables .entry)) (now (marks .entry)) (now (values .entry)) (now (trail .entry)) (now (recording .entry))) (now (recording .entry)) .answer) (now (variables .entry)) (now (variables .exit)) × Unchanged (searched c k (now (text .entry)) limit (lentOf (now (variables .entry)) (now (marks .entry)) (now (values .entry)) (now (trail .entry)) (now (recording .entry))) (now (recording .entry)) .answer) (now (marks .entry)) (now (marks .exit)) ⌝ }
+    ensures { λ r. ⌜ Unchanged (searched c k (now (text .entry)) limit (lentOf (now (variables .entry)) (now (marks .entry)) (now (values .entry)) (now (trail .entry)) (now (recording .entry))) (now (recording .entry)) .answer) (now (values .entry)) (now (values .exit)) × Unchanged (searched c k (now (text .entry)) limit (lentOf (now (variables .entry)) (now (marks .entry)) (now (values .entry)) (now (trail .entry)) (now (recording .entry))) (now (recording .entry)) .answer) (now (trail .entry)) (now (trail .exit)) ⌝ }
+{
+    pack_answer(search::search(
+        text,
+        c,
+        k,
+        limit,
+        variables,
+        marks,
+        values,
+        trail,
+        recording,
+    ))
 }
 
 // A table's file, from its five sizes and its two arrays: questions 15 to 18.
