@@ -9,8 +9,9 @@ use crate::table::{table, Table};
 pub struct Search {
     /// How many variables, marks, values, places of the trail and bytes of the recording.
     pub needs: [usize; 5],
-    /// Unknown where N is above the most tries that were made.
+    /// Unknown where it takes more tries than the most that were made.
     pub outcome: Option<Outcome>,
+    most: u32,
 }
 
 pub struct Outcome {
@@ -25,7 +26,7 @@ impl Search {
     pub fn new(text: &[u8], c: u32, k: u32, most: u32) -> Result<Self, Refusal> {
         let table = table(text, c, k)?;
         let (v, l) = (table.sizes[2] as usize, table.sizes[4] as usize);
-        Ok(Search { needs: [l, l, v, v, k as usize], outcome: outcome(&table, most) })
+        Ok(Search { needs: [l, l, v, v, k as usize], outcome: outcome(&table, most), most })
     }
 
     /// What a call should come to, given its limit and the lengths of its five arrays.
@@ -35,6 +36,7 @@ impl Search {
     }
 
     fn within(&self, limit: u32) -> Wanted {
+        assert!(self.outcome.is_some() || limit <= self.most, "whether N is above {limit} is unknown");
         match &self.outcome {
             Some(Outcome { recording, tries }) if *tries <= limit => match recording {
                 Some(recording) => Wanted { answer: (68, *tries), written: Written::Recording(recording.clone()) },

@@ -8,14 +8,14 @@ use crate::cases::{self, around, channels, chops, formula, levels, Case, Dice, F
 use crate::counts::counts;
 use crate::lent::Wanted;
 use crate::reference::{packed, Refusal};
-use crate::search::{first_of_all, Search};
+use crate::search::{first_of_all, Outcome, Search};
 
 pub const SEARCH: &str = "search";
 
 pub const SEARCH_FAMILIES: [Family<SearchCase>; 8] = [
-    Family { name: "searches with limits about N", cases: 120_000, draw: limits_about_n },
-    Family { name: "searches for several formulas at once", cases: 30_000, draw: several_at_once },
-    Family { name: "searches for opposed formulas", cases: 40_000, draw: opposed_formulas },
+    Family { name: "searches for one formula", cases: 120_000, draw: |dice| limits_about_n(dice, MOST_TRIED, any_formula) },
+    Family { name: "searches for several at once", cases: 30_000, draw: |dice| limits_about_n(dice, MOST_TRIED, several) },
+    Family { name: "searches for opposed formulas", cases: 40_000, draw: |dice| limits_about_n(dice, 8, opposed) },
     Family { name: "searches with many tries", cases: 1_500, draw: many_tries },
     Family { name: "searches in arrays of all lengths", cases: 100_000, draw: all_lengths },
     Family { name: "searches in arrays too short, in all sets", cases: 60_000, draw: sets_of_short_arrays },
@@ -58,31 +58,24 @@ impl fmt::Display for SearchCase {
     }
 }
 
-/// Where every recording can be tried.
-const FEW_CHANNEL_VARIABLES: u32 = 12;
-/// Where the second implementation makes many tries in little time.
+/// So many channel variables, that every recording can be tried.
+const MOST_TRIED: u32 = 12;
+/// So many literals, that the second implementation takes many tries in little time.
 const FEW_LITERALS: u64 = 4_000;
+
+/// Writes a formula for C and k.
+type Author = fn(&mut Dice, u32, u32) -> Vec<u8>;
 
 impl Exercise {
     /// With so many tries at most by the second implementation, which is at one with itself: what it finds is the first of all
     /// recordings that satisfy the formula.
     pub fn new(text: Vec<u8>, c: u32, k: u32, most: u32) -> Rc<Self> {
         let exercise = Exercise { search: Search::new(&text, c, k, most), text, c, k };
-        if let Some((recording, _)) = exercise.outcome().filter(|_| c * k <= FEW_CHANNEL_VARIABLES) {
+        if let Some(outcome) = exercise.outcome().filter(|_| c * k <= MOST_TRIED) {
             let first = first_of_all(&exercise.text, c, k);
-            assert_eq!(recording, &first, "for '{}', C {c}, k {k}", exercise.text.escape_ascii());
+            assert_eq!(outcome.recording, first, "for '{}', C {c}, k {k}", exercise.text.escape_ascii());
         }
         Rc::new(exercise)
-    }
-
-    fn outcome(&self) -> Option<(&Option<Vec<u8>>, u32)> {
-        let outcome = self.search.as_ref().ok()?.outcome.as_ref()?;
-        Some((&outcome.recording, outcome.tries))
-    }
-
-    /// N where it is known.
-    fn tries(&self) -> u32 {
-        self.outcome().map_or(1, |(_, tries)| tries)
     }
 
     /// Whose N is known, whatever it is.
@@ -92,21 +85,29 @@ impl Exercise {
 
     /// Of so few channel variables and literals that N is found at once, unless the text is refused.
     fn small(text: Vec<u8>, c: u32, k: u32) -> Option<Rc<Self>> {
-        let is_small = |[_, _, l]: [u64; 3]| c * k <= FEW_CHANNEL_VARIABLES && l <= FEW_LITERALS;
+        let is_small = |[_, _, l]: [u64; 3]| c * k <= MOST_TRIED && l <= FEW_LITERALS;
         counts(&text, c, k).map_or(true, |counts| is_small(counts.0)).then(|| Exercise::whole(text, c, k))
     }
 
     /// With so many channel variables at most. Most of those that need no try are passed over.
-    fn draw(dice: &mut Dice, most: u32, author: fn(&mut Dice, u32, u32) -> Vec<u8>) -> Rc<Self> {
+    fn draw(dice: &mut Dice, most: u32, author: Author) -> Rc<Self> {
         loop {
             let c = channels(dice);
             let k = dice.from(0, (most / c) as usize) as u32;
-            let text = author(dice, c, k);
-            match Exercise::small(text, c, k) {
-                Some(exercise) if exercise.tries() > 0 || dice.one_in(25) => return exercise,
-                _ => {}
+            let small = Exercise::small(author(dice, c, k), c, k);
+            if let Some(exercise) = small.filter(|exercise| exercise.tries() > 0 || dice.one_in(25)) {
+                return exercise;
             }
         }
+    }
+
+    fn outcome(&self) -> Option<&Outcome> {
+        self.search.as_ref().ok()?.outcome.as_ref()
+    }
+
+    /// N, if it is known.
+    fn tries(&self) -> u32 {
+        self.outcome().map_or(0, |outcome| outcome.tries)
     }
 
     /// For a refused text nobody knows what it needs.
@@ -173,8 +174,7 @@ fn several(dice: &mut Dice, c: u32, k: u32) -> Vec<u8> {
 
 /// So many instants of S and so many without that there are just enough of them, or one too few.
 fn counted(dice: &mut Dice, c: u32, k: u32) -> Vec<u8> {
-    let state = dice.pick(&["a", "!a", "(a|b)", "(a&!b)"]);
-    let state = if c == 1 { "a" } else { state };
+    let state = if c == 1 { "a" } else { dice.pick(&["a", "!a", "(a|b)", "(a&!b)"]) };
     let high = dice.from(0, k as usize);
     let low = k as usize - high + dice.from(0, 1);
     format!("(#{state}>={high}&#!{state}>={low})").into()
@@ -182,25 +182,15 @@ fn counted(dice: &mut Dice, c: u32, k: u32) -> Vec<u8> {
 
 /// As many tries as there are.
 pub fn without_limit(dice: &mut Dice) -> SearchCase {
-    let exercise = Exercise::draw(dice, FEW_CHANNEL_VARIABLES, several);
+    let exercise = Exercise::draw(dice, MOST_TRIED, several);
     let needs = exercise.needs();
     case(dice, &exercise, u32::MAX, needs)
 }
 
 // Families
 
-fn limits_about_n(dice: &mut Dice) -> Vec<SearchCase> {
-    let exercise = Exercise::draw(dice, FEW_CHANNEL_VARIABLES, any_formula);
-    under_limits(dice, &exercise, &limits(&exercise))
-}
-
-fn several_at_once(dice: &mut Dice) -> Vec<SearchCase> {
-    let exercise = Exercise::draw(dice, FEW_CHANNEL_VARIABLES, several);
-    under_limits(dice, &exercise, &limits(&exercise))
-}
-
-fn opposed_formulas(dice: &mut Dice) -> Vec<SearchCase> {
-    let exercise = Exercise::draw(dice, 8, opposed);
+fn limits_about_n(dice: &mut Dice, most: u32, author: Author) -> Vec<SearchCase> {
+    let exercise = Exercise::draw(dice, most, author);
     under_limits(dice, &exercise, &limits(&exercise))
 }
 
@@ -235,7 +225,7 @@ fn all_lengths(dice: &mut Dice) -> Vec<SearchCase> {
 
 /// A place less in each of the arrays of a set, and in the others what is needed or more.
 fn sets_of_short_arrays(dice: &mut Dice) -> Vec<SearchCase> {
-    let exercise = Exercise::draw(dice, FEW_CHANNEL_VARIABLES, several);
+    let exercise = Exercise::draw(dice, MOST_TRIED, several);
     let (needs, limits) = (exercise.needs(), limits(&exercise));
     let in_set = |set: usize| {
         let lengths = [0, 1, 2, 3, 4].map(|at| match set >> at & 1 {
@@ -261,10 +251,10 @@ fn large_tables(dice: &mut Dice) -> Vec<SearchCase> {
 fn other_texts(dice: &mut Dice) -> Vec<SearchCase> {
     let family = dice.pick(&[cases::near_limits, cases::damaged_texts, cases::random_bytes, cases::odd_arguments]);
     let exercises = family(dice).into_iter().filter_map(|Case { text, c, k, .. }| Exercise::small(text, c, k));
-    let mut in_some_room = |exercise: Rc<Exercise>| {
+    let in_some_room = |exercise: Rc<Exercise>| {
         let lengths = exercise.needs().map(|need| dice.pick(&around(need)));
         let limit = dice.pick(&limits(&exercise));
         [lengths, exercise.needs()].map(|lengths| case(dice, &exercise, limit, lengths))
     };
-    exercises.collect::<Vec<_>>().into_iter().flat_map(&mut in_some_room).collect()
+    exercises.flat_map(in_some_room).collect()
 }

@@ -1,6 +1,7 @@
 //! The archive's search, on memory that is lent.
 
 use crate::cases::Dice;
+use crate::engine::TEXT_ROOM;
 use crate::fault;
 use crate::fence::{vast, Fence, Output, Side};
 use crate::lent::{fill, lend, start, unpacked, wrong_answer, wrong_answers, wrong_places, Wanted, TABLE_ROOM};
@@ -26,6 +27,9 @@ extern "C" {
         recording_length: usize,
     ) -> u64;
 }
+
+/// More bytes than any recording has that is tried.
+const RECORDING_ROOM: usize = 1 << 12;
 
 /// What the arrays that a search works in hold before it: it must not matter.
 #[derive(Clone, Copy)]
@@ -84,12 +88,12 @@ impl Work<'_> {
 impl SearchEngine {
     pub fn new() -> Self {
         SearchEngine {
-            text: Fence::new(1 << 16),
+            text: Fence::new(TEXT_ROOM),
             variables: Output::new(TABLE_ROOM),
             marks: Output::new(TABLE_ROOM),
             values: Output::new(TABLE_ROOM),
             trail: Output::new(TABLE_ROOM),
-            recording: Output::new(1 << 16),
+            recording: Output::new(RECORDING_ROOM),
         }
     }
 
