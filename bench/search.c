@@ -5,7 +5,9 @@
 #include "timing.h"
 #include "tuvenikar.h"
 
+#include <errno.h>
 #include <fcntl.h>
+#include <spawn.h>
 #include <stdbool.h>
 #include <stdio.h>
 #include <stdlib.h>
@@ -88,20 +90,22 @@ static uint64_t search(const struct line *line)
                       TUV_MOST_LITERALS, values, TUV_MOST_VARIABLES, trail, TUV_MOST_VARIABLES, recording, sizeof recording);
 }
 
-/* The status with which a solver ends. What it writes is left unread. */
+/* The status with which a solver ends. What it writes is left unread. It is spawned, since a fork would copy this process, at the
+ * solver's expense. */
 static uint64_t solve(const struct solver *solver)
 {
+    extern char **environ;
+    posix_spawn_file_actions_t quietly;
+    pid_t process;
     int status;
-    pid_t process = fork();
-    if (process == 0) {
-        int nowhere = open("/dev/null", O_WRONLY);
-        dup2(nowhere, STDOUT_FILENO);
-        dup2(nowhere, STDERR_FILENO);
-        execvp(solver->command[0], (char *const *)solver->command);
-        _exit(NOT_INSTALLED);
-    }
-    if (process < 0 || waitpid(process, &status, 0) != process || !WIFEXITED(status)) {
-        fprintf(stderr, "bench: %s did not end by itself\n", solver->name);
+    posix_spawn_file_actions_init(&quietly);
+    posix_spawn_file_actions_addopen(&quietly, STDOUT_FILENO, "/dev/null", O_WRONLY, 0);
+    int failure = posix_spawnp(&process, solver->name, &quietly, NULL, (char *const *)solver->command, environ);
+    posix_spawn_file_actions_destroy(&quietly);
+    if (failure == ENOENT)
+        return NOT_INSTALLED;
+    if (failure != 0 || waitpid(process, &status, 0) != process || !WIFEXITED(status)) {
+        fprintf(stderr, "bench: %s did not run to its end\n", solver->name);
         exit(1);
     }
     return (uint64_t)WEXITSTATUS(status);

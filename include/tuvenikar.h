@@ -166,8 +166,9 @@ uint64_t tuv_check(const uint8_t *text, size_t text_length, uint32_t c, uint32_t
 /* Which is the first recording of k steps of which the formula holds? (Of two recordings the one comes first that is low where
  * they first differ, instant by instant and within an instant from channel a on. So everything happens as late as it can.)
  * A try sets one channel at one instant, the first that is still open, low and, where nothing is found below that, high; what
- * then follows from the clauses is no try. Their number depends on the formula, c and k alone, and doubles with every sample that
- * the formula says nothing about and that is tried in vain: the limit is what keeps a student from waiting.
+ * then follows from the clauses is no try. Their number depends on the formula, c and k alone. It grows fast with channels that
+ * the formula does not speak of, since each sample of theirs may be tried both ways in vain; the limit keeps a student from
+ * waiting.
  * Lent:    the text; the limit, how many tries are allowed, 0 to 4,294,967,295; to work in, variables and marks, a place each for
  *          every literal of the table, values and trail, a place each for every variable; the recording, k places.
  *          What tuv_table writes says how many that are, TUV_L and TUV_V; TUV_MOST_LITERALS and TUV_MOST_VARIABLES places are
