@@ -13,7 +13,7 @@ use crate::search::{first_of_all, Outcome, Search};
 pub const SEARCH: &str = "search";
 
 pub const SEARCH_FAMILIES: [Family<SearchCase>; 8] = [
-    Family { name: "searches for one formula", cases: 120_000, draw: |dice| limits_about_n(dice, MOST_TRIED, any_formula) },
+    Family { name: "searches for one formula", cases: 126_000, draw: |dice| limits_about_n(dice, MOST_TRIED, any_formula) },
     Family { name: "searches for several at once", cases: 30_000, draw: |dice| limits_about_n(dice, MOST_TRIED, several) },
     Family { name: "searches for opposed formulas", cases: 40_000, draw: |dice| limits_about_n(dice, 8, opposed) },
     Family { name: "searches with many tries", cases: 1_500, draw: many_tries },
@@ -120,11 +120,12 @@ fn case(dice: &mut Dice, exercise: &Rc<Exercise>, limit: u32, lengths: [usize; 5
     SearchCase { exercise: exercise.clone(), limit, lengths, before: dice.next() }
 }
 
-/// N, its neighbours, and the ends of what a limit can be.
-fn limits(exercise: &Exercise) -> Vec<u32> {
+/// N, its neighbours, the ends of what a limit can be, and one that would be 0 if it had fewer bits.
+fn limits(dice: &mut Dice, exercise: &Exercise) -> Vec<u32> {
     let tries = exercise.tries();
     let mut limits = vec![0, tries.saturating_sub(1), tries, tries.saturating_add(1), u32::MAX];
     limits.dedup();
+    limits.push(dice.pick(&[1 << 8, 1 << 16, 1 << 24, 1 << 31]));
     limits
 }
 
@@ -191,7 +192,8 @@ pub fn without_limit(dice: &mut Dice) -> SearchCase {
 
 fn limits_about_n(dice: &mut Dice, most: u32, author: Author) -> Vec<SearchCase> {
     let exercise = Exercise::draw(dice, most, author);
-    under_limits(dice, &exercise, &limits(&exercise))
+    let limits = limits(dice, &exercise);
+    under_limits(dice, &exercise, &limits)
 }
 
 /// Some limit below N too.
@@ -199,14 +201,14 @@ fn many_tries(dice: &mut Dice) -> Vec<SearchCase> {
     let (c, k) = dice.pick(&[(1, 8), (1, 9), (1, 10), (1, 11), (2, 4), (2, 5), (3, 3), (4, 3)]);
     let exercise = Exercise::whole(counted(dice, c, k), c, k);
     let below = dice.from(0, exercise.tries() as usize) as u32;
-    let limits = [limits(&exercise), vec![below]].concat();
+    let limits = [limits(dice, &exercise), vec![below]].concat();
     under_limits(dice, &exercise, &limits)
 }
 
 /// Each array alone of other lengths, and all of them longer.
 fn all_lengths(dice: &mut Dice) -> Vec<SearchCase> {
     let exercise = Exercise::draw(dice, 8, opposed);
-    let (needs, limits) = (exercise.needs(), limits(&exercise));
+    let (needs, limits) = (exercise.needs(), limits(dice, &exercise));
     let alone = |at: usize| {
         around(needs[at]).map(move |length| {
             let mut lengths = needs;
@@ -226,7 +228,7 @@ fn all_lengths(dice: &mut Dice) -> Vec<SearchCase> {
 /// A place less in each of the arrays of a set, and in the others what is needed or more.
 fn sets_of_short_arrays(dice: &mut Dice) -> Vec<SearchCase> {
     let exercise = Exercise::draw(dice, MOST_TRIED, several);
-    let (needs, limits) = (exercise.needs(), limits(&exercise));
+    let (needs, limits) = (exercise.needs(), limits(dice, &exercise));
     let in_set = |set: usize| {
         let lengths = [0, 1, 2, 3, 4].map(|at| match set >> at & 1 {
             1 => needs[at].saturating_sub(1),
@@ -253,7 +255,8 @@ fn other_texts(dice: &mut Dice) -> Vec<SearchCase> {
     let exercises = family(dice).into_iter().filter_map(|Case { text, c, k, .. }| Exercise::small(text, c, k));
     let in_some_room = |exercise: Rc<Exercise>| {
         let lengths = exercise.needs().map(|need| dice.pick(&around(need)));
-        let limit = dice.pick(&limits(&exercise));
+        let limits = limits(dice, &exercise);
+        let limit = dice.pick(&limits);
         [lengths, exercise.needs()].map(|lengths| case(dice, &exercise, limit, lengths))
     };
     exercises.flat_map(in_some_room).collect()

@@ -9,7 +9,8 @@ use crate::search_cases::{Exercise, SearchCase};
 type Tried = (String, SearchCase, Wanted);
 
 pub fn search_edges() -> Vec<Tried> {
-    [papers(), wrong_turns(), counts_of_tries(), longest(), short_arrays(), refused_texts()].into_iter().flatten().collect()
+    let edges = [papers(), wrong_turns(), counts_of_tries(), wide_limits(), longest(), short_arrays(), refused_texts()];
+    edges.into_iter().flatten().collect()
 }
 
 /// In arrays of what is needed and so much more.
@@ -65,16 +66,25 @@ fn wrong_turns() -> Vec<Tried> {
     edges.into_iter().flatten().collect()
 }
 
-/// Of k instants half are high, and more than half are low: each try ends where the one or the other can no longer be reached,
-/// and there are C(k, k / 2) - 2. In the last, two highs or 29 lows end a try: 2 (C(31, 2) - 1).
 fn counts_of_tries() -> Vec<Tried> {
     let edges = [
+        // Of k instants half are high, and more than half are low: a try is dead where the one or the other can no longer be
+        // reached, and there are C(k, k / 2) - 2.
         none("(#a>=1&#!a>=2)", 1, 2, 0),
         none("(#a>=6&#!a>=7)", 1, 12, 922),
         vec![search("(#a>=8&#!a>=9)", 1, 16, 12_868, [0; 5], (69, 12_868).into())],
+        // Dead with two highs or 29 lows: 2 (C(31, 2) - 1).
         none("(#a>=3&!#a>=3)", 1, 32, 928),
+        // Dead with h high once or low twice, and at either instant every way to set the seven others: (2^7 + 1) (2^9 - 2).
+        none("(#h>=2&!#h>=2)", 8, 4, 65_790),
     ];
     edges.into_iter().flatten().collect()
+}
+
+/// A limit has 32 bits, also where the lower ones are 0.
+fn wide_limits() -> Vec<Tried> {
+    let found = || Wanted { answer: (68, 1), written: Written::Recording(vec![2]) };
+    [8, 16, 24, 31].map(|bits| search("(#a>=1|#b>=1)", 2, 1, 1 << bits, [0; 5], found())).into_iter().collect()
 }
 
 /// The most steps and channels, and the most literals. The last has more tries than anyone waits for.
