@@ -165,7 +165,7 @@ static void refused_bytes(bytes_to_bytes *call, const char *text, uint32_t c, ui
     convert(call, text, c, k, bytes, room, code, value, &no_bytes);
 }
 
-/* How long the arrays are that are lent to a search, and how it ends. */
+/* How long the arrays are that are lent to a search. */
 struct room {
     size_t variables, marks, values, trail, recording;
 };
@@ -372,6 +372,21 @@ static void searches(void)
     for (size_t x = 0; x < sizeof too_short / sizeof *too_short; x++)
         refused_search("(#a>=1|#b>=1)", 2, 1, &too_short[x], TUV_ROOM, 0);
     refused_search("F", 1, 0, &(struct room){2, 2, 1, 0, 0}, TUV_ROOM, 0);
+}
+
+/* Tries that are dead: what they set is gone, and they count. */
+static void dead_tries(void)
+{
+    static const struct room room = {356, 356, 91, 91, 2};
+    static const struct bytes a_late = {2, {0, 1}};
+    static const char a_or_not_b[] = "((#a>=1|#b>=1)&(#a>=1|!#b>=1))";
+    static const char no_way[] = "(((#a>=1|#b>=1)&(#a>=1|!#b>=1))&((!#a>=1|#b>=1)&(!#a>=1|!#b>=1)))";
+
+    search(a_or_not_b, 2, 1, 3, &room, TUV_FOUND, 3, &high);
+    search(a_or_not_b, 2, 1, 2, &room, TUV_SPENT, 2, &no_bytes);
+    search(no_way, 2, 1, 2, &room, TUV_NONE, 2, &no_bytes);
+    search(no_way, 2, 1, 1, &room, TUV_SPENT, 1, &no_bytes);
+    search("(#a>=1|#b>=2)", 2, 2, 3, &room, TUV_FOUND, 3, &a_late);
 }
 
 /* The key that draws: one search after another in arrays that firmware has once and for all, and what is drawn is judged. */
@@ -655,6 +670,7 @@ int main(void)
     checks();
     recording_to_assignment_to_recording();
     searches();
+    dead_tries();
     searches_in_turn();
     largest_table();
     table_to_file_to_table();
