@@ -1,5 +1,6 @@
 /* Times the engine's search beside solvers on the same tables, and prints one table. Before a line is timed, the solvers must
- * have a model exactly where the engine finds a recording, and this must satisfy the formula; the status is 1 where it is not so. */
+ * have a model exactly where the engine finds a recording, and this must satisfy the formula; the status is 1 where that is not
+ * so. */
 #include "exercises.h"
 #include "plain/plain.h"
 #include "timing.h"
@@ -136,7 +137,7 @@ static uint32_t write_table(const struct line *line)
     return sizes[TUV_L];
 }
 
-/* Allows four times as many tries until they are enough, or the search takes a second: the last one takes some seconds at most. */
+/* Allows four times as many tries until they are enough or take a second, so that the last search takes some seconds at most. */
 static uint64_t search_within_seconds(const struct line *line)
 {
     for (limit = FIRST_LIMIT;; limit *= 4) {
@@ -163,7 +164,8 @@ static void compare(const struct line *line, uint32_t code)
     }
     if (same)
         return;
-    fprintf(stderr, "bench: search for %s at k %u: the engine answers %u, and it is not so\n", line->exercise.name, line->k, code);
+    fprintf(stderr, "bench: search for %s at k %u: the engine answers %u, and that is not so\n", line->exercise.name, line->k,
+            code);
     exit(1);
 }
 
@@ -198,10 +200,11 @@ static void find_solvers(void)
 int main(void)
 {
     find_solvers();
-    puts("The engine: milliseconds of one call in the best round, and tries a second in it. The call writes the table, finds the first");
-    puts("recording and counts the tries; spent where a limit ended it. Ratios: the engine's time to a solver's, the medians over");
-    puts("rounds in turn, + where the engine's would be longer. A solver's time is its process's, from start to end: it reads the same");
-    puts("table as a file, which is written before, and finds any model, not the first, and no count. All times are the processor's.");
+    puts("The engine: milliseconds of one call in the best round, and tries a second in it. The call writes the table, finds the");
+    puts("first recording and counts the tries; spent where a limit ended it. Ratios: the engine's time to a solver's, the medians");
+    puts("over rounds in turn, + where the engine's would be longer. A solver's time is its process's, from start to end: it reads");
+    puts("the same table as a file, which is written before, and finds any model, not the first, and no count. All times are the");
+    puts("processor's.");
     printf("%-18s  %s  %2s  %8s  %-5s  %7s  %9s  %9s", "formula", "C", "k", "literals", "", "tries", "ms", "tries/s");
     for (uint32_t s = 0; s < solvers; s++)
         printf(" %8s  ", installed[s]->name);

@@ -7,9 +7,9 @@
 #include <string.h>
 
 _Static_assert(TUV_NO == 64 && TUV_YES == 65 && TUV_WRITTEN == 66 && TUV_ACCEPTED == 67 && TUV_FOUND == 68 && TUV_NONE == 69 &&
-                   TUV_SPENT == 70 && TUV_NODE_TEXT == 71 && TUV_ASSIGNMENT_LENGTH == 12 && TUV_ASSIGNMENT == 13 && TUV_CLAUSE == 14 && TUV_FILE_LENGTH == 15 &&
-                   TUV_FILE_NUMBERS == 16 && TUV_FILE_CLAUSES == 17 && TUV_ROOM == 18 && TUV_SIZES == 5 && TUV_PLAIN == 1 &&
-                   TUV_CLOSING == 2,
+                   TUV_SPENT == 70 && TUV_NODE_TEXT == 71 && TUV_ASSIGNMENT_LENGTH == 12 && TUV_ASSIGNMENT == 13 &&
+                   TUV_CLAUSE == 14 && TUV_FILE_LENGTH == 15 && TUV_FILE_NUMBERS == 16 && TUV_FILE_CLAUSES == 17 &&
+                   TUV_ROOM == 18 && TUV_SIZES == 5 && TUV_PLAIN == 1 && TUV_CLOSING == 2,
                "the numbers that firmware in the field is built with");
 _Static_assert(TUV_FILE_BYTES(21) == 125 && TUV_FILE_BYTES(UINT32_MAX) == 21474836495, "the bytes of a file, of the longest too");
 
