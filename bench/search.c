@@ -67,7 +67,7 @@ struct solver {
     const char *name, *command[5];
 };
 
-enum { FIRST_LIMIT = 16 };
+enum { FIRST_LIMIT = 16, MOST_SECONDS = 10 };
 enum { SATISFIABLE = 10, UNSATISFIABLE = 20, NOT_INSTALLED = 127 };
 
 static const struct solver SOLVERS[] = {
@@ -137,13 +137,13 @@ static uint32_t write_table(const struct line *line)
     return sizes[TUV_L];
 }
 
-/* Allows four times as many tries until they are enough or take a second, so that the last search takes some seconds at most. */
+/* Allows four times as many tries, until they are enough or four times as many would take more than ten seconds. */
 static uint64_t search_within_seconds(const struct line *line)
 {
     for (limit = FIRST_LIMIT;; limit *= 4) {
         double start = seconds_used();
         uint64_t answer = search(line);
-        if (tuv_code(answer) != TUV_SPENT || seconds_used() - start > 1 || limit > UINT32_MAX / 4)
+        if (tuv_code(answer) != TUV_SPENT || 4 * (seconds_used() - start) > MOST_SECONDS || limit > UINT32_MAX / 4)
             return answer;
     }
 }
@@ -200,11 +200,11 @@ static void find_solvers(void)
 int main(void)
 {
     find_solvers();
-    puts("The engine: milliseconds of one call in the best round, and tries a second in it. The call writes the table, finds the");
-    puts("first recording and counts the tries; spent where a limit ended it. Ratios: the engine's time to a solver's, the medians");
-    puts("over rounds in turn, + where the engine's would be longer. A solver's time is its process's, from start to end: it reads");
-    puts("the same table as a file, which is written before, and finds any model, not the first, and no count. All times are the");
-    puts("processor's.");
+    puts("The engine: milliseconds of one call in the best round, and tries a second in it. The call writes the table, finds");
+    puts("the first recording and counts the tries; spent where a limit ended it. Ratios: the engine's time to a solver's, the");
+    puts("medians over rounds in turn, + where the engine's would be longer. A solver's time is its process's, from start to end:");
+    puts("it reads the same table as a file, which is written before, and finds any model, not the first, and no count. All");
+    puts("times are the processor's.");
     printf("%-18s  %s  %2s  %8s  %-5s  %7s  %9s  %9s", "formula", "C", "k", "literals", "", "tries", "ms", "tries/s");
     for (uint32_t s = 0; s < solvers; s++)
         printf(" %8s  ", installed[s]->name);
