@@ -202,9 +202,9 @@ int main(void)
     find_solvers();
     puts("The engine: milliseconds of one call in the best round, and tries a second in it. The call writes the table, finds");
     puts("the first recording and counts the tries; spent where a limit ended it. Ratios: the engine's time to a solver's, the");
-    puts("medians over rounds in turn, + where the engine's would be longer. A solver's time is its process's, from start to end:");
-    puts("it reads the same table as a file, which is written before, and finds any model, not the first, and no count. All");
-    puts("times are the processor's.");
+    puts("medians over rounds in turn, + where the engine's would be longer. A solver's time is its process's, from start to");
+    puts("end: it reads the same table as a file, which is written before, and finds any model, not the first, and no count.");
+    puts("All times are the processor's.");
     printf("%-18s  %s  %2s  %8s  %-5s  %7s  %9s  %9s", "formula", "C", "k", "literals", "", "tries", "ms", "tries/s");
     for (uint32_t s = 0; s < solvers; s++)
         printf(" %8s  ", installed[s]->name);
