@@ -2,10 +2,11 @@
 
 #include <stdio.h>
 #include <stdlib.h>
+#include <sys/resource.h>
 #include <time.h>
 
 enum { FEWEST_ROUNDS = 9, MOST_ROUNDS = 4000 };
-static const double LINE_SECONDS = 0.9, BATCH_SECONDS = 0.0003;
+static const double LINE_SECONDS = 0.9, LONG_LINE_SECONDS = 5, BATCH_SECONDS = 0.0003;
 
 static double seconds_by(clockid_t clock)
 {
@@ -14,15 +15,24 @@ static double seconds_by(clockid_t clock)
     return (double)t.tv_sec + 1e-9 * (double)t.tv_nsec;
 }
 
+double seconds_used(void)
+{
+    struct rusage children;
+    getrusage(RUSAGE_CHILDREN, &children);
+    const struct timeval *user = &children.ru_utime, *system = &children.ru_stime;
+    return seconds_by(CLOCK_THREAD_CPUTIME_ID) + (double)(user->tv_sec + system->tv_sec) +
+           1e-6 * (double)(user->tv_usec + system->tv_usec);
+}
+
 /* Seconds of one asking, over a batch of `times`. The processor's seconds: turns that other programs take on it would fall on
  * the slower of the contestants more often. */
 static double batch(asked *ask, const void *line, uint32_t contestant, uint32_t times)
 {
     volatile uint64_t answers = 0; /* so that no call can be left out */
-    double start = seconds_by(CLOCK_THREAD_CPUTIME_ID);
+    double start = seconds_used();
     for (uint32_t n = 0; n < times; n++)
         answers += ask(line, contestant);
-    return (seconds_by(CLOCK_THREAD_CPUTIME_ID) - start) / times;
+    return (seconds_used() - start) / times;
 }
 
 static int compare(const void *x, const void *y)
@@ -31,15 +41,24 @@ static int compare(const void *x, const void *y)
     return (a > b) - (a < b);
 }
 
+/* Whether a line that has taken so many seconds needs another round. */
+static bool goes_on(uint32_t rounds, double seconds)
+{
+    if (rounds < FEWEST_ROUNDS)
+        return rounds == 0 || seconds < LONG_LINE_SECONDS;
+    return rounds < MOST_ROUNDS && seconds < LINE_SECONDS;
+}
+
 /* Short batches in turn: those of a round meet much the same machine, so the median of the rounds' ratios holds on a busy one
  * too. */
 struct timing measure(asked *ask, const void *line, uint32_t contestants)
 {
     static double ratios[MOST_CONTESTANTS][MOST_ROUNDS];
-    struct timing timing = {.best = {1e9, 1e9, 1e9}};
-    uint32_t rounds = 0, times = 1 + (uint32_t)(BATCH_SECONDS / batch(ask, line, PLAIN, 1));
-    double end = seconds_by(CLOCK_MONOTONIC) + LINE_SECONDS;
-    while (rounds < FEWEST_ROUNDS || (rounds < MOST_ROUNDS && seconds_by(CLOCK_MONOTONIC) < end)) {
+    struct timing timing = {.best = {1e9, 1e9, 1e9, 1e9}};
+    uint32_t timed = contestants > PLAIN ? PLAIN : ENGINE;
+    uint32_t rounds = 0, times = 1 + (uint32_t)(BATCH_SECONDS / batch(ask, line, timed, 1));
+    double start = seconds_by(CLOCK_MONOTONIC);
+    while (goes_on(rounds, seconds_by(CLOCK_MONOTONIC) - start)) {
         double seconds[MOST_CONTESTANTS];
         for (uint32_t n = 0; n < contestants; n++) {
             uint32_t e = (rounds + n) % contestants; /* none always goes first */

@@ -5,7 +5,7 @@
 #include <stdbool.h>
 #include <stdint.h>
 
-enum { ENGINE, PLAIN, MOST_CONTESTANTS = 3 };
+enum { ENGINE, PLAIN, MOST_CONTESTANTS = 4 };
 
 /* Asks one contestant, once, all that a line of the table asks. */
 typedef uint64_t asked(const void *line, uint32_t contestant);
@@ -14,6 +14,9 @@ struct timing {
     double best[MOST_CONTESTANTS];  /* seconds of one asking, in the best batch */
     double ratio[MOST_CONTESTANTS]; /* the engine's time to this one's, the median over rounds */
 };
+
+/* Processor seconds, of this thread and of the processes that it has waited for. */
+double seconds_used(void);
 
 struct timing measure(asked *ask, const void *line, uint32_t contestants);
 

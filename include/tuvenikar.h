@@ -4,7 +4,8 @@
  * A call reads what it is lent, writes only where it says so, and keeps nothing: there is no global state, no heap, and
  * nothing to open or close. Threads may call at the same time, as long as nobody writes what another is lent.
  * An array to be written may be longer than needed, and overlaps nothing else that is lent; in a refused call it stays as
- * it was, and so do always its places beyond those written.
+ * it was, and so do always its places beyond those written. (Only tuv_search has arrays to work in besides: what they hold
+ * before it does not matter, and what they hold after it, unless it is refused, is anything.)
  * Whatever the numbers and bytes are, a call has an answer to them; nothing needs to be checked before it.
  *
  * A formula's text is its bytes alone, with no 0 at the end. c is the number of channels, k the number of steps.
@@ -61,7 +62,7 @@ enum tuv_refusal {
                                    long? */
     TUV_FILE_NUMBERS = 16,      /* Is c from 1 to 8 and k at most 32, each variable from 1 to v, each mark at most 3? */
     TUV_FILE_CLAUSES = 17,      /* Is m the number of closing marks, and the final literal (if l > 0) closing? */
-    TUV_ROOM = 18               /* Is every array to be written long enough? */
+    TUV_ROOM = 18               /* Is every array to be written or to work in long enough? */
 };
 
 /* Any other answer. */
@@ -70,6 +71,9 @@ enum tuv_answer {
     TUV_YES = 65,      /* it holds; value 0 */
     TUV_WRITTEN = 66,  /* what was asked for is written; value 0 */
     TUV_ACCEPTED = 67, /* the assignment meets every clause; value 0 */
+    TUV_FOUND = 68,    /* the first recording of which the formula holds is written; value the number of tries */
+    TUV_NONE = 69,     /* it holds of none; value the number of tries */
+    TUV_SPENT = 70,    /* neither is known after as many tries as the limit allows; value the limit */
     TUV_NODE_TEXT = 71 /* where a node's own text is; value first byte + 256 * length */
 };
 
@@ -158,6 +162,27 @@ uint64_t tuv_extend(const uint8_t *text, size_t text_length, uint32_t c, uint32_
  */
 uint64_t tuv_check(const uint8_t *text, size_t text_length, uint32_t c, uint32_t k, const uint8_t *assignment,
                    size_t assignment_length, uint8_t *recording, size_t recording_length);
+
+/* Which is the first recording of k steps of which the formula holds? (Of two recordings the one comes first that is low where
+ * they first differ, instant by instant and within an instant from channel a on. So everything happens as late as it can.)
+ * A try sets one channel at one instant, the first that is still open, low and, where nothing is found below that, high; what
+ * then follows from the clauses is no try. Their number depends on the formula, c and k alone. It grows fast with channels that
+ * the formula does not speak of, since each sample of theirs may be tried both ways in vain; the limit keeps a student from
+ * waiting.
+ * Lent:    the text; the limit, how many tries are allowed, 0 to 4,294,967,295; to work in, variables and marks, a place each for
+ *          every literal of the table, values and trail, a place each for every variable; the recording, k places.
+ *          What tuv_table writes says how many that are, TUV_L and TUV_V; TUV_MOST_LITERALS and TUV_MOST_VARIABLES places are
+ *          enough for any formula. A call for which there are too few does not say how many it needs.
+ * Written: on TUV_FOUND the k bytes of the recording, as for tuv_evaluate; otherwise nothing of it. The other four arrays hold
+ *          anything after TUV_FOUND, TUV_NONE and TUV_SPENT; in a refused call all five stay as they were.
+ *          For `(#a>=1|#b>=1)`, c 2, k 1: TUV_FOUND after 1 try, a low, and recording 2; with limit 0 TUV_SPENT.
+ * Answers: TUV_FOUND, TUV_NONE, TUV_SPENT, a refusal 1 to 7 or 18. TUV_NONE is certain, whatever the limit was; with a higher
+ *          limit the same tries are made, and more only after TUV_SPENT.
+ * Stack:   TODO (measured: TODO).
+ */
+uint64_t tuv_search(const uint8_t *text, size_t text_length, uint32_t c, uint32_t k, uint32_t limit, uint32_t *variables,
+                    size_t variables_length, uint8_t *marks, size_t marks_length, uint8_t *values, size_t values_length,
+                    uint32_t *trail, size_t trail_length, uint8_t *recording, size_t recording_length);
 
 /* How many bytes the file of a table with l literals has: in 64 bits, since for some l it does not fit 32. */
 #define TUV_FILE_BYTES(l) (20 + 5 * (uint64_t)(l))

@@ -6,10 +6,10 @@
 #include <stdlib.h>
 #include <string.h>
 
-_Static_assert(TUV_NO == 64 && TUV_YES == 65 && TUV_WRITTEN == 66 && TUV_ACCEPTED == 67 && TUV_NODE_TEXT == 71 &&
-                   TUV_ASSIGNMENT_LENGTH == 12 && TUV_ASSIGNMENT == 13 && TUV_CLAUSE == 14 && TUV_FILE_LENGTH == 15 &&
-                   TUV_FILE_NUMBERS == 16 && TUV_FILE_CLAUSES == 17 && TUV_ROOM == 18 && TUV_SIZES == 5 && TUV_PLAIN == 1 &&
-                   TUV_CLOSING == 2,
+_Static_assert(TUV_NO == 64 && TUV_YES == 65 && TUV_WRITTEN == 66 && TUV_ACCEPTED == 67 && TUV_FOUND == 68 && TUV_NONE == 69 &&
+                   TUV_SPENT == 70 && TUV_NODE_TEXT == 71 && TUV_ASSIGNMENT_LENGTH == 12 && TUV_ASSIGNMENT == 13 &&
+                   TUV_CLAUSE == 14 && TUV_FILE_LENGTH == 15 && TUV_FILE_NUMBERS == 16 && TUV_FILE_CLAUSES == 17 &&
+                   TUV_ROOM == 18 && TUV_SIZES == 5 && TUV_PLAIN == 1 && TUV_CLOSING == 2,
                "the numbers that firmware in the field is built with");
 _Static_assert(TUV_FILE_BYTES(21) == 125 && TUV_FILE_BYTES(UINT32_MAX) == 21474836495, "the bytes of a file, of the longest too");
 
@@ -165,6 +165,34 @@ static void refused_bytes(bytes_to_bytes *call, const char *text, uint32_t c, ui
     convert(call, text, c, k, bytes, room, code, value, &no_bytes);
 }
 
+/* How long the arrays are that are lent to a search. */
+struct room {
+    size_t variables, marks, values, trail, recording;
+};
+
+static void search(const char *text, uint32_t c, uint32_t k, uint32_t limit, const struct room *room, uint32_t code,
+                   uint32_t value, const struct bytes *wanted)
+{
+    trying("search", text);
+    uint8_t *lent_text = lend(text, strlen(text)), *marks = lend_output(room->marks), *values = lend_output(room->values);
+    uint32_t *variables = lend_output(4 * room->variables), *trail = lend_output(4 * room->trail);
+    uint8_t *recording = lend_output(room->recording);
+    uint64_t answer = tuv_search(lent_text, strlen(text), c, k, limit, variables, room->variables, marks, room->marks, values,
+                                 room->values, trail, room->trail, recording, room->recording);
+    /* What was worked in is anything after a search, and as it was after a refusal. */
+    const int is_refused = code <= TUV_ROOM;
+    int same = unchanged(lent_text, text, strlen(text)) & written(recording, wanted->bytes, wanted->length, room->recording);
+    same &= (written(variables, NULL, 0, 4 * room->variables) & written(marks, NULL, 0, room->marks) &
+             written(values, NULL, 0, room->values) & written(trail, NULL, 0, 4 * room->trail)) |
+            !is_refused;
+    check(text, answer, same, code, value);
+}
+
+static void refused_search(const char *text, uint32_t c, uint32_t k, const struct room *room, uint32_t code, uint32_t value)
+{
+    search(text, c, k, UINT32_MAX, room, code, value, &no_bytes);
+}
+
 /* A text that is refused, or not, before anything else is asked: by all calls alike. */
 static void text_alone(const char *text, uint32_t c, uint32_t k, uint32_t code, uint32_t value)
 {
@@ -180,6 +208,8 @@ static void text_alone(const char *text, uint32_t c, uint32_t k, uint32_t code, 
         refused_bytes(tuv_extend, text, c, k, &no_bytes, 50, code, value);
         refused_bytes(tuv_check, text, c, k, &low_extended, 0, code, value);
         refused_bytes(tuv_check, text, c, k, &no_bytes, 50, code, value);
+        refused_search(text, c, k, &(struct room){0}, code, value);
+        refused_search(text, c, k, &(struct room){50, 50, 50, 50, 50}, code, value);
     }
 }
 
@@ -321,11 +351,82 @@ static void recording_to_assignment_to_recording(void)
     count(tuv_code(answer) == TUV_CLAUSE && memcmp(recording, satisfies, K) == 0, "and is not accepted");
 }
 
+static void searches(void)
+{
+    /* `(#a>=1|#b>=1)`, c 2, k 1. Variables: two channels, the formula on three intervals, twice two levels on them and a letter.
+       Literals: three times seven for the formula; twice three, two, eleven and four; one. */
+    static const struct room exact = {62, 62, 19, 19, 1}, more = {70, 63, 40, 20, 9}, least = {2, 2, 1, 1, 0};
+    static const struct bytes b_high = {1, {2}};
+    static const struct room too_short[] = {{61, 62, 19, 19, 1}, {62, 61, 19, 19, 1}, {62, 62, 18, 19, 1}, {62, 62, 19, 18, 1},
+                                            {62, 62, 19, 19, 0}, {0, 62, 19, 19, 1},  {62, 62, 19, 0, 1},  {0}};
+
+    search("(#a>=1|#b>=1)", 2, 1, 1, &exact, TUV_FOUND, 1, &b_high);
+    search("(#a>=1|#b>=1)", 2, 1, UINT32_MAX, &more, TUV_FOUND, 1, &b_high);
+    search("(#a>=1|#b>=1)", 2, 1, 0, &exact, TUV_SPENT, 0, &no_bytes);
+    search("(#a>=1|#b>=1)", 2, 1, 0, &more, TUV_SPENT, 0, &no_bytes);
+    search("T", 1, 0, 0, &least, TUV_FOUND, 0, &no_bytes);
+    search("F", 1, 0, 0, &least, TUV_NONE, 0, &no_bytes);
+    search("!#a>=1", 1, 1, 0, &exact, TUV_FOUND, 0, &low);
+    search("#a>=1", 1, 1, 0, &exact, TUV_FOUND, 0, &high);
+    search("[F]", 1, 1, 9, &more, TUV_NONE, 0, &no_bytes);
+    for (size_t x = 0; x < sizeof too_short / sizeof *too_short; x++)
+        refused_search("(#a>=1|#b>=1)", 2, 1, &too_short[x], TUV_ROOM, 0);
+    refused_search("F", 1, 0, &(struct room){2, 2, 1, 0, 0}, TUV_ROOM, 0);
+}
+
+/* Tries that are dead: what they set is gone, and they count. */
+static void dead_tries(void)
+{
+    static const struct room room = {356, 356, 91, 91, 2};
+    static const struct bytes a_late = {2, {0, 1}};
+    static const char a_or_not_b[] = "((#a>=1|#b>=1)&(#a>=1|!#b>=1))";
+    static const char no_way[] = "(((#a>=1|#b>=1)&(#a>=1|!#b>=1))&((!#a>=1|#b>=1)&(!#a>=1|!#b>=1)))";
+
+    search(a_or_not_b, 2, 1, 3, &room, TUV_FOUND, 3, &high);
+    search(a_or_not_b, 2, 1, 2, &room, TUV_SPENT, 2, &no_bytes);
+    search(no_way, 2, 1, 2, &room, TUV_NONE, 2, &no_bytes);
+    search(no_way, 2, 1, 1, &room, TUV_SPENT, 1, &no_bytes);
+    search("(#a>=1|#b>=2)", 2, 2, 3, &room, TUV_FOUND, 3, &a_late);
+}
+
+/* The key that draws: one search after another in arrays that firmware has once and for all, and what is drawn is judged. */
+static void searches_in_turn(void)
+{
+    enum { K = 8, LITERALS = 4000, VARIABLES = 600 };
+    static uint32_t variables[LITERALS], trail[VARIABLES];
+    static uint8_t marks[LITERALS], values[VARIABLES], recording[K];
+    static const struct {
+        const char *text;
+        uint32_t limit;
+        uint64_t answer;
+        uint8_t recording[K];
+    } drawn[] = {
+        {"(#a>=2;#b>=1)", 100, TUV_FOUND + (13ull << 32), {0, 0, 0, 0, 0, 1, 1, 2}},
+        {"(#a>=2;#b>=1)", 12, TUV_SPENT + (12ull << 32), {0, 0, 0, 0, 0, 1, 1, 2}},
+        {"[(a&!b)]", 0, TUV_FOUND, {1, 1, 1, 1, 1, 1, 1, 1}},
+        {"([a]&#!a>=1)", 100, TUV_NONE, {1, 1, 1, 1, 1, 1, 1, 1}},
+        {"T", 100, TUV_FOUND + (16ull << 32), {0}},
+    };
+
+    for (size_t x = 0; x < sizeof drawn / sizeof *drawn; x++) {
+        const uint8_t *text = (const uint8_t *)drawn[x].text;
+        const size_t length = strlen(drawn[x].text);
+        trying("search", drawn[x].text);
+        uint64_t answer = tuv_search(text, length, 2, K, drawn[x].limit, variables, LITERALS, marks, LITERALS, values, VARIABLES,
+                                     trail, VARIABLES, recording, K);
+        check(drawn[x].text, answer, memcmp(recording, drawn[x].recording, K) == 0, tuv_code(drawn[x].answer),
+              tuv_value(drawn[x].answer));
+        if (tuv_code(answer) == TUV_FOUND)
+            count(tuv_evaluate(text, length, 2, K, 0, K, recording, K) == TUV_YES, "what is drawn satisfies the formula");
+    }
+}
+
 /* The header's numbers for a firmware that has room for every formula. */
 static void largest_table(void)
 {
     char text[21 * 8 + 1 + 21 + 1] = "";
     uint32_t sizes[TUV_SIZES], *variables = lend_output(4 * (size_t)TUV_MOST_LITERALS);
+    uint32_t *trail = lend_output(4 * (size_t)TUV_MOST_VARIABLES);
     uint8_t *marks = lend_output(TUV_MOST_LITERALS), *assignment = lend_output(TUV_MOST_VARIABLES);
     uint8_t recording[32] = {0};
     uint64_t answer;
@@ -352,7 +453,16 @@ static void largest_table(void)
     count(answer == TUV_WRITTEN, "and has as many variables as the header says");
     answer = tuv_check((const uint8_t *)text, strlen(text), 8, 32, assignment, TUV_MOST_VARIABLES, recording, 32);
     count(tuv_code(answer) == TUV_CLAUSE && tuv_value(answer) == TUV_MOST_CLAUSES - 1, "and misses the last clause alone");
+
+    trying("search", text);
+    answer = tuv_search((const uint8_t *)text, strlen(text), 8, 32, 0, variables, TUV_MOST_LITERALS, marks, TUV_MOST_LITERALS,
+                        assignment, TUV_MOST_VARIABLES, trail, TUV_MOST_VARIABLES - 1, recording, 32);
+    count(answer == TUV_ROOM, "the longest trail is no shorter");
+    answer = tuv_search((const uint8_t *)text, strlen(text), 8, 32, 0, variables, TUV_MOST_LITERALS, marks, TUV_MOST_LITERALS,
+                        assignment, TUV_MOST_VARIABLES, trail, TUV_MOST_VARIABLES, recording, 32);
+    count(answer == TUV_NONE, "there is room for every search, and no recording of this formula");
     free(variables);
+    free(trail);
     free(marks);
     free(assignment);
 }
@@ -559,6 +669,9 @@ int main(void)
     extensions();
     checks();
     recording_to_assignment_to_recording();
+    searches();
+    dead_tries();
+    searches_in_turn();
     largest_table();
     table_to_file_to_table();
     files();

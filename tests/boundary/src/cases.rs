@@ -407,7 +407,7 @@ fn every_node(dice: &mut Dice) -> Vec<Case> {
         .collect()
 }
 
-fn near_limits(dice: &mut Dice) -> Vec<Case> {
+pub fn near_limits(dice: &mut Dice) -> Vec<Case> {
     let (c, k) = (channels(dice), dice.from(0, 32) as u32);
     let mut author = Author::new(dice, c, k);
     author.bold = author.dice.one_in(2);
@@ -425,7 +425,7 @@ fn near_limits(dice: &mut Dice) -> Vec<Case> {
     each_call(dice, text, c, k)
 }
 
-fn damaged_texts(dice: &mut Dice) -> Vec<Case> {
+pub fn damaged_texts(dice: &mut Dice) -> Vec<Case> {
     let (c, k) = (channels(dice), dice.from(0, 8) as u32);
     let nodes = dice.from(1, 30);
     let mut text = formula(dice, c, k, nodes);
@@ -435,7 +435,7 @@ fn damaged_texts(dice: &mut Dice) -> Vec<Case> {
     each_call(dice, text, c, k)
 }
 
-fn random_bytes(dice: &mut Dice) -> Vec<Case> {
+pub fn random_bytes(dice: &mut Dice) -> Vec<Case> {
     let (c, k) = (channels(dice), dice.from(0, 8) as u32);
     let most = dice.pick(&[2, 4, 8, 300]);
     let length = dice.from(0, most);
@@ -445,7 +445,7 @@ fn random_bytes(dice: &mut Dice) -> Vec<Case> {
 }
 
 /// Up to three arguments that may be refused at once, so that the order of the questions shows.
-fn odd_arguments(dice: &mut Dice) -> Vec<Case> {
+pub fn odd_arguments(dice: &mut Dice) -> Vec<Case> {
     let (c, k) = (channels(dice), dice.from(0, 32) as u32);
     let nodes = dice.from(1, 12);
     let text = formula(dice, c, k, nodes);

@@ -14,7 +14,7 @@ fn part(start: u32, length: u32) -> Answer {
     (71, start + 256 * length)
 }
 
-type Edge = (String, Case, Answer);
+pub type Edge = (String, Case, Answer);
 pub type Tried = (String, Case, Wanted);
 
 pub fn edges() -> Vec<Tried> {
@@ -65,7 +65,7 @@ fn evaluations() -> Vec<Edge> {
     ]
 }
 
-fn refusals() -> Vec<Edge> {
+pub fn refusals() -> Vec<Edge> {
     let text = |name: &str, text: &[u8], c, answer| {
         let call = Call::Evaluate { i: 0, j: 0, recording: vec![] };
         (name.to_string(), Case { text: text.to_vec(), c, k: 0, call }, answer)

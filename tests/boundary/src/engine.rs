@@ -62,7 +62,7 @@ extern "C" {
 type BytesToBytes = unsafe extern "C" fn(*const u8, usize, u32, u32, *const u8, usize, *mut u8, usize) -> u64;
 
 /// More bytes than any text has that is tried.
-const TEXT_ROOM: usize = 1 << 16;
+pub const TEXT_ROOM: usize = 1 << 16;
 /// More bytes than any recording or assignment has that is tried.
 const BYTES_ROOM: usize = 1 << 20;
 /// More literals than the tables have whose recordings are short.

@@ -108,11 +108,16 @@ impl<T: Copy> Output<T> {
 
     /// Lends so many places on a side, each of them filled.
     pub fn lend(&mut self, length: usize, fill: T, side: Side) -> &mut [T] {
-        let at = side.first(length, self.room);
-        // SAFETY: within the room, which holds numbers throughout, and nothing else points to.
-        let lent = unsafe { std::slice::from_raw_parts_mut(self.lent.add(at), length) };
+        let lent = self.lend_again(length, side);
         lent.fill(fill);
         lent
+    }
+
+    /// Lends so many places on a side with what was left there.
+    pub fn lend_again(&mut self, length: usize, side: Side) -> &mut [T] {
+        let at = side.first(length, self.room);
+        // SAFETY: within the room, which holds numbers throughout, and nothing else points to.
+        unsafe { std::slice::from_raw_parts_mut(self.lent.add(at), length) }
     }
 }
 

@@ -1,8 +1,8 @@
 //! Tries the calls across the C boundary: the edges with the paper's own answers, then random cases
 //! against an implementation of its own (`reference`, `table` for tables, `assignment` for extensions and checks, `file` for
-//! files). What is lent is fenced (`fence`), and each case is called twice, on either side of the fence: the answers must be
-//! equal, no byte beyond be touched, and every place of an output be what it should. The largest tables that there are
-//! (`counts`) are printed.
+//! files, `search` for first recordings). What is lent is fenced (`fence`), and each case is called twice, on either side of the
+//! fence: the answers must be equal, no byte beyond be touched, and every place of an output be what it should. The largest
+//! tables that there are (`counts`) are printed.
 //! A seed other than the usual one is taken from TUVENIKAR_SEED. The last line is `N passed, M failed`.
 
 mod assignment;
@@ -21,6 +21,10 @@ mod file_engine;
 mod lent;
 mod readback;
 mod reference;
+mod search;
+mod search_cases;
+mod search_edges;
+mod search_engine;
 mod table;
 
 use std::collections::BTreeMap;
@@ -35,6 +39,8 @@ use fault::{FAILED, PASSED};
 use file_cases::{FileCase, FILE_FAMILIES, READ_FILE, WRITE_FILE};
 use file_engine::FileEngine;
 use lent::{Wanted, Written};
+use search_cases::{Exercise, SEARCH, SEARCH_FAMILIES};
+use search_engine::SearchEngine;
 use table::Table;
 
 /// How often each code was the answer of each call.
@@ -56,7 +62,7 @@ fn add(all: &mut Codes, codes: Codes) {
 }
 
 /// Every code that each call has. One that no random case meets would be a code that is not tried.
-const CODES: [(&str, &[u32]); 7] = [
+const CODES: [(&str, &[u32]); 8] = [
     (EVALUATE, &[1, 2, 3, 4, 5, 6, 7, 9, 10, 11, 64, 65]),
     (NODE_TEXT, &[1, 2, 3, 4, 5, 6, 7, 8, 71]),
     (TABLE, &[1, 2, 3, 4, 5, 6, 7, 18, 66]),
@@ -64,22 +70,26 @@ const CODES: [(&str, &[u32]); 7] = [
     (CHECK, &[1, 2, 3, 4, 5, 6, 7, 12, 13, 14, 18, 67]),
     (WRITE_FILE, &[15, 16, 17, 18, 66]),
     (READ_FILE, &[15, 16, 17, 18, 66]),
+    (SEARCH, &[1, 2, 3, 4, 5, 6, 7, 18, 68, 69, 70]),
 ];
 
 /// Whoever draws has a number, so that no two draw alike: families of formulas from 0, and then these.
 const AGREEMENT: usize = FAMILIES.len() + ASSIGNMENT_FAMILIES.len();
 const FIRST_OF_FILES: usize = AGREEMENT + 1;
 const ROUND_TRIPS: usize = FIRST_OF_FILES + FILE_FAMILIES.len();
+const FIRST_OF_SEARCHES: usize = ROUND_TRIPS + 1;
+const FOUND: usize = FIRST_OF_SEARCHES + SEARCH_FAMILIES.len();
 
 fn main() {
     fault::watch();
     let seed = std::env::var("TUVENIKAR_SEED").map_or(1, |seed| seed.parse().expect("TUVENIKAR_SEED is no number"));
-    let (mut engine, mut files) = (Engine::new(), FileEngine::new());
+    let (mut engine, mut files, mut searches) = (Engine::new(), FileEngine::new(), SearchEngine::new());
     try_edges(&mut engine, &mut files);
+    try_search_edges(&mut searches);
     largest_tables(&mut engine, &mut files);
 
     println!("seed {seed}");
-    let all = try_families(&mut engine, &mut files, seed);
+    let all = try_families(&mut engine, &mut files, &mut searches, seed);
     println!("{} cases; code and how often: {all:?}", total(&all));
     for (call, codes) in CODES {
         for code in codes {
@@ -89,6 +99,7 @@ fn main() {
     }
     try_agreement(&mut engine, seed);
     try_round_trips(&mut engine, &mut files, seed);
+    try_found(&mut engine, &mut searches, seed);
 
     let failed = FAILED.load(Relaxed);
     println!("{} passed, {failed} failed", PASSED.load(Relaxed));
@@ -114,19 +125,29 @@ fn try_edges(engine: &mut Engine, files: &mut FileEngine) {
     for (name, case, wanted) in file_edges::file_edges() {
         count(&format!("edge: {name}"), files.wrong(&case, &wanted));
     }
-    let vast: [(&str, fn() -> Option<String>); 6] = [
+    let vast: [(&str, fn() -> Option<String>); 7] = [
         ("lengths that are small modulo 2^32", engine::vast_lengths),
         ("outputs as long as 2^32", engine::vast_outputs),
         ("files and arrays whose lengths are small modulo 2^32", file_engine::vast_lengths),
         ("a file's outputs as long as 2^32", file_engine::vast_outputs),
         ("a file of more than 2^32 bytes", file_engine::vast_file),
         ("a table whose file has more than 2^32 bytes", file_engine::vast_table),
+        ("a search in arrays as long as 2^32", search_engine::vast_lengths),
     ];
     let begun = Instant::now();
     for (name, wrong) in vast {
         count(&format!("edge: {name}"), fault::during(&name, wrong));
     }
     println!("lengths about 2^32: {:.1} s", begun.elapsed().as_secs_f32());
+}
+
+fn try_search_edges(searches: &mut SearchEngine) {
+    fault::allow(300);
+    let begun = Instant::now();
+    for (name, case, wanted) in search_edges::search_edges() {
+        count(&format!("edge: {name}"), searches.wrong(&case, &wanted));
+    }
+    println!("edges of the search: {:.1} s", begun.elapsed().as_secs_f32());
 }
 
 /// What a case came to: its call, the code that was wanted, and what is wrong.
@@ -136,7 +157,7 @@ struct Tried {
     wrong: Option<String>,
 }
 
-fn try_families(engine: &mut Engine, files: &mut FileEngine, seed: u64) -> Codes {
+fn try_families(engine: &mut Engine, files: &mut FileEngine, searches: &mut SearchEngine, seed: u64) -> Codes {
     let mut all = Codes::new();
     for (number, family) in FAMILIES.iter().chain(&ASSIGNMENT_FAMILIES).enumerate() {
         let codes = try_family(seed, number, family, |case| {
@@ -153,6 +174,13 @@ fn try_families(engine: &mut Engine, files: &mut FileEngine, seed: u64) -> Codes
         let codes = try_family(seed, FIRST_OF_FILES + number, family, |case| {
             let wanted = wanted_of_file(case);
             Tried { call: case.name(), code: wanted.answer.0, wrong: files.wrong(case, &wanted) }
+        });
+        add(&mut all, codes);
+    }
+    for (number, family) in SEARCH_FAMILIES.iter().enumerate() {
+        let codes = try_family(seed, FIRST_OF_SEARCHES + number, family, |case| {
+            let wanted = case.wanted();
+            Tried { call: SEARCH, code: wanted.answer.0, wrong: searches.wrong(case, &wanted) }
         });
         add(&mut all, codes);
     }
@@ -266,6 +294,33 @@ fn wrong_round_trip(files: &mut FileEngine, table: &Table) -> Option<String> {
         let refused = wanted.answer != (66, 0);
         refused.then(|| format!("{case}: should be accepted")).or_else(|| files.wrong(case, &wanted))
     })
+}
+
+/// Every recording that the engine itself finds satisfies the formula by its other calls, too.
+fn try_found(engine: &mut Engine, searches: &mut SearchEngine, seed: u64) {
+    fault::allow(60);
+    let begun = Instant::now();
+    let (draws, mut found) = (10_000, 0);
+    let wrong = (0..draws).find_map(|draw| {
+        let search = search_cases::without_limit(&mut Dice::new(seed, FOUND, draw));
+        let recording = searches.own_recording(&search)?;
+        found += 1;
+        wrong_recording(engine, &search.exercise, recording).map(|wrong| format!("{wrong} (seed {seed}, draw {draw})"))
+    });
+    println!("recordings found: {found} in {:.1} s", begun.elapsed().as_secs_f32());
+    let few = (found < draws / 2).then(|| format!("only {found} of {draws} are found"));
+    count("a recording that is found satisfies the formula, and its extension is accepted", wrong.or(few));
+}
+
+fn wrong_recording(engine: &mut Engine, Exercise { text, c, k, .. }: &Exercise, recording: Vec<u8>) -> Option<String> {
+    let call = Call::Evaluate { i: 0, j: *k, recording: recording.clone() };
+    let evaluate = Case { text: text.clone(), c: *c, k: *k, call };
+    let extension = cases::extension(text, *c, *k, &recording);
+    let [extend, check] = cases::extend_and_check(text, *c, *k, &recording, extension.clone());
+    engine
+        .wrong(&evaluate, &(65, 0).into())
+        .or_else(|| engine.wrong(&extend, &Ok(Written::Assignment(extension)).into()))
+        .or_else(|| engine.wrong(&check, &Ok(Written::Recording(recording)).into()))
 }
 
 /// V, M and L of the largest tables.

@@ -1,0 +1,263 @@
+//! Random cases of the search. A formula's tree is grown once, by the second implementation, and then asked for under several
+//! limits and with arrays of several lengths.
+
+use std::fmt;
+use std::rc::Rc;
+
+use crate::cases::{self, around, channels, chops, formula, levels, Case, Dice, Family};
+use crate::counts::counts;
+use crate::lent::Wanted;
+use crate::reference::{packed, Refusal};
+use crate::search::{first_of_all, Outcome, Search};
+
+pub const SEARCH: &str = "search";
+
+pub const SEARCH_FAMILIES: [Family<SearchCase>; 8] = [
+    Family { name: "searches for one formula", cases: 126_000, draw: |dice| limits_about_n(dice, MOST_TRIED, any_formula) },
+    Family { name: "searches for several at once", cases: 30_000, draw: |dice| limits_about_n(dice, MOST_TRIED, several) },
+    Family { name: "searches for opposed formulas", cases: 40_000, draw: |dice| limits_about_n(dice, 8, opposed) },
+    Family { name: "searches with many tries", cases: 1_500, draw: many_tries },
+    Family { name: "searches in arrays of all lengths", cases: 100_000, draw: all_lengths },
+    Family { name: "searches in arrays too short, in all sets", cases: 60_000, draw: sets_of_short_arrays },
+    Family { name: "a few tries with large tables", cases: 400, draw: large_tables },
+    Family { name: "searches for texts that are mostly refused", cases: 60_000, draw: other_texts },
+];
+
+/// A formula, and what the second implementation says of its search.
+pub struct Exercise {
+    pub text: Vec<u8>,
+    pub c: u32,
+    pub k: u32,
+    search: Result<Search, Refusal>,
+}
+
+/// One call with all that is lent to it: the lengths of variables, marks, values, trail and recording, and the seed of what the
+/// first four hold before.
+pub struct SearchCase {
+    pub exercise: Rc<Exercise>,
+    pub limit: u32,
+    pub lengths: [usize; 5],
+    pub before: u64,
+}
+
+impl SearchCase {
+    pub fn wanted(&self) -> Wanted {
+        match &self.exercise.search {
+            Ok(search) => search.wanted(self.limit, self.lengths),
+            Err(refusal) => packed(Err(*refusal)).into(),
+        }
+    }
+}
+
+impl fmt::Display for SearchCase {
+    fn fmt(&self, f: &mut fmt::Formatter) -> fmt::Result {
+        let Exercise { text, c, k, .. } = &*self.exercise;
+        let [variables, marks, values, trail, recording] = self.lengths;
+        write!(f, "search for '{}' ({} bytes), C {c}, k {k}, limit {}, ", text.escape_ascii(), text.len(), self.limit)?;
+        write!(f, "in {variables} variables, {marks} marks, {values} values, {trail} of a trail, {recording} of a recording")
+    }
+}
+
+/// So many channel variables, that every recording can be tried.
+const MOST_TRIED: u32 = 12;
+/// So many literals, that the second implementation takes many tries in little time.
+const FEW_LITERALS: u64 = 4_000;
+
+/// Writes a formula for C and k.
+type Author = fn(&mut Dice, u32, u32) -> Vec<u8>;
+
+impl Exercise {
+    /// With so many tries at most by the second implementation, which is at one with itself: what it finds is the first of all
+    /// recordings that satisfy the formula.
+    pub fn new(text: Vec<u8>, c: u32, k: u32, most: u32) -> Rc<Self> {
+        let exercise = Exercise { search: Search::new(&text, c, k, most), text, c, k };
+        if let Some(outcome) = exercise.outcome().filter(|_| c * k <= MOST_TRIED) {
+            let first = first_of_all(&exercise.text, c, k);
+            assert_eq!(outcome.recording, first, "for '{}', C {c}, k {k}", exercise.text.escape_ascii());
+        }
+        Rc::new(exercise)
+    }
+
+    /// Whose N is known, whatever it is.
+    fn whole(text: Vec<u8>, c: u32, k: u32) -> Rc<Self> {
+        Exercise::new(text, c, k, u32::MAX)
+    }
+
+    /// Of so few channel variables and literals that N is found at once, unless the text is refused.
+    fn small(text: Vec<u8>, c: u32, k: u32) -> Option<Rc<Self>> {
+        let is_small = |[_, _, l]: [u64; 3]| c * k <= MOST_TRIED && l <= FEW_LITERALS;
+        counts(&text, c, k).map_or(true, |counts| is_small(counts.0)).then(|| Exercise::whole(text, c, k))
+    }
+
+    /// With so many channel variables at most. Most of those that need no try are passed over.
+    fn draw(dice: &mut Dice, most: u32, author: Author) -> Rc<Self> {
+        loop {
+            let c = channels(dice);
+            let k = dice.from(0, (most / c) as usize) as u32;
+            let small = Exercise::small(author(dice, c, k), c, k);
+            if let Some(exercise) = small.filter(|exercise| exercise.tries() > 0 || dice.one_in(25)) {
+                return exercise;
+            }
+        }
+    }
+
+    fn outcome(&self) -> Option<&Outcome> {
+        self.search.as_ref().ok()?.outcome.as_ref()
+    }
+
+    /// N, if it is known.
+    fn tries(&self) -> u32 {
+        self.outcome().map_or(0, |outcome| outcome.tries)
+    }
+
+    /// For a refused text nobody knows what it needs.
+    pub fn needs(&self) -> [usize; 5] {
+        self.search.as_ref().map_or([40, 40, 20, 20, 4], |search| search.needs)
+    }
+}
+
+fn case(dice: &mut Dice, exercise: &Rc<Exercise>, limit: u32, lengths: [usize; 5]) -> SearchCase {
+    SearchCase { exercise: exercise.clone(), limit, lengths, before: dice.next() }
+}
+
+/// N, its neighbours, the ends of what a limit can be, and one that would be 0 if it had fewer bits.
+fn limits(dice: &mut Dice, exercise: &Exercise) -> Vec<u32> {
+    let tries = exercise.tries();
+    let mut limits = vec![0, tries.saturating_sub(1), tries, tries.saturating_add(1), u32::MAX];
+    limits.dedup();
+    limits.push(dice.pick(&[1 << 8, 1 << 16, 1 << 24, 1 << 31]));
+    limits
+}
+
+/// Under each of the limits, in arrays of what is needed.
+fn under_limits(dice: &mut Dice, exercise: &Rc<Exercise>, limits: &[u32]) -> Vec<SearchCase> {
+    limits.iter().map(|limit| case(dice, exercise, *limit, exercise.needs())).collect()
+}
+
+// Texts
+
+fn any_formula(dice: &mut Dice, c: u32, k: u32) -> Vec<u8> {
+    let (nodes, levels) = (dice.from(1, 12), levels(dice, k));
+    formula(dice, c, levels, nodes)
+}
+
+/// A formula that must hold and one that must not: the same or much the same, which closures do not see but tries do.
+fn opposed(dice: &mut Dice, c: u32, k: u32) -> Vec<u8> {
+    let nodes = dice.from(2, 7);
+    let formula = formula(dice, c, k / 2, nodes);
+    let mut other = formula.clone();
+    if dice.one_in(2) {
+        vary(dice, &mut other, c);
+    }
+    [b"(", &formula[..], b"&!", &other, b")"].concat()
+}
+
+/// Another letter, digit or sign in one place.
+fn vary(dice: &mut Dice, text: &mut [u8], c: u32) {
+    let at = dice.from(0, text.len() - 1);
+    text[at] = match text[at] {
+        b'a'..=b'h' => b'a' + dice.from(0, c as usize - 1) as u8,
+        b'0'..=b'9' => b'0' + dice.from(0, 3) as u8,
+        b'&' | b'|' => dice.pick(b"&|"),
+        other => other,
+    }
+}
+
+/// Formulas that must all hold, so that often none can.
+fn several(dice: &mut Dice, c: u32, k: u32) -> Vec<u8> {
+    let mut part = || {
+        let nodes = dice.from(2, 6);
+        formula(dice, c, k / 2, nodes)
+    };
+    let parts = [part(), part(), part()];
+    [b"(", &parts[0][..], b"&(", &parts[1], b"&", &parts[2], b"))"].concat()
+}
+
+/// So many instants of S and so many without that there are just enough of them, or one too few.
+fn counted(dice: &mut Dice, c: u32, k: u32) -> Vec<u8> {
+    let state = if c == 1 { "a" } else { dice.pick(&["a", "!a", "(a|b)", "(a&!b)"]) };
+    let high = dice.from(0, k as usize);
+    let low = k as usize - high + dice.from(0, 1);
+    format!("(#{state}>={high}&#!{state}>={low})").into()
+}
+
+/// As many tries as there are.
+pub fn without_limit(dice: &mut Dice) -> SearchCase {
+    let exercise = Exercise::draw(dice, MOST_TRIED, several);
+    let needs = exercise.needs();
+    case(dice, &exercise, u32::MAX, needs)
+}
+
+// Families
+
+fn limits_about_n(dice: &mut Dice, most: u32, author: Author) -> Vec<SearchCase> {
+    let exercise = Exercise::draw(dice, most, author);
+    let limits = limits(dice, &exercise);
+    under_limits(dice, &exercise, &limits)
+}
+
+/// Some limit below N too.
+fn many_tries(dice: &mut Dice) -> Vec<SearchCase> {
+    let (c, k) = dice.pick(&[(1, 8), (1, 9), (1, 10), (1, 11), (2, 4), (2, 5), (3, 3), (4, 3)]);
+    let exercise = Exercise::whole(counted(dice, c, k), c, k);
+    let below = dice.from(0, exercise.tries() as usize) as u32;
+    let limits = [limits(dice, &exercise), vec![below]].concat();
+    under_limits(dice, &exercise, &limits)
+}
+
+/// Each array alone of other lengths, and all of them longer.
+fn all_lengths(dice: &mut Dice) -> Vec<SearchCase> {
+    let exercise = Exercise::draw(dice, 8, opposed);
+    let (needs, limits) = (exercise.needs(), limits(dice, &exercise));
+    let alone = |at: usize| {
+        around(needs[at]).map(move |length| {
+            let mut lengths = needs;
+            lengths[at] = length;
+            lengths
+        })
+    };
+    let longer = [1, 3, 300].map(|more| needs.map(|need| need + more));
+    let lengths = (0..5).flat_map(alone).chain(longer);
+    let cases = lengths.map(|lengths| {
+        let limit = dice.pick(&limits);
+        case(dice, &exercise, limit, lengths)
+    });
+    cases.collect()
+}
+
+/// A place less in each of the arrays of a set, and in the others what is needed or more.
+fn sets_of_short_arrays(dice: &mut Dice) -> Vec<SearchCase> {
+    let exercise = Exercise::draw(dice, MOST_TRIED, several);
+    let (needs, limits) = (exercise.needs(), limits(dice, &exercise));
+    let in_set = |set: usize| {
+        let lengths = [0, 1, 2, 3, 4].map(|at| match set >> at & 1 {
+            1 => needs[at].saturating_sub(1),
+            _ => needs[at] + dice.pick(&[0, 0, 1, 7]),
+        });
+        let limit = dice.pick(&limits);
+        case(dice, &exercise, limit, lengths)
+    };
+    (0..32).map(in_set).collect()
+}
+
+/// Tables of many steps or chops, where N is above most limits.
+fn large_tables(dice: &mut Dice) -> Vec<SearchCase> {
+    let (c, k) = (channels(dice), dice.from(4, 32) as u32);
+    let text = if dice.one_in(2) { chops(dice, c, k / 4) } else { several(dice, c, k) };
+    let most = dice.from(0, 6) as u32;
+    let exercise = Exercise::new(text, c, k, most);
+    under_limits(dice, &exercise, &[0, most])
+}
+
+/// Texts near the limits, damaged ones and odd numbers, as for the other calls.
+fn other_texts(dice: &mut Dice) -> Vec<SearchCase> {
+    let family = dice.pick(&[cases::near_limits, cases::damaged_texts, cases::random_bytes, cases::odd_arguments]);
+    let exercises = family(dice).into_iter().filter_map(|Case { text, c, k, .. }| Exercise::small(text, c, k));
+    let in_some_room = |exercise: Rc<Exercise>| {
+        let lengths = exercise.needs().map(|need| dice.pick(&around(need)));
+        let limits = limits(dice, &exercise);
+        let limit = dice.pick(&limits);
+        [lengths, exercise.needs()].map(|lengths| case(dice, &exercise, limit, lengths))
+    };
+    exercises.flat_map(in_some_room).collect()
+}
