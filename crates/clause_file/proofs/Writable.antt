@@ -2,7 +2,7 @@
 -- and the root's place closes the table. Hence the file's writer takes every table of an accepted text.
 use mathlib.Core.Path.{_≡_, refl, sym, ap, _∙_, subst}
 use mathlib.Core.Bool.{Bool, true, false, _||_}
-use mathlib.Core.List.{List, [], _∷_, _++_, map, map-append, flatMap}
+use mathlib.Core.List.{List, [], _∷_, _++_, map, flatMap}
 use Prim.Native.Nat.{ℕ, zero, suc, _+_, _-_, _≤_, _<_}
 use native.Mathlib.Nat.{zero-add}
 use native.Mathlib.Omega.{arith}
@@ -19,16 +19,15 @@ use Rattle.grammar.specs.Reader.{Read}
 use Rattle.grammar.specs.declared.Sort.the-variants.{Formula}
 use Rattle.formula.specs.Nodes.{nodesOf}
 use Rattle.formula.specs.Questions.{askChannels, formulaQuestions, acceptOf}
-use Rattle.formula.proofs.Lists.{All, all-append, all-map}
+use Rattle.formula.proofs.Lists.{All, all-map}
 use Rattle.formula.proofs.Laws.{all-yes, accepted}
 use Rattle.meaning.specs.Meaning.{bit, every, highs}
-use Rattle.circuit.specs.Circuit.{variablesOf, definitionsOf, rootOf}
+use Rattle.circuit.specs.Circuit.{variablesOf}
 use Rattle.circuit.proofs.Lists.{all-at}
 use Rattle.circuit.proofs.Blocks.{From}
-use Rattle.clauses.specs.Clauses.{Literal, Clause, plain, clausesBy, clauseTable}
+use Rattle.clauses.specs.Clauses.{Literal, Clause, plain, clauseTable}
 use Rattle.clauses.specs.Entries.{Entry, entriesOf, flat, variablesIn, marksIn}
-use Rattle.clauses.proofs.Good.{Full, namesOf, Sound, full-table}
-use Rattle.clauses.proofs.Sizes.{flat-join}
+use Rattle.clauses.proofs.Good.{Full, full-table}
 use Rattle.clause_table.specs.Table.{fiveOf, sizesOf, onTree, sizesIn, placesIn, over}
 use Rattle.clause_table.specs.declared.Sizes.{Sizes}
 use Rattle.clause_table.specs.declared.Written.the-variants.{Done}

@@ -2,21 +2,20 @@
 -- the set, which is then closed; and where all literals of a clause are opposed, the closure has one of them both ways.
 use mathlib.Core.Path.{_≡_, refl, sym, ap, ap₂, _∙_}
 use mathlib.Core.Logic.{⊎-elim}
-use mathlib.Core.Bool.{Bool, true, false, not, _&&_, _||_, true≢false, false≢true}
-use mathlib.Core.List.{List, [], _∷_, flatMap}
+use mathlib.Core.Bool.{true, false, _||_, true≢false, false≢true}
+use mathlib.Core.List.{List, [], flatMap}
 use Prim.Native.Nat.{ℕ, _-_, _≤_, _<_}
 use native.Mathlib.Omega.{arith}
 use lib.Dec.{eqb}
 use lib.ListN.{length, drop-of-length-le}
 use borrow.Author.Tests.{eqb-true, eq-eqb}
 use Rattle.formula.proofs.Lists.{All}
-use Rattle.meaning.proofs.Laws.{some-one}
-use Rattle.clauses.specs.Clauses.{Literal, literal, Clause}
 use Rattle.clauses.specs.Entries.{readBack}
-use Rattle.closure.specs.Closure.{Literals, add, opposite, membersOf, membersIn, closure}
+use Rattle.closure.specs.Closure.{opposite, membersOf, membersIn, closure}
 use Rattle.closure.specs.Tree.{clashes}
-use Rattle.closure.proofs.Sets.{In, Below, same-set, or-cases, or-right, added, kept, add-below}
-use Rattle.closure.proofs.Closure.{Keeps, Closed, closure-contains, closure-closed, closure-least}
+use Rattle.closure.proofs.Sets.{In, Below, or-cases, or-right, added}
+use Rattle.closure.proofs.Closure.{Keeps, Closed, closed-parts, closed-whole, closure-contains, closure-closed, closed-same, closure-add}
+use Rattle.closure.proofs.Open.{both-clash}
 use Rattle.closing.specs.Values.{heldIn, Trailing, Grown, Added}
 use Rattle.closing.specs.Closing.{tableIn, Readable, ClosedTo}
 use Rattle.closing.specs.Passes.{literalAt, clausesFrom, Scanned, closureOf, PassedTo}
@@ -24,27 +23,7 @@ use Rattle.closing.specs.declared.Closed.{Closed as Ended}
 use Rattle.closing.specs.declared.Tallied.{Tallied}
 use Rattle.closing.proofs.Trail.{held-le, grown-none, grown-length, grown-same, grown-more}
 use Rattle.closing.proofs.Held.{held-within}
-use Rattle.closing.proofs.Free.{closed-parts, closed-whole, first-free, two-kept, one-kept, one-forced, all-forced}
-
--- ---- the closure
-
-module _ (T : List Clause) (S : Literals) where
-  closed-same : Closed T (In S) → S ≡ closure T S
-  closed-same c = same-set (closure-contains T S) (closure-least T S (In S) c (λ l i. i))
-
-  -- a literal of the closure added
-  closure-add : (l : Literal) → In (closure T S) l → closure T (add l S) ≡ closure T S
-  closure-add l h =
-      same-set (closure-least T (add l S) (In (closure T S)) (closure-closed T S) (add-below l S _ (closure-contains T S) h))
-      (closure-least T S (In (closure T (add l S))) (closure-closed T (add l S)) (λ m i. closure-contains T (add l S) m (kept l S m i)))
-
-both-ways : (n : ℕ) (S : Literals) (l : Literal) → 1 ≤ l .variable → l .variable ≤ n → In S l → In S (opposite l) → clashes n S ≡ true
-unfolding clashes
-both-ways n S l a b i o = some-one _ 1 n .1 (l .variable, a, omega arith, go (l .plain) i o)
-  where
-    go : (u : Bool) → In S (literal u (l .variable)) → In S (literal (not u) (l .variable)) → S (literal true (l .variable)) && S (literal false (l .variable)) ≡ true
-    go true i o = ap₂ _&&_ i o
-    go false i o = ap₂ _&&_ o i
+use Rattle.closing.proofs.Free.{first-free, two-kept, one-kept, one-forced, all-forced}
 
 -- ---- a pass, at p
 
@@ -89,7 +68,7 @@ module _ {variables marks v₀ t₀ values trail : List ℕ} {top₀ top p : ℕ
       clashing = λ _.
           let w = all-forced (heldIn values) (In (closureOf variables marks v₀)) sound (s .clause) (s .full) (s .tally .none z) (parts .0) in
           let b = held-within values (opposite (w .0)) (w .1) in
-          both-ways (length v₀) _ (w .0) (b .0) (omega (arith, b .1, grown-length (P .grown))) (w .2) (sound _ (w .1));
+          both-clash (length v₀) _ (w .0) (b .0) (omega (arith, b .1, grown-length (P .grown))) (w .2) (sound _ (w .1));
     }
 
     pub passing-more : (r .free ≡ 0 → ⊥) → (r .free ≡ 1 → ⊥) → Passing variables marks v₀ t₀ top₀ values trail top (r .next)

@@ -1,19 +1,20 @@
 -- A literal is added only where every closed set that has what is there has it too, so the closure lies in each of them. It is closed
 -- itself: each literal added leaves one member fewer outside the set, so as many additions as there are members leave none forced.
-use mathlib.Core.Path.{_≡_, refl, sym, ap}
+use mathlib.Core.Path.{_≡_, refl, ap}
 use mathlib.Core.Logic.{⊎-elim}
-use mathlib.Core.Bool.{Bool, true, false, not, _&&_, false≢true, true≢false}
-use mathlib.Core.List.{List, [], _∷_, List·Memᴰ, List·Memᴰ·cases-cons, List·Memᴰ·not-nil}
+use mathlib.Core.Bool.{Bool, true, false, not, _&&_, true≢false}
+use mathlib.Core.List.{List, [], _∷_, flatMap, List·Memᴰ, List·Memᴰ·cases-cons, List·Memᴰ·not-nil}
 use mathlib.Core.Option.{Option, none, some}
 use Prim.Native.Nat.{ℕ, zero, suc, _+_, _≤_, _<_}
 use native.Mathlib.Omega.{arith}
 use lib.ListN.{length}
 use Rattle.grammar.proofs.Bytes.{both}
-use Rattle.formula.proofs.Lists.{All, all-map}
+use Rattle.formula.proofs.Lists.{All, all-append, all-map}
+use Rattle.circuit.proofs.Lists.{all-split}
 use Rattle.meaning.specs.Meaning.{bit}
 use Rattle.clauses.specs.Clauses.{Literal, Clause}
-use Rattle.closure.specs.Closure.{Literals, add, allOpposed, Member, membersIn, firstForced, forced, closure}
-use Rattle.closure.proofs.Sets.{either-way, not-true, all-in, In, Below, added, kept, add-below, Opposed, opposed-all, all-opposed}
+use Rattle.closure.specs.Closure.{Literals, add, allOpposed, Member, membersOf, membersIn, firstForced, forced, closure}
+use Rattle.closure.proofs.Sets.{either-way, not-true, all-in, In, Below, same-set, added, kept, add-below, Opposed, opposed-all, all-opposed}
 
 -- "each literal of a clause whose fellows in that clause are all opposed in the set" is in it
 abbrev pub Keeps : (Literal → Type 0) → Member → Type 0
@@ -21,6 +22,17 @@ Keeps X m = Opposed X (m .fellows) → X (m .self)
 
 abbrev pub Closed : List Clause → (Literal → Type 0) → Type 0
 Closed T X = All (Keeps X) (membersIn T)
+
+-- ---- a table's first clause
+
+module _ (X : Literal → Type 0) (c : Clause) (T : List Clause) where
+  pub closed-parts : Closed (c ∷ T) X → All (Keeps X) (membersOf c) × Closed T X
+  unfolding membersIn flatMap
+  closed-parts a = all-split (Keeps X) (membersOf c) (membersIn T) a
+
+  pub closed-whole : All (Keeps X) (membersOf c) → Closed T X → Closed (c ∷ T) X
+  unfolding membersIn flatMap
+  closed-whole a b = all-append (Keeps X) (membersOf c) (membersIn T) a b
 
 -- ---- the first that is forced
 
@@ -129,3 +141,13 @@ module _ (T : List Clause) (S : Literals) where
   pub closure-least : (X : Literal → Type 0) → Closed T X → Below S X → Below (closure T S) X
   unfolding closure
   closure-least X c h = least (length (membersIn T)) (membersIn T) S X c h
+
+  -- a closed set is its own closure
+  pub closed-same : Closed T (In S) → S ≡ closure T S
+  closed-same c = same-set closure-contains (closure-least (In S) c (λ l i. i))
+
+-- a literal of the closure added changes nothing
+pub closure-add : (T : List Clause) (S : Literals) (l : Literal) → In (closure T S) l → closure T (add l S) ≡ closure T S
+closure-add T S l h =
+    same-set (closure-least T (add l S) (In (closure T S)) (closure-closed T S) (add-below l S _ (closure-contains T S) h))
+    (closure-least T S (In (closure T (add l S))) (closure-closed T (add l S)) (λ m i. closure-contains T (add l S) m (kept l S m i)))

@@ -1,10 +1,10 @@
 -- The tree makes a run from every set: each try shuts the lowest open channel variable, so that the tree never lacks tries to go on.
 -- A run has no choice, so there is one; and n open variables make at most 2^(n + 1) − 2 tries, twice as many with each variable more.
-use mathlib.Core.Path.{_≡_, refl, sym, ap, _∙_, subst}
-use mathlib.Core.Bool.{Bool, true, false, false≢true, true≢false}
+use mathlib.Core.Path.{_≡_, refl, sym, ap, _∙_}
+use mathlib.Core.Bool.{Bool, true, false, true≢false}
 use mathlib.Core.List.{List}
 use mathlib.Core.Option.{Option, none, some}
-use Prim.Native.Nat.{ℕ, zero, suc, _+_, _-_, _*_, _^_, _≤_, _<_}
+use Prim.Native.Nat.{ℕ, zero, suc, _+_, _-_, _^_, _≤_, _<_}
 use native.Mathlib.Nat.{pow-suc}
 use native.Mathlib.Decide.{decLt}
 use native.Mathlib.Omega.{arith}
@@ -12,7 +12,7 @@ use lib.Pow.{pow-pos}
 use Rattle.clauses.specs.Clauses.{Literal, literal, Clause, plain, negated}
 use Rattle.closure.specs.Closure.{Literals, nothing, add, closure}
 use Rattle.closure.specs.Tree.{clashes, isOpen, lowestOpen, Outcome, dead, found, Trial, trial, lowThenHigh, tried, treeBelow, tree}
-use Rattle.closure.specs.Runs.{NoneOpen, Lowest, Run, clash, complete, low, high}
+use Rattle.closure.specs.Runs.{Lowest, Run, clash, complete, low, high}
 use Rattle.closure.proofs.Sets.{In, Below, added, kept}
 use Rattle.closure.proofs.Closure.{closure-contains}
 use Rattle.closure.proofs.Open.{shut-by, shut-still, Opening, shut, lowest, opening, none-open, lowest-open}

@@ -2,9 +2,8 @@
 -- search does with the first k bytes of the recording's array it does with the array, since it leaves the rest.
 use mathlib.Core.Path.{_≡_, refl, sym, ap, ap₂, _∙_, subst}
 use mathlib.Core.Logic.{_≢_}
-use mathlib.Core.Bool.{Bool, true, false, cond, _&&_}
-use mathlib.Core.List.{List, [], _∷_, _++_, append-assoc, append-nil, map}
-use Prim.Native.Nat.{ℕ, _+_, _-_, _*_, _≤_, _<_}
+use mathlib.Core.List.{List, [], _∷_, _++_, map}
+use Prim.Native.Nat.{ℕ, _+_, _-_, _*_, _≤_}
 use native.Mathlib.Omega.{arith}
 use lib.Dec.{leb}
 use lib.ListN.{length, getD, take, drop, length-map, length-append, take-append-drop}
@@ -21,7 +20,6 @@ use Rattle.grammar.specs.declared.Sort.the-variants.{Formula}
 use Rattle.grammar.proofs.Bytes.{both}
 use Rattle.formula.specs.Nodes.{nodesOf}
 use Rattle.formula.proofs.Asked.{test-yes}
-use Rattle.formula.proofs.Lists.{All}
 use Rattle.rows.specs.Table.{rowOf, tableOf}
 use Rattle.rows.specs.declared.NodeTable.{NodeTable}
 use Rattle.circuit.specs.Circuit.{variablesOf}

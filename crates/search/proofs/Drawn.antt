@@ -1,25 +1,23 @@
 -- What the tree of tries comes to is what the limit leaves of the tree (Ends.antt has the same three ways), and the values found read as
 -- the recording of their set: a channel variable is high where its value is 1.
-use mathlib.Core.Path.{_≡_, refl, sym, ap, ap₂, _∙_, subst}
-use mathlib.Core.Bool.{true}
-use mathlib.Core.List.{List, _++_, append-nil}
-use Prim.Native.Nat.{ℕ, zero, suc, _+_, _-_, _*_, _≤_, _<_}
+use mathlib.Core.Path.{_≡_, sym, ap, _∙_, subst}
+use mathlib.Core.List.{List, append-nil}
+use Prim.Native.Nat.{ℕ, zero, suc, _-_, _≤_, _<_}
 use native.Mathlib.Omega.{arith}
 use lib.Dec.{eqb}
-use lib.ListN.{length, getD, drop, drop-of-length-le}
+use lib.ListN.{length, getD, drop-of-length-le}
 use borrow.Author.Tests.{le-leb, lt-leb}
 use Rattle.circuit.specs.Circuit.{channelOf}
 use Rattle.clauses.specs.Clauses.{Clause, plain}
 use Rattle.clause_table.specs.Table.{over}
 use Rattle.assignments.specs.Extension.{valueIn, recordingBy, recordingOf}
 use Rattle.assignments.proofs.Recordings.{recording-length, recording-below, recording-channels, recording-only}
-use Rattle.closure.specs.Closure.{Literals}
 use Rattle.closure.specs.Tree.{dead, found, Trial, trial, tree, highIn}
 use Rattle.closing.specs.Values.{heldIn}
 use Rattle.tries.specs.Tries.{Result, Started}
 use Rattle.tries.specs.declared.Below.{Below}
 use Rattle.tries.specs.declared.Below.the-variants.{Dead, Found, Spent}
-use Rattle.search.specs.Search.{Searched, unwritten, ended, limited}
+use Rattle.search.specs.Search.{unwritten, ended, limited}
 use Rattle.search.specs.declared.Answer.the-variants as answer
 
 -- ---- the values found

@@ -1,6 +1,6 @@
 -- A search ends in one of three ways, by N and the limit and then by the tree's outcome; each way fixes the answer, its count and what is
 -- written, and no answer belongs to two of them.
-use mathlib.Core.Path.{_≡_, refl, sym, ap, _∙_}
+use mathlib.Core.Path.{_≡_, refl, sym}
 use mathlib.Core.Logic.{_↔_, _≢_}
 use mathlib.Core.Bool.{Bool, true, false, cond}
 use mathlib.Core.List.{List}
@@ -8,13 +8,13 @@ use Prim.Native.Nat.{ℕ, _≤_, _<_, min}
 use native.Mathlib.Nat.{min-eq-left, min-eq-right}
 use native.Mathlib.Omega.{arith}
 use lib.Dec.{leb}
-use borrow.Author.Tests.{leb-true, leb-false, le-leb}
+use borrow.Author.Tests.{leb-true, leb-false}
 use Rattle.grammar.specs.Trees.{Tree, Letters}
 use Rattle.grammar.specs.declared.Sort.the-variants.{Formula}
 use Rattle.clause_table.specs.Table.{over}
 use Rattle.assignments.specs.Extension.{recordingBy}
 use Rattle.closure.specs.Closure.{Literals}
-use Rattle.closure.specs.Tree.{Outcome, dead, found, Trial, trial, highIn}
+use Rattle.closure.specs.Tree.{Outcome, dead, found, Trial, highIn}
 use Rattle.search.specs.Search.{earlier, treeOf, Searched, unwritten, ended, limited}
 use Rattle.search.specs.declared.Answer.{Answer}
 use Rattle.search.specs.declared.Answer.the-variants.{Found, None, Spent, Refused}

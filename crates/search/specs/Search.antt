@@ -10,7 +10,7 @@ use Rattle.refusal.specs.Asked.{question, asked}
 use Rattle.refusal.specs.declared.Refusal.{Refusal}
 use Rattle.refusal.specs.declared.Reply.{Reply}
 use Rattle.grammar.specs.Trees.{Tree}
-use Rattle.grammar.specs.Reader.{Read, tree, stopped, read}
+use Rattle.grammar.specs.Reader.{tree, stopped, read}
 use Rattle.grammar.specs.declared.Sort.the-variants.{Formula}
 use Rattle.formula.specs.Nodes.{nodesOf, nodesIn}
 use Rattle.formula.specs.Questions.{formulaQuestions}
@@ -19,7 +19,7 @@ use Rattle.clauses.specs.Clauses.{clauseTable}
 use Rattle.clause_table.specs.Table.{placesIn, over}
 use Rattle.assignments.specs.Extension.{channelValues, recordingBy}
 use Rattle.closure.specs.Tree as tries
-use Rattle.closure.specs.Tree.{Outcome, dead, found, Trial, trial, highIn}
+use Rattle.closure.specs.Tree.{dead, found, Trial, trial, highIn}
 use Rattle.search.specs.declared.Answer.{Answer}
 use Rattle.search.specs.declared.Answer.the-variants.{Found, None, Spent, Refused}
 use Rattle.search.specs.declared.Lent.{Lent}

@@ -6,7 +6,7 @@ use rows::NodeTable;
 use tries::Below;
 ghost use mathlib.Core.Path.{_≡_};
 ghost use mathlib.Core.List.{map};
-ghost use Prim.Native.Nat.{ℕ, _*_, _≤_};
+ghost use Prim.Native.Nat.{_*_, _≤_};
 ghost use lib.ListN.{length};
 ghost use Rattle.interval.specs.Limits.{maxSteps};
 ghost use Rattle.grammar.specs.Limits.{maxNodes, maxChannels};

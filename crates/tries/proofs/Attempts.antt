@@ -1,7 +1,7 @@
 -- A try grows values and trail, so what it added can be taken back; where the tree below it is dead, values are as after the try, and the
 -- trail up to its top, so taking back gives what was before it. Nothing else of the tree below changes by the step.
 use mathlib.Core.Path.{_≡_, sym, ap, ap₂, _∙_, subst}
-use mathlib.Core.Bool.{Bool, true, false, false≢true, true≢false}
+use mathlib.Core.Bool.{Bool, true, false, true≢false}
 use mathlib.Core.List.{List}
 use Prim.Native.Nat.{ℕ, _+_, _-_, _*_, _≤_, _<_}
 use native.Mathlib.Omega.{arith}
@@ -9,15 +9,15 @@ use lib.Arith.{lt-of-le-ne}
 use lib.ListN.{length, take}
 use lib.Seq.{take-take}
 use Rattle.clauses.specs.Clauses.{Literal, Clause, literal}
-use Rattle.closure.specs.Closure.{Literals, add, opposite, closure}
-use Rattle.closure.specs.Tree.{clashes, isOpen, Outcome, dead, found, tried}
+use Rattle.closure.specs.Closure.{Literals, add, closure}
+use Rattle.closure.specs.Tree.{clashes, isOpen, Outcome, dead, tried}
 use Rattle.closure.specs.Runs.{Run, clash}
 use Rattle.closure.proofs.Sets.{either-way, In, added}
 use Rattle.closure.proofs.Open.{shut-by}
-use Rattle.closing.specs.Values.{heldIn, Trailing, undone, Ranged, Grown, Added}
+use Rattle.closing.specs.Values.{heldIn, undone, Ranged, Grown, Added}
 use Rattle.closing.specs.Closing.{Readable, tableIn, ClosedTo}
 use Rattle.closing.specs.declared.Closed.{Closed}
-use Rattle.closing.proofs.Trail.{held-le, undone-none, grown-none, grown-length, grown-same, grown-more}
+use Rattle.closing.proofs.Trail.{held-le, undone-none, grown-length, grown-same, grown-more}
 use Rattle.tries.specs.Tries.{Ready, Tried, CameTo, Came, Alive}
 use Rattle.tries.specs.declared.Below.{Below}
 use Rattle.tries.specs.declared.Below.the-variants.{Dead, Found, Spent}

@@ -2,10 +2,10 @@
 -- two tries (proofs/Tries.antt). A dead try leaves the values as they were, so the second one starts where the first did.
 use mathlib.Core.Path.{_≡_, refl, sym, _∙_, subst}
 use mathlib.Core.List.{List}
-use Prim.Native.Nat.{ℕ, _+_, _-_, _≤_, _<_}
+use Prim.Native.Nat.{ℕ, _+_, _-_, _≤_}
 use native.Mathlib.Omega.{arith}
-use lib.ListN.{length, take}
-use Rattle.clauses.specs.Clauses.{Clause, plain, negated}
+use lib.ListN.{length}
+use Rattle.clauses.specs.Clauses.{plain, negated}
 use Rattle.closure.specs.Closure.{Literals}
 use Rattle.closure.specs.Tree.{dead, tried}
 use Rattle.closure.specs.Runs.{Lowest, Run, complete}

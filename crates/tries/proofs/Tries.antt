@@ -1,9 +1,9 @@
 -- What comes of a set follows from what comes of its two tries: a run of the low one, and where that is dead one of the high one, make the
 -- set's own run, so a limit that one of them overruns, or that allows no more than one of them, is overrun by the set.
-use mathlib.Core.Path.{_≡_, refl, sym, ap, _∙_, subst}
+use mathlib.Core.Path.{_≡_, ap, subst}
 use mathlib.Core.Bool.{true, false}
 use mathlib.Core.List.{List}
-use Prim.Native.Nat.{ℕ, _+_, _-_, _≤_, _<_}
+use Prim.Native.Nat.{ℕ, _+_, _-_, _≤_}
 use native.Mathlib.Omega.{arith}
 use Rattle.clauses.specs.Clauses.{Clause, plain, negated}
 use Rattle.closure.specs.Closure.{Literals, nothing, closure}
