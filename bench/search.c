@@ -141,9 +141,9 @@ static uint32_t write_table(const struct line *line)
 static uint64_t search_within_seconds(const struct line *line)
 {
     for (limit = FIRST_LIMIT;; limit *= 4) {
-        double start = seconds_used();
+        double start = seconds_of_thread();
         uint64_t answer = search(line);
-        if (tuv_code(answer) != TUV_SPENT || 4 * (seconds_used() - start) > MOST_SECONDS || limit > UINT32_MAX / 4)
+        if (tuv_code(answer) != TUV_SPENT || 4 * (seconds_of_thread() - start) > MOST_SECONDS || limit > UINT32_MAX / 4)
             return answer;
     }
 }

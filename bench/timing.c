@@ -15,13 +15,14 @@ static double seconds_by(clockid_t clock)
     return (double)t.tv_sec + 1e-9 * (double)t.tv_nsec;
 }
 
-double seconds_used(void)
+double seconds_of_thread(void) { return seconds_by(CLOCK_THREAD_CPUTIME_ID); }
+
+/* Of the processes that were waited for. */
+static double seconds_of_children(void)
 {
-    struct rusage children;
-    getrusage(RUSAGE_CHILDREN, &children);
-    const struct timeval *user = &children.ru_utime, *system = &children.ru_stime;
-    return seconds_by(CLOCK_THREAD_CPUTIME_ID) + (double)(user->tv_sec + system->tv_sec) +
-           1e-6 * (double)(user->tv_usec + system->tv_usec);
+    struct rusage used;
+    getrusage(RUSAGE_CHILDREN, &used);
+    return (double)(used.ru_utime.tv_sec + used.ru_stime.tv_sec) + 1e-6 * (double)(used.ru_utime.tv_usec + used.ru_stime.tv_usec);
 }
 
 /* Seconds of one asking, over a batch of `times`. The processor's seconds: turns that other programs take on it would fall on
@@ -29,10 +30,11 @@ double seconds_used(void)
 static double batch(asked *ask, const void *line, uint32_t contestant, uint32_t times)
 {
     volatile uint64_t answers = 0; /* so that no call can be left out */
-    double start = seconds_used();
+    double of_children = seconds_of_children(), start = seconds_of_thread();
     for (uint32_t n = 0; n < times; n++)
         answers += ask(line, contestant);
-    return (seconds_used() - start) / times;
+    double of_thread = seconds_of_thread() - start;
+    return (of_thread + seconds_of_children() - of_children) / times;
 }
 
 static int compare(const void *x, const void *y)

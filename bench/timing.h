@@ -15,9 +15,10 @@ struct timing {
     double ratio[MOST_CONTESTANTS]; /* the engine's time to this one's, the median over rounds */
 };
 
-/* Processor seconds, of this thread and of the processes that it has waited for. */
-double seconds_used(void);
+/* Processor seconds of this thread so far. */
+double seconds_of_thread(void);
 
+/* In processor seconds, those of processes included that a contestant starts and waits for. */
 struct timing measure(asked *ask, const void *line, uint32_t contestants);
 
 /* Lines that share a goal: a ratio that none of them should pass. */
