@@ -1,7 +1,8 @@
 -- DEMAND 3, of every accepted formula, C, k and B: what the search's answer says. Read this file first; each line cites the theorem behind it.
 -- The code is proved to give `searched` (crates/search/src/lib.rt), so whatever is said here of `searched` holds of the call.
 use mathlib.Core.Path.{_≡_, sym, subst}
-use mathlib.Core.Logic.{_↔_, _≢_}
+use mathlib.Core.Logic.{_↔_, _⊎_, _≢_}
+use mathlib.Core.Bool.{true, false}
 use mathlib.Core.List.{List}
 use Prim.Native.Nat.{ℕ, _+_, _-_, _*_, _^_, _≤_, _<_, min}
 use lib.ListN.{length}
@@ -14,12 +15,22 @@ use Rattle.formula.specs.Questions.{acceptOf}
 use Rattle.formula.proofs.Laws.{accepted}
 use Rattle.circuit.specs.Circuit.{variablesOf}
 use Rattle.clause_table.specs.Table.{placesIn}
-use Rattle.search.specs.Search.{treeOf, Searched, unwritten, askLent, searched}
+use Rattle.assignments.proofs.Values.{EachBelow}
+use Rattle.search.specs.Search.{earlier, treeOf, Searched, unwritten, askLent, searched}
 use Rattle.search.specs.declared.Answer.the-variants.{Found, None, Spent, Refused}
 use Rattle.search.specs.declared.Lent.{Lent}
+use Rattle.search.proofs.Order.{order-one-way, order-either}
 use Rattle.search.proofs.Outcome.{Satisfies, trials-bound}
 use Rattle.search.proofs.Call.{first-refused, last-refused, answered}
 use Rattle.search.proofs.Ends.{countIn, End, end, First, found-first, found-within, none-within, spent-beyond, count-least, only-found-writes}
+
+-- "Of two different recordings of equal C and k" one "comes earlier in the order", and not both
+pub one-earlier : (C k : ℕ) (r s : List ℕ) → length r ≡ k → EachBelow (2 ^ C) r → length s ≡ k → EachBelow (2 ^ C) s → r ≢ s
+    → (earlier C k r s ≡ true) ⊎ (earlier C k s r ≡ true)
+one-earlier = order-either
+
+pub not-both-earlier : (C k : ℕ) (r s : List ℕ) → earlier C k r s ≡ true → earlier C k s r ≡ false
+not-both-earlier = order-one-way
 
 module _ (C k : ℕ) (t : List ℕ) (B : ℕ) (n : Lent) (recording : List ℕ) where
   -- what is answered, and the recording's array after it

@@ -9,7 +9,7 @@ use Rattle.clauses.specs.Clauses.{Clause, plain, negated}
 use Rattle.closure.specs.Closure.{Literals, nothing, closure}
 use Rattle.closure.specs.Tree.{clashes, Outcome, dead, found, Trial, trial, tried, treeBelow, tree}
 use Rattle.closure.specs.Runs.{Lowest, Run, clash, low, high}
-use Rattle.closure.proofs.Runs.{run-from, one-run}
+use Rattle.closure.proofs.Runs.{run-from, tree-run}
 use Rattle.closing.specs.Values.{heldIn}
 use Rattle.tries.specs.Tries.{Overrun, CameTo, Alive, triesIn, counting, Result, Started}
 use Rattle.tries.specs.declared.Below.{Below}
@@ -62,16 +62,13 @@ module _ (T : List Clause) (variables channels : ℕ) where
 
   -- ---- the whole tree
 
-  tree-run : {o : Outcome} {n : ℕ} → Run T variables channels (closure T nothing) o n → tree T variables channels ≡ trial o n
-  tree-run r = one-run T variables channels r
-
   pub clash-started : (limit : ℕ) (values : List ℕ) → clashes variables (closure T nothing) ≡ true → Started T variables channels limit values (Dead 0)
-  clash-started limit values e = record { result = (tree-run (clash e), omega arith) }
+  clash-started limit values e = record { result = (tree-run T variables channels (clash e), omega arith) }
 
   pub started : (limit : ℕ) (v₀ values : List ℕ) (r : Below) → CameTo T variables channels (closure T nothing) limit v₀ values r → Started T variables channels limit values r
   started limit v₀ values r c = record { result = go r c }
     where
       go : (r : Below) → CameTo T variables channels (closure T nothing) limit v₀ values r → Result T variables channels limit values r
-      go (Dead n) c = (tree-run (c .0), c .1)
-      go (Found n) c = (tree-run (c .0), c .1)
-      go Spent c = omega (arith, c .beyond, ap (λ (t : Trial). t .tries) (tree-run (c .run)))
+      go (Dead n) c = (tree-run T variables channels (c .0), c .1)
+      go (Found n) c = (tree-run T variables channels (c .0), c .1)
+      go Spent c = omega (arith, c .beyond, ap (λ (t : Trial). t .tries) (tree-run T variables channels (c .run)))
