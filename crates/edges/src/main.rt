@@ -1,8 +1,9 @@
 // Tries document 01's edges that are not starred, and its wrong turns, and writes a line each: what was asked, the answer to
 // questions 1 to 7 with the node count, and node x: the refusal's number and place, or its own text. Then lines of the file program:
-// how many bytes it writes, and whether the rest of its array is as it was.
+// how many bytes it writes, and whether the rest of its array is as it was. Then searches, in arrays of 255 before.
 use file_line::FILE_BYTES;
 use refusal::Reply;
+use search::Answer;
 
 fn put(bytes: &[u8]) {
     io::write_all(1, bytes);
@@ -213,6 +214,67 @@ k 33|1 33 #a>=1\n|",
     );
 }
 
+fn put_byte(before: &[u8], b: u8) {
+    put_number(before, b as u32);
+}
+
+fn put_answer(a: Answer) {
+    match a {
+        Answer::Found(n) => put_number(b"found ", n),
+        Answer::None(n) => put_number(b"none ", n),
+        Answer::Spent(n) => put_number(b"spent ", n),
+        Answer::Refused(r) => put_reply(Reply::No(r)),
+    }
+}
+
+// One line: the answer with its count, and the four bytes lent for the recording.
+fn sought(text: &[u8], c: u32, k: u32, limit: u32) {
+    let mut variables = [4294967295; 2048];
+    let mut marks = [255; 2048];
+    let mut values = [255; 256];
+    let mut trail = [4294967295; 256];
+    let mut recording = [255; 4];
+    let answer = search::search(
+        text,
+        c,
+        k,
+        limit,
+        &mut variables,
+        &mut marks,
+        &mut values,
+        &mut trail,
+        &mut recording,
+    );
+    put(text);
+    put_number(b" | C ", c);
+    put_number(b", k ", k);
+    put_number(b", B ", limit);
+    put(b" | ");
+    put_answer(answer);
+    put_byte(b" | ", recording[0]);
+    put_byte(b" ", recording[1]);
+    put_byte(b" ", recording[2]);
+    put_byte(b" ", recording[3]);
+    put(b"\n");
+}
+
+// Instants before channels, the first of two ways, forced values that are no tries, dead tries, and the limit beside N.
+fn searches() {
+    sought(b"((#!a>=1;#a>=1)|(#b>=1;#!b>=1))", 2, 2, 100);
+    sought(b"(([a];[!a])|([!a];[a]))", 1, 3, 100);
+    sought(b"#a>=3", 1, 3, 0);
+    sought(b"(#a>=1&!#b>=1)", 2, 3, 100);
+    sought(b"(#a>=1&!#b>=1)", 2, 3, 2);
+    sought(b"(#a>=1&!#b>=1)", 2, 3, 1);
+    sought(b"(#a>=2&#!a>=2)", 1, 3, 100);
+    sought(b"(#a>=2&#!a>=3)", 1, 4, 4);
+    sought(b"(#a>=2&#!a>=3)", 1, 4, 3);
+    sought(b"T", 2, 4, 4294967295);
+    sought(b"T", 2, 4, 7);
+    sought(b"T", 8, 32, 4294967295);
+    sought(b"T", 9, 4, 1);
+}
+
 fn main() {
     unstarred();
     long_texts();
@@ -223,4 +285,5 @@ fn main() {
     good_lines();
     bad_lines();
     bad_numbers();
+    searches();
 }
