@@ -1,11 +1,18 @@
-// What the lines of an exercise say, or what is wrong with them: the number of channels, a formula, and then either channels like
+// What the lines of an exercise say, or what is wrong with them. The number of channels comes first. A search goes on with the number
+// of steps and a formula, and may end with `tries=1000`. Any other exercise goes on with a formula, and then either channels like
 // `a=0110`, or `steps=8` and `file=` with the path of a clause file, in any order.
 use grammar::MAX_CHANNELS;
 use reader::Got;
 ghost use mathlib.Core.Path.{_≡_};
-ghost use Prim.Native.Nat.{_-_, _≤_};
+ghost use Prim.Native.Nat.{suc, _+_, _*_, _-_, _≤_};
 ghost use lib.ListN.{length};
 ghost use Rattle.arguments.specs.Levels.{raisedBy, Raised};
+ghost use Rattle.arguments.specs.Number.{maxTries, limited, valueFrom};
+
+// The most tries that a search's limit allows, and those of one that is given no limit.
+pub const MAX_TRIES: u64 = 4294967295;
+
+pub const TRIES: u32 = 1000000;
 
 // What is wrong; of a channel, by its number.
 pub enum Fault {
@@ -31,6 +38,13 @@ pub enum Fault {
     StepsAlone,
     FileAndLevels,
     FileAlone,
+    // No number where a search has its steps.
+    Second,
+    // No number after tries=, or one above all limits.
+    Tries,
+    Many,
+    // What no search has after its formula.
+    Rest,
 }
 
 pub enum Number {
@@ -57,6 +71,12 @@ enum Taken {
 pub enum Task {
     Judge(usize),
     File(u32),
+    Wrong(Fault),
+}
+
+// What a search is asked for: a recording of so many steps, within a limit of tries.
+pub enum Sought {
+    First { steps: u32, limit: u32 },
     Wrong(Fault),
 }
 
@@ -315,5 +335,91 @@ pub fn take_task(recording: &mut [u8], input: &[u8], c: u32) -> Task {
     match taken {
         Taken::Good(given) => task_of(given),
         Taken::Bad(fault) => Task::Wrong(fault),
+    }
+}
+
+// Whether the lines after the number of channels are a search's: these begin with the number of steps, and no formula begins with a digit.
+pub fn is_search(lines: &[u8]) -> bool {
+    if lines.len() == 0 {
+        return false;
+    }
+    grammar::is_digit(lines[0])
+}
+
+// The value of a digit.
+fn digit(b: u8) -> u64
+    ensures { λ r. ⌜ r ≡ b - 48 ⌝ }
+{
+    if b < 48 {
+        return 0;
+    }
+    (b - 48) as u64
+}
+
+// One digit more, one above the most tries for all beyond.
+fn with_digit(v: u64, b: u8) -> u64
+    requires { ⌜ v ≤ suc maxTries ⌝ }
+    ensures { λ r. ⌜ (r ≡ limited (v * 10 + (b - 48))) × (r ≤ suc maxTries) ⌝ }
+{
+    let n = v * 10 + digit(b);
+    if n <= MAX_TRIES { n } else { MAX_TRIES + 1 }
+}
+
+// The number that digits write, one above the most tries for all beyond.
+fn value(digits: &[u8]) -> u64
+    ensures { λ r. ⌜ r ≡ limited (valueFrom 0 (now (digits .entry))) ⌝ }
+{
+    let mut v = 0;
+    for at in 0..digits.len() {
+        v = with_digit(v, digits[at]);
+    }
+    v
+}
+
+// The limit after tries=, written like any number.
+fn with_limit(steps: u32, text: &[u8]) -> Sought {
+    let form = decimal(text);
+    match form {
+        Number::Of(_) => {
+            let limit = value(text);
+            if limit > MAX_TRIES {
+                return Sought::Wrong(Fault::Many);
+            }
+            Sought::First {
+                steps,
+                limit: limit as u32,
+            }
+        }
+        Number::Zero => Sought::Wrong(Fault::Zero),
+        Number::Not => Sought::Wrong(Fault::Tries),
+    }
+}
+
+// The lines after a search's formula: none, or the limit's.
+fn take_limit(steps: u32, lines: &[u8]) -> Sought {
+    if lines.len() == 0 {
+        return Sought::First {
+            steps,
+            limit: TRIES,
+        };
+    }
+    let only = line(lines);
+    if !begins(only, b"tries=") || after_line(lines).len() > 0 {
+        return Sought::Wrong(Fault::Rest);
+    }
+    with_limit(steps, after(only, 6))
+}
+
+// What the lines of a search, after the number of channels, ask for. Its formula is the second.
+pub fn take_search(lines: &[u8]) -> Sought {
+    let rest = after_line(lines);
+    if rest.len() == 0 {
+        return Sought::Wrong(Fault::Few);
+    }
+    let steps = decimal(line(lines));
+    match steps {
+        Number::Of(k) => take_limit(k, after_line(rest)),
+        Number::Zero => Sought::Wrong(Fault::Zero),
+        Number::Not => Sought::Wrong(Fault::Second),
     }
 }

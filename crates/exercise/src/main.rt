@@ -1,13 +1,16 @@
-// One exercise. It reads, one to a line, the number of channels, a formula, and a channel's levels as `a=0110`; it draws the
-// recording and writes whether it satisfies the formula. Given `steps=8` and `file=` instead, it writes the sizes of the formula's
-// clause table, and a small table's clauses. Or it writes why there is no answer.
+// One exercise. It reads, one to a line, the number of channels, the number of steps and a formula; it draws the first recording that
+// satisfies the formula. Given no steps, but after the formula a channel's levels as `a=0110`, it draws that recording and writes
+// whether it satisfies the formula. Given `steps=8` and `file=` there, it writes the sizes of the formula's clause table, and a small
+// table's clauses. Or it writes why there is no answer.
 mod clauses;
 mod drawing;
+mod first;
 mod print;
 mod words;
 
 use arguments::Fault;
 use arguments::Number;
+use arguments::Sought;
 use arguments::Task;
 use evaluator::Verdict;
 use grammar::MAX_CHANNELS;
@@ -24,7 +27,7 @@ fn main() {
     exercise(&input[..n]);
 }
 
-// The lines in order: the number of channels, the formula, the others.
+// The lines in order: the number of channels, the others.
 fn exercise(input: &[u8]) {
     if input.len() == INPUT {
         return words::put_fault(Fault::Long);
@@ -35,17 +38,36 @@ fn exercise(input: &[u8]) {
     }
     let count = arguments::decimal(arguments::line(input));
     match count {
-        Number::Of(c) => answer(arguments::line(rest), c, arguments::after_line(rest)),
+        Number::Of(c) => answer(rest, c),
         Number::Zero => words::put_fault(Fault::Zero),
         Number::Not => words::put_fault(Fault::Count),
     }
 }
 
-// Question 1 first, as the channels are read by C; then the other lines; then the evaluator or the table asks its questions in order.
-fn answer(text: &[u8], c: u32, lines: &[u8]) {
+// Question 1 first, as the channels are read by C; then the other lines; then the search, the evaluator or the table asks its questions
+// in order.
+fn answer(lines: &[u8], c: u32) {
     if let Reply::No(r) = refusal::ask_within(1, c as usize, 1, MAX_CHANNELS) {
-        return words::put_refusal(text, c, r);
+        return words::put_refusal(lines, c, r);
     }
+    if arguments::is_search(lines) {
+        return search_for(lines, c);
+    }
+    work_on(arguments::line(lines), c, arguments::after_line(lines));
+}
+
+// The steps, the formula, and perhaps a limit.
+fn search_for(lines: &[u8], c: u32) {
+    let text = arguments::line(arguments::after_line(lines));
+    let sought = arguments::take_search(lines);
+    match sought {
+        Sought::First { steps, limit } => first::put_first(text, c, steps, limit),
+        Sought::Wrong(fault) => words::put_fault(fault),
+    }
+}
+
+// The lines after the formula.
+fn work_on(text: &[u8], c: u32, lines: &[u8]) {
     let mut recording = [0u8; Interval::MAX_STEPS];
     let task = arguments::take_task(&mut recording, lines, c);
     match task {

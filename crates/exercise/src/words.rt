@@ -66,19 +66,48 @@ fn put_wrong_file(fault: Fault) {
         Fault::FileAndLevels => put(
             b"a clause file is of the formula alone, so the levels are left out",
         ),
-        _ => put(b"a clause file is for a number of steps, which steps= gives, as in steps=8"),
+        Fault::FileAlone => put(
+            b"a clause file is for a number of steps, which steps= gives, as in steps=8",
+        ),
+        _ => put_wrong_search(fault),
     }
 }
 
-fn put_usage() {
-    put_limit(
+// The same of the arguments for a search.
+fn put_wrong_search(fault: Fault) {
+    match fault {
+        Fault::Second => put(b"the number of steps is written in digits alone, as in 8"),
+        Fault::Tries => put(b"tries= is followed by the most tries to make, as in tries=1000"),
+        Fault::Many => put_limit(
+            b"the most that tries= can allow is ",
+            arguments::MAX_TRIES as usize,
+        ),
+        _ => put(b"after steps and formula only tries= can follow, as in tries=1000"),
+    }
+}
+
+fn put_forms() {
+    put(
         b"\n\n\
-usage:    ./exercise CHANNELS FORMULA [LETTER=LEVELS]..\n\
+usage:    ./exercise CHANNELS STEPS FORMULA [tries=LIMIT]\n\
+\x20         ./exercise CHANNELS FORMULA [LETTER=LEVELS]..\n\
 \x20         ./exercise CHANNELS FORMULA steps=STEPS file=PATH\n\
-example:  ./exercise 2 '(#a>=2;[b])' a=0110 b=0011\n\
-\x20         ./exercise 1 '#a>=1' steps=1 file=once.clauses\n\n\
-CHANNELS  how many channels there are, from 1 to ",
+example:  ./exercise 2 8 '(#a>=2;#b>=1)'\n\
+\x20         ./exercise 2 '(#a>=2;[b])' a=0110 b=0011\n\
+\x20         ./exercise 1 '#a>=1' steps=1 file=once.clauses\n\n",
+    );
+}
+
+fn put_usage() {
+    put_forms();
+    put_limit(
+        b"CHANNELS  how many channels there are, from 1 to ",
         MAX_CHANNELS,
+    );
+    put_limit(
+        b"\n\
+STEPS     how many instants there are, at most ",
+        Interval::MAX_STEPS,
     );
     put_limit(
         b"\n\
@@ -89,16 +118,19 @@ FORMULA   without blanks, in single quotes:\n\
 \x20           !P  (P&Q)  (P|Q)    not, and, or\n\
 \x20           T  F                true, false\n\
 \x20         P and Q are formulas; S is a letter, T, F, !S, (S&S) or (S|S)\n\
+LIMIT     how many tries may be made for the first recording: ",
+        arguments::TRIES as usize,
+    );
+    put_limit(
+        b" if it is not given\n\
 LEVELS    0 for low and 1 for high, one for each instant, at most ",
         Interval::MAX_STEPS,
     );
-    put_limit(
+    put(
         b";\n\
 \x20         a channel that is not given is low throughout\n\
-STEPS     how many instants there are, at most ",
-        Interval::MAX_STEPS,
+PATH      where to write the formula's clause file for so many instants\n",
     );
-    put(b"\nPATH      where to write the formula's clause file for so many instants\n");
 }
 
 // What is wrong with the arguments, and how to write them.
@@ -152,6 +184,23 @@ fn put_why(text: &[u8], c: u32, number: u32, place: usize) {
     }
 }
 
+// The question that is answered with no.
+fn put_question(r: Refusal) {
+    put_limit(b" (question ", r.number as usize);
+    put_limit(b" at ", r.place as usize);
+    put(b")\n");
+}
+
+// Question 18 of a search, which has room for so many literals.
+pub fn put_too_large(literals: usize, r: Refusal) {
+    put_limit(
+        b"refused: the clause table is too large for this program, which has room for ",
+        literals,
+    );
+    put(b" literals; firmware can lend more");
+    put_question(r);
+}
+
 // Why a formula or a recording is refused, with a mark under the place where the question names one.
 pub fn put_refusal(text: &[u8], c: u32, r: Refusal) {
     let place = r.place as usize;
@@ -160,7 +209,5 @@ pub fn put_refusal(text: &[u8], c: u32, r: Refusal) {
     }
     put(b"refused: ");
     put_why(text, c, r.number, place);
-    put_limit(b" (question ", r.number as usize);
-    put_limit(b" at ", place);
-    put(b")\n");
+    put_question(r);
 }
