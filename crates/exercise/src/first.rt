@@ -7,7 +7,7 @@ use interval::Interval;
 use refusal::Refusal;
 use search::Answer;
 
-// Room for a clause table of so many literals, and for the values of so many variables: no table that fits has more of these.
+// Room for a clause table of so many literals, and for so many variables: a formula whose table has no more literals has no more of these.
 const LITERALS: usize = 524288;
 
 const VARIABLES: usize = 81920;
@@ -64,14 +64,13 @@ fn put_refusal(text: &[u8], c: u32, r: Refusal) {
     words::put_refusal(text, c, r);
 }
 
-// The search, and what it answers.
-pub fn put_first(text: &[u8], c: u32, k: u32, limit: u32) {
+// The search, in that room.
+fn find(text: &[u8], c: u32, k: u32, limit: u32, recording: &mut [u8]) -> Answer {
     let mut variables = [0u32; LITERALS];
     let mut marks = [0u8; LITERALS];
     let mut values = [0u8; VARIABLES];
     let mut trail = [0u32; VARIABLES];
-    let mut recording = [0u8; Interval::MAX_STEPS];
-    let answer = search::search(
+    search::search(
         text,
         c,
         k,
@@ -80,8 +79,14 @@ pub fn put_first(text: &[u8], c: u32, k: u32, limit: u32) {
         &mut marks,
         &mut values,
         &mut trail,
-        &mut recording,
-    );
+        recording,
+    )
+}
+
+// What the search answers.
+pub fn put_first(text: &[u8], c: u32, k: u32, limit: u32) {
+    let mut recording = [0u8; Interval::MAX_STEPS];
+    let answer = find(text, c, k, limit, &mut recording);
     match answer {
         Answer::Found(n) => put_found(text, c, arguments::first(&recording, k as usize), n),
         Answer::None(n) => put_none(text, k, n),
