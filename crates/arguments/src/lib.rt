@@ -12,7 +12,7 @@ ghost use Rattle.arguments.specs.Number.{maxTries, limited, valueFrom};
 // The most tries that a search's limit allows, and those of one that is given no limit.
 pub const MAX_TRIES: u64 = 4294967295;
 
-pub const TRIES: u32 = 1000000;
+pub const TRIES: u32 = 100000;
 
 // What is wrong; of a channel, by its number.
 pub enum Fault {
