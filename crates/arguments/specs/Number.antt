@@ -9,8 +9,8 @@ abbrev pub maxTries : ℕ
 maxTries = 4294967295
 
 -- one above it for all beyond
-abbrev pub limited : ℕ → ℕ
-limited n = cond (leb n maxTries) n (suc maxTries)
+abbrev pub cappedTries : ℕ → ℕ
+cappedTries n = cond (leb n maxTries) n (suc maxTries)
 
 -- the number that digits write, v for those before them
 unfoldable pub valueFrom : ℕ → List ℕ → ℕ

@@ -7,7 +7,7 @@ ghost use mathlib.Core.Path.{_≡_};
 ghost use Prim.Native.Nat.{suc, _+_, _*_, _-_, _≤_};
 ghost use lib.ListN.{length};
 ghost use Rattle.arguments.specs.Levels.{raisedBy, Raised};
-ghost use Rattle.arguments.specs.Number.{maxTries, limited, valueFrom};
+ghost use Rattle.arguments.specs.Number.{maxTries, cappedTries, valueFrom};
 
 // The most tries that a search's limit allows, and those of one that is given no limit.
 pub const MAX_TRIES: u64 = 4294967295;
@@ -359,7 +359,7 @@ fn digit(b: u8) -> u64
 // One digit more, one above the most tries for all beyond.
 fn with_digit(v: u64, b: u8) -> u64
     requires { ⌜ v ≤ suc maxTries ⌝ }
-    ensures { λ r. ⌜ (r ≡ limited (v * 10 + (b - 48))) × (r ≤ suc maxTries) ⌝ }
+    ensures { λ r. ⌜ (r ≡ cappedTries (v * 10 + (b - 48))) × (r ≤ suc maxTries) ⌝ }
 {
     let n = v * 10 + digit(b);
     if n <= MAX_TRIES { n } else { MAX_TRIES + 1 }
@@ -367,7 +367,7 @@ fn with_digit(v: u64, b: u8) -> u64
 
 // The number that digits write, one above the most tries for all beyond.
 fn value(digits: &[u8]) -> u64
-    ensures { λ r. ⌜ r ≡ limited (valueFrom 0 (now (digits .entry))) ⌝ }
+    ensures { λ r. ⌜ r ≡ cappedTries (valueFrom 0 (now (digits .entry))) ⌝ }
 {
     let mut v = 0;
     for at in 0..digits.len() {

@@ -8,7 +8,7 @@ use native.Mathlib.Omega.{arith}
 use lib.Dec.{leb}
 use borrow.Author.Tests.{leb-true, leb-false, le-leb, lt-leb}
 use Rattle.interval.specs.declared.Interval.{Interval}
-use Rattle.meaning.specs.Meaning.{bit, highs, every, some, lasts, fills}
+use Rattle.meaning.specs.Meaning.{bit, highs, every, any, lasts, fills}
 use Rattle.circuit.specs.Circuit.{shorter}
 
 -- one more of the instants is high, or not
@@ -50,7 +50,7 @@ module _ (f : ℕ → Bool) (v : Interval) where
     lasts-longer c = rw (steps, last) (one-more c (highs f (v .i) (v .j - 1 - v .i)) (f (v .j - 1)))
 
 -- numbers in a row that stand for others in a row
-pub some-along : (f g : ℕ → Bool) (i j n : ℕ) → ((e : ℕ) → e < n → f (i + e) ≡ g (j + e)) → some f i n ≡ some g j n
-unfolding some
+pub some-along : (f g : ℕ → Bool) (i j n : ℕ) → ((e : ℕ) → e < n → f (i + e) ≡ g (j + e)) → any f i n ≡ any g j n
+unfolding any
 some-along f g i j zero h = refl
 some-along f g i j (suc n) h = ap₂ _||_ (some-along f g i j n (λ e l. h e (omega arith))) (h n (omega arith))

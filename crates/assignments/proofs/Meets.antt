@@ -22,7 +22,7 @@ use Rattle.grammar.specs.declared.Sort.the-variants.{Formula}
 use Rattle.grammar.proofs.Bytes.{cond-elim}
 use Rattle.formula.specs.Nodes.{nodesOf}
 use Rattle.formula.proofs.Lists.{All, all-append}
-use Rattle.meaning.specs.Meaning.{bit, channelAt, highs, some, lasts, fills, chops, truth}
+use Rattle.meaning.specs.Meaning.{bit, channelAt, highs, any, lasts, fills, chops, truth}
 use Rattle.word.proofs.Words.{high-bit}
 use Rattle.circuit.specs.Gates.{Assignment, valueOf}
 use Rattle.circuit.specs.Circuit.{channelOf, pointsOf, widthOf, blocksOf, truthOf, Definition, shorter, throughoutGate, levelOf, levelGate, tripleGate, chopGate, ownBy, leftOf, rightOf, ownOf, definedFrom}
@@ -117,7 +117,7 @@ module _ (a : Assignment) (k : ℕ) where
     chop-meets b h v o =
         let cut : ℕ → Triple = λ m. record { i = v .i; m = m; j = v .j } in
         let n : suc (v .j) - v .i ≡ suc (v .j - v .i) = omega arith in
-        on-intervals b (chops f g) h v o ∙ ap (some (λ m. cuts f g (cut m)) (v .i)) n
+        on-intervals b (chops f g) h v o ∙ ap (any (λ m. cuts f g (cut m)) (v .i)) n
         ∙ sym (some-along a (λ m. cuts f g (cut m)) (w + triplePlaceOf k (cut (v .i))) (v .i) (suc (v .j - v .i)) (λ e l.
         let q : w + triplePlaceOf k (cut (v .i)) + e ≡ w + triplePlaceOf k (cut (v .i + e)) = omega (arith, triples-in-a-row k (v .i) (v .i + e) (v .j)) in
         ap a q ∙ on-triples (cut (v .i + e)) (omega arith)))

@@ -13,7 +13,7 @@ use borrow.Rule.Slice.PartMut.{midOf, putMid, mid-len}
 use Rattle.interval.specs.Places.{countOf}
 use Rattle.interval.specs.declared.Interval.{Interval}
 use Rattle.grammar.proofs.Bytes.{both}
-use Rattle.meaning.specs.Meaning.{bit, some, chops}
+use Rattle.meaning.specs.Meaning.{bit, any, chops}
 use Rattle.meaning.proofs.Laws.{some-one}
 use Rattle.table.specs.Table.{TableOf, RowOf, startOf}
 use Rattle.chop.specs.Rows.{NextRows, Within}
@@ -46,13 +46,13 @@ module _ (f g : Interval → Bool) (i : ℕ) where
 
   -- whether some of the first c m's serves for [i, i + y]
   abbrev pub upto : ℕ → ℕ → ℕ
-  upto y c = bit (some (serves y) i c)
+  upto y c = bit (any (serves y) i c)
 
   pub record ChoppedTo (d : ℕ) (row : List ℕ) : Type 0 where
     pub at : (y : ℕ) → y < length row → getD row y 0 ≡ upto y (min d (suc y))
 
   chop-begun : (row : List ℕ) → ((y : ℕ) → y < length row → getD row y 0 ≡ 0) → ChoppedTo 0 row
-  unfolding some
+  unfolding any
   chop-begun row e = record { at = λ y h. e y h ∙ ap (upto y) (none y) }
     where
       none : (y : ℕ) → 0 ≡ min 0 (suc y)
@@ -69,22 +69,22 @@ module _ (f g : Interval → Bool) (i : ℕ) where
   still : (d : ℕ) (row : List ℕ) (b : ℕ) → ChoppedTo d row → (y : ℕ) → y < d → y < length row → b ≡ getD row y 0 → b ≡ upto y (min (d + 1) (suc y))
   still d row b w y h l e = let m : min d (suc y) ≡ min (d + 1) (suc y) = omega arith in e ∙ w .at y l ∙ ap (upto y) m
 
-  one-more : (y d : ℕ) → d ≤ y → bit (some (serves y) i d || serves y (i + d)) ≡ upto y (min (d + 1) (suc y))
-  unfolding some
+  one-more : (y d : ℕ) → d ≤ y → bit (any (serves y) i d || serves y (i + d)) ≡ upto y (min (d + 1) (suc y))
+  unfolding any
   one-more y d h = let m : suc d ≡ min (d + 1) (suc y) = omega arith in ap (upto y) m
 
   before-it : (y d : ℕ) → d ≤ y → min d (suc y) ≡ d
   before-it y d h = omega arith
 
   -- an m that serves only where an earlier one does
-  absorbed : (d : ℕ) (row : List ℕ) → ((y : ℕ) → d ≤ y → y < length row → serves y (i + d) ≡ true → some (serves y) i d ≡ true) → ChoppedTo d row → ChoppedTo (d + 1) row
+  absorbed : (d : ℕ) (row : List ℕ) → ((y : ℕ) → d ≤ y → y < length row → serves y (i + d) ≡ true → any (serves y) i d ≡ true) → ChoppedTo d row → ChoppedTo (d + 1) row
   absorbed d row h w = record { at = λ y l. go y l (ltb y d) refl }
     where
       go : (y : ℕ) → y < length row → (c : Bool) → ltb y d ≡ c → getD row y 0 ≡ upto y (min (d + 1) (suc y))
       go y l true e = still d row (getD row y 0) w y (ltb-true y d e) l refl
       go y l false e =
           let m = ltb-false y d e in
-          w .at y l ∙ ap (upto y) (before-it y d m) ∙ ap bit (or-absorbs (some (serves y) i d) (serves y (i + d)) (h y m l)) ∙ one-more y d m
+          w .at y l ∙ ap (upto y) (before-it y d m) ∙ ap bit (or-absorbs (any (serves y) i d) (serves y (i + d)) (h y m l)) ∙ one-more y d m
 
   chop-no : (d : ℕ) (row : List ℕ) → f (record { i = i; j = i + d }) ≡ false → ChoppedTo d row → ChoppedTo (d + 1) row
   chop-no d row e w = absorbed d row (λ y h l t. absurd (false≢true (sym e ∙ both _ _ t .0))) w
@@ -102,7 +102,7 @@ module _ (f g : Interval → Bool) (i : ℕ) where
           put-within d (length row - d) row tail (omega arith) l z h ∙ o z h
           ∙ ap₂ bitOr (w .at (d + z) (omega arith) ∙ ap (upto (d + z)) (before-it (d + z) d (omega arith)))
           (row-entry k g q Q (i + d) z (omega arith) ∙ ap (λ (j : ℕ). bit (g (record { i = i + d; j = j }))) v ∙ sym (ap (λ (b : Bool). bit (b && g (record { i = i + d; j = i + (d + z) }))) t))
-          ∙ or-bits (some (serves (d + z)) i d) (serves (d + z) (i + d)) ∙ one-more (d + z) d (omega arith)
+          ∙ or-bits (any (serves (d + z)) i d) (serves (d + z) (i + d)) ∙ one-more (d + z) d (omega arith)
 
       chop-yes : ChoppedTo (d + 1) after
       chop-yes = record { at = λ y h. go y (omega (arith, put-length d (length row - d) row tail (omega arith) l)) (ltb y d) refl }
@@ -115,7 +115,7 @@ module _ (f g : Interval → Bool) (i : ℕ) where
 
     -- and the rows within it add nothing
     module _ (nexts : List ℕ) (W : Within k g nexts) (row : List ℕ) (n : length row ≡ suc k - i) where
-      inside : (e : ℕ) → d < e → i + e < getD nexts (i + d) 0 → (y : ℕ) → e ≤ y → y < length row → serves y (i + e) ≡ true → some (serves y) i e ≡ true
+      inside : (e : ℕ) → d < e → i + e < getD nexts (i + d) 0 → (y : ℕ) → e ≤ y → y < length row → serves y (i + e) ≡ true → any (serves y) i e ≡ true
       inside e a b y h l s =
           let r = W .within (i + d) (i + e) (i + y) (omega arith) b (omega arith) (omega arith) (both (f (record { i = i; j = i + e })) _ s .1) in
           some-one (serves y) i e .1 (i + d, omega arith, omega arith, ap₂ _&&_ t r)

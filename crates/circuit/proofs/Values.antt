@@ -6,7 +6,7 @@ use mathlib.Core.List.{[], _∷_}
 use Prim.Native.Nat.{ℕ, zero, suc, _+_}
 use Rattle.interval.specs.Listing.{rows, tab}
 use Rattle.formula.proofs.Lists.{All}
-use Rattle.meaning.specs.Meaning.{some}
+use Rattle.meaning.specs.Meaning.{any}
 use Rattle.circuit.specs.Gates.{Assignment, valueOf, inputsOf}
 use Rattle.circuit.specs.declared.Gate.{Gate}
 use Rattle.circuit.specs.declared.Gate.the-variants.{Constant, Copy, Inverse, Both, Either, AnyOf, Step}
@@ -16,8 +16,8 @@ module _ (a b : Assignment) where
   abbrev pub Same : ℕ → Type 0
   Same u = a u ≡ b u
 
-  some-same : (w n : ℕ) → All Same (tab n (λ e. w + e)) → some a w n ≡ some b w n
-  unfolding rows some
+  some-same : (w n : ℕ) → All Same (tab n (λ e. w + e)) → any a w n ≡ any b w n
+  unfolding rows any
   some-same w zero h = refl
   some-same w (suc n) h = let s = all-split Same (tab n (λ e. w + e)) ((w + n) ∷ []) h in ap₂ _||_ (some-same w n (s .0)) (s .1 .0)
 

@@ -3,7 +3,7 @@ use mathlib.Core.Bool.{Bool, not, _&&_, _||_}
 use mathlib.Core.List.{List, [], _∷_}
 use Prim.Native.Nat.{ℕ, _+_}
 use Rattle.interval.specs.Listing.{tab}
-use Rattle.meaning.specs.Meaning.{some}
+use Rattle.meaning.specs.Meaning.{any}
 use Rattle.circuit.specs.declared.Gate.{Gate}
 use Rattle.circuit.specs.declared.Gate.the-variants.{Constant, Copy, Inverse, Both, Either, AnyOf, Step}
 
@@ -18,7 +18,7 @@ valueOf a (Copy u) = a u
 valueOf a (Inverse x) = not (a x)
 valueOf a (Both x y) = a x && a y
 valueOf a (Either x y) = a x || a y
-valueOf a (AnyOf w n) = some a w n
+valueOf a (AnyOf w n) = any a w n
 valueOf a (Step p q s) = a p || a q && a s
 
 -- the variables that it turns on

@@ -17,7 +17,7 @@ use Rattle.clause_table.specs.Table.{fiveOf}
 use Rattle.clause_table.specs.declared.Sizes.{Sizes}
 use Rattle.clause_file.specs.File.{fileOf, fileLength, sizesAt, variablesAt, marksAt}
 use Rattle.clause_file.specs.Held.{Held}
-use Rattle.clause_file.specs.Questions.{allPass, askFile, askArrays, inLimits, isVariable, isMark, askEntries, askBytes, tableQuestions}
+use Rattle.clause_file.specs.Questions.{allPass, askFile, askArrays, inLimits, isVariable, isMark, askEntries, askFileRoom, entryQuestions}
 use Rattle.clause_file.specs.Calls.{arrayQuestions, fileQuestions}
 use Rattle.clause_file.proofs.Stored.{length-file}
 
@@ -50,19 +50,19 @@ module _ (file : List ℕ) (e : askFile file ≡ Yes) where
 
 -- the first of the reader's questions, once 15 to 17 are answered with yes
 pub asked-file : (file : List ℕ) → asked (fileQuestions file) No Yes ≡ Yes → askFile file ≡ Yes
-asked-file file = first-yes (askFile file) (tableQuestions (sizesAt file) (variablesAt file) (marksAt file))
+asked-file file = first-yes (askFile file) (entryQuestions (sizesAt file) (variablesAt file) (marksAt file))
 
 module _ (s : Sizes) (variables marks : List ℕ) (e : asked (arrayQuestions s variables marks) No Yes ≡ Yes) where
   pub arrays-long : (length variables ≡ s .literals) × (length marks ≡ s .literals)
   unfolding askArrays
   arrays-long =
-      let t = both (eqb (length variables) (s .literals)) (eqb (length marks) (s .literals)) (test-yes 15 0 _ (first-yes (askArrays (s .literals) (length variables) (length marks)) (tableQuestions s variables marks) e)) in
+      let t = both (eqb (length variables) (s .literals)) (eqb (length marks) (s .literals)) (test-yes 15 0 _ (first-yes (askArrays (s .literals) (length variables) (length marks)) (entryQuestions s variables marks) e)) in
       (eqb-true (length variables) (s .literals) (t .0), eqb-true (length marks) (s .literals) (t .1))
 
   -- so the file's bytes are 20 + 5L
   pub length-written : length (fileOf (fiveOf s) variables marks) ≡ fileLength (s .literals)
   length-written = omega (arith, length-file (fiveOf s) variables marks, arrays-long)
 
-  pub room-written : (file : List ℕ) → askBytes (s .literals) (length file) ≡ Yes → length (fileOf (fiveOf s) variables marks) ≤ length file
-  unfolding askBytes
+  pub room-written : (file : List ℕ) → askFileRoom (s .literals) (length file) ≡ Yes → length (fileOf (fiveOf s) variables marks) ≤ length file
+  unfolding askFileRoom
   room-written file f = omega (arith, length-written, leb-true (fileLength (s .literals)) (length file) (test-yes 18 0 _ f))

@@ -17,7 +17,7 @@ use Rattle.clause_table.specs.declared.Written.the-variants.{Done}
 use Rattle.clause_table.proofs.Call.{room-enough}
 use Rattle.clause_table.proofs.Measure.{stored-over}
 use Rattle.clause_file.specs.File.{fileOf, sizesAt, variablesAt, marksAt}
-use Rattle.clause_file.specs.Questions.{askBytes}
+use Rattle.clause_file.specs.Questions.{askFileRoom}
 use Rattle.clause_file.specs.Calls.{FileAfter, fileRefused, arrayQuestions, fileWritten, fileQuestions, fileRead}
 use Rattle.clause_file.proofs.Stored.{variables-count, marks-count}
 use Rattle.clause_file.proofs.Asking.{file-held, asked-file, room-written}
@@ -33,19 +33,19 @@ module _ (s : Sizes) (variables marks file : List ℕ) where
 
   pub write-refused : {r : Refusal} → asked (arrayQuestions s variables marks) No Yes ≡ No r → fileRefused file r ≡ fileWritten s variables marks file
   unfolding fileWritten
-  write-refused e = earlier-no (fileRefused file) (bytesDone (over bytes file)) (arrayQuestions s variables marks) (askBytes (s .literals) (length file)) e
+  write-refused e = earlier-no (fileRefused file) (bytesDone (over bytes file)) (arrayQuestions s variables marks) (askFileRoom (s .literals) (length file)) e
 
   module _ (e : asked (arrayQuestions s variables marks) No Yes ≡ Yes) where
-    pub write-short : {r : Refusal} → askBytes (s .literals) (length file) ≡ No r → fileRefused file r ≡ fileWritten s variables marks file
+    pub write-short : {r : Refusal} → askFileRoom (s .literals) (length file) ≡ No r → fileRefused file r ≡ fileWritten s variables marks file
     unfolding fileWritten
-    write-short f = last-no (fileRefused file) (bytesDone (over bytes file)) (arrayQuestions s variables marks) (askBytes (s .literals) (length file)) e f
+    write-short f = last-no (fileRefused file) (bytesDone (over bytes file)) (arrayQuestions s variables marks) (askFileRoom (s .literals) (length file)) e f
 
-    pub write-done : askBytes (s .literals) (length file) ≡ Yes → {file′ : List ℕ} → file′ ≡ sets file 0 (fileOf (fiveOf s) variables marks)
+    pub write-done : askFileRoom (s .literals) (length file) ≡ Yes → {file′ : List ℕ} → file′ ≡ sets file 0 (fileOf (fiveOf s) variables marks)
         → record { answer = Done; file = file′ } ≡ fileWritten s variables marks file
     unfolding fileWritten
     write-done f p =
         ap bytesDone (stored-over bytes file p (room-written s variables marks e file f))
-        ∙ last-yes (fileRefused file) (bytesDone (over bytes file)) (arrayQuestions s variables marks) (askBytes (s .literals) (length file)) e f
+        ∙ last-yes (fileRefused file) (bytesDone (over bytes file)) (arrayQuestions s variables marks) (askFileRoom (s .literals) (length file)) e f
 
 -- ---- the reader
 

@@ -17,7 +17,7 @@ use Rattle.clause_table.specs.declared.Sizes.{Sizes}
 use Rattle.clause_table.specs.declared.Written.the-variants.{Done}
 use Rattle.clause_file.specs.File.{bytesOf, fileOf, fileLength, numberAt, sizesAt, variablesAt, marksAt}
 use Rattle.clause_file.specs.Held.{Held}
-use Rattle.clause_file.specs.Questions.{askFile, askArrays, askBytes, tableQuestions}
+use Rattle.clause_file.specs.Questions.{askFile, askArrays, askFileRoom, entryQuestions}
 use Rattle.clause_file.specs.Calls.{fileRefused, arrayQuestions, fileWritten, fileQuestions, fileRead}
 use Rattle.clause_file.proofs.Stored.{length-bytes, variables-count, marks-count, variable-at}
 use Rattle.clause_file.proofs.Asking.{rest-yes, file-held, asked-file, length-written, arrays-long}
@@ -79,8 +79,8 @@ module _ (s : Sizes) (variables marks : List ℕ) (w : Words (fiveOf s)) (v : Wo
 
   questions-back : asked (fileQuestions written-file) No Yes ≡ Yes
   questions-back =
-      ap (λ (q : Reply). asked (q ∷ tableQuestions (sizesAt written-file) (variablesAt written-file) (marksAt written-file)) No Yes) file-yes
-      ∙ (λ i. asked (tableQuestions (sizes-back i) (variables-back i) (marks-back i)) No Yes) ∙ rest-yes (askArrays (s .literals) (length variables) (length marks)) (tableQuestions s variables marks) e
+      ap (λ (q : Reply). asked (q ∷ entryQuestions (sizesAt written-file) (variablesAt written-file) (marksAt written-file)) No Yes) file-yes
+      ∙ (λ i. asked (entryQuestions (sizes-back i) (variables-back i) (marks-back i)) No Yes) ∙ rest-yes (askArrays (s .literals) (length variables) (length marks)) (entryQuestions s variables marks) e
 
   -- reading what was written gives back the sizes and the arrays
   pub read-written : (sizes′ variables′ marks′ : List ℕ)
@@ -120,14 +120,14 @@ module _ (file : List ℕ) (o : Octets file) (e : asked (fileQuestions file) No 
 
   array-questions : asked (arrayQuestions s (variablesAt file) (marksAt file)) No Yes ≡ Yes
   array-questions =
-      let Q = tableQuestions s (variablesAt file) (marksAt file) in ap (λ (q : Reply). asked (q ∷ Q) No Yes) arrays-yes ∙ rest-yes (askFile file) Q e
+      let Q = entryQuestions s (variablesAt file) (marksAt file) in ap (λ (q : Reply). asked (q ∷ Q) No Yes) arrays-yes ∙ rest-yes (askFile file) Q e
 
   -- writing what was read gives back the bytes
   pub write-read : (file′ : List ℕ)
       → fileWritten (sizesAt file) (variablesAt file) (marksAt file) file′
-      ≡ asked (askBytes (sizesAt file .literals) (length file′) ∷ []) (fileRefused file′) (record { answer = Done; file = over file file′ })
+      ≡ asked (askFileRoom (sizesAt file .literals) (length file′) ∷ []) (fileRefused file′) (record { answer = Done; file = over file file′ })
   unfolding fileWritten
   write-read file′ =
-      asked-append (fileRefused file′) _ (arrayQuestions s (variablesAt file) (marksAt file)) (askBytes (s .literals) (length file′) ∷ [])
+      asked-append (fileRefused file′) _ (arrayQuestions s (variablesAt file) (marksAt file)) (askFileRoom (s .literals) (length file′) ∷ [])
       ∙ replied-yes (fileRefused file′) _ (arrayQuestions s (variablesAt file) (marksAt file)) array-questions
-      ∙ ap (λ (f : List ℕ). asked (askBytes (s .literals) (length file′) ∷ []) (fileRefused file′) (record { answer = Done; file = over f file′ })) bytes-back
+      ∙ ap (λ (f : List ℕ). asked (askFileRoom (s .literals) (length file′) ∷ []) (fileRefused file′) (record { answer = Done; file = over f file′ })) bytes-back

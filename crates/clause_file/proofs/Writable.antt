@@ -32,7 +32,7 @@ use Rattle.clause_table.specs.Table.{fiveOf, sizesOf, onTree, sizesIn, placesIn
 use Rattle.clause_table.specs.declared.Sizes.{Sizes}
 use Rattle.clause_table.specs.declared.Written.the-variants.{Done}
 use Rattle.clause_table.proofs.Laws.{table-all, places-named, last-mark}
-use Rattle.clause_file.specs.Questions.{allPass, howMany, askArrays, inLimits, isVariable, isMark, askEntries, closes, endsClosed, askClosed, askBytes}
+use Rattle.clause_file.specs.Questions.{allPass, howMany, askArrays, inLimits, isVariable, isMark, askEntries, closes, endsClosed, askClosed, askFileRoom}
 use Rattle.clause_file.specs.File.{fileOf, sizesBy, fileLength}
 use Rattle.clause_file.specs.Calls.{FileAfter, fileRefused, arrayQuestions, fileWritten}
 
@@ -67,8 +67,8 @@ low false = omega arith
 clause-marks : (c : Clause) → All (λ (e : Entry). e .mark ≤ 3) (entriesOf c)
 unfolding entriesOf
 clause-marks [] = tt
-clause-marks (l ∷ []) = (omega (arith, low (l .plain)), tt)
-clause-marks (l ∷ m ∷ c) = (omega (arith, low (l .plain)), clause-marks (m ∷ c))
+clause-marks (l ∷ []) = (omega (arith, low (l .sign)), tt)
+clause-marks (l ∷ m ∷ c) = (omega (arith, low (l .sign)), clause-marks (m ∷ c))
 
 closed-last : (b : Bool) → bit (closes (bit b + 2)) ≡ 1
 closed-last true = refl
@@ -80,8 +80,8 @@ open-other false = refl
 
 clause-closes : (l : Literal) (c : Clause) (F : List Entry) → howMany closes (marksIn (entriesOf (l ∷ c) ++ F)) ≡ 1 + howMany closes (marksIn F)
 unfolding entriesOf
-clause-closes l [] F = count-first closes _ (marksIn F) ∙ rw (closed-last (l .plain))
-clause-closes l (m ∷ c) F = count-first closes _ (marksIn (entriesOf (m ∷ c) ++ F)) ∙ rw (open-other (l .plain)) (omega (arith, clause-closes m c F))
+clause-closes l [] F = count-first closes _ (marksIn F) ∙ rw (closed-last (l .sign))
+clause-closes l (m ∷ c) F = count-first closes _ (marksIn (entriesOf (m ∷ c) ++ F)) ∙ rw (open-other (l .sign)) (omega (arith, clause-closes m c F))
 
 table-closes : (T : List Clause) → All Full T → howMany closes (marksIn (flat T)) ≡ length T
 unfolding flat flatMap highs
@@ -176,9 +176,9 @@ module _ (C k : ℕ) (t : List ℕ) (y : acceptOf C k t ≡ Yes) where
   pub table-written : (file : List ℕ) → fileLength (length (placesIn C k t)) ≤ length file
       → fileWritten (sizesBy (sizesIn C k t)) (variablesIn (placesIn C k t)) (marksIn (placesIn C k t)) file
       ≡ record { answer = Done; file = over (fileOf (sizesIn C k t) (variablesIn (placesIn C k t)) (marksIn (placesIn C k t))) file }
-  unfolding fileWritten askBytes
+  unfolding fileWritten askFileRoom
   table-written file h =
       let s = sizesBy (sizesIn C k t) in
       let done : List ℕ → FileAfter = λ (five : List ℕ). record { answer = Done; file = over (fileOf five (variablesIn places) (marksIn places)) file } in
-      sym (last-yes (fileRefused file) (done (fiveOf s)) (arrayQuestions s (variablesIn places) (marksIn places)) (askBytes (s .literals) (length file)) (writable C k t s y (five-sizes .1)) (rw (le-leb (fileLength (s .literals)) (length file) (omega (arith, five-sizes .2)))))
+      sym (last-yes (fileRefused file) (done (fiveOf s)) (arrayQuestions s (variablesIn places) (marksIn places)) (askFileRoom (s .literals) (length file)) (writable C k t s y (five-sizes .1)) (rw (le-leb (fileLength (s .literals)) (length file) (omega (arith, five-sizes .2)))))
       ∙ ap done (five-sizes .1)

@@ -10,7 +10,7 @@ use Rattle.clause_table.specs.declared.Sizes.{Sizes}
 use Rattle.clause_table.specs.declared.Written.{Written}
 use Rattle.clause_table.specs.declared.Written.the-variants.{Done, Refused}
 use Rattle.clause_file.specs.File.{fileOf, sizesAt, variablesAt, marksAt}
-use Rattle.clause_file.specs.Questions.{askFile, askArrays, askBytes, tableQuestions}
+use Rattle.clause_file.specs.Questions.{askFile, askArrays, askFileRoom, entryQuestions}
 
 -- the writer's answer, and the file's bytes after it
 pub record FileAfter : Type 0 where
@@ -22,16 +22,16 @@ fileRefused file r = record { answer = Refused r; file = file }
 
 -- the writer's 15, 16 and 17; then 18; then the bytes are written
 abbrev pub arrayQuestions : Sizes → List ℕ → List ℕ → List Reply
-arrayQuestions s variables marks = askArrays (s .literals) (length variables) (length marks) ∷ tableQuestions s variables marks
+arrayQuestions s variables marks = askArrays (s .literals) (length variables) (length marks) ∷ entryQuestions s variables marks
 
 unfoldable pub fileWritten : Sizes → List ℕ → List ℕ → List ℕ → FileAfter
 fileWritten s variables marks file =
-    asked (arrayQuestions s variables marks ++ askBytes (s .literals) (length file) ∷ []) (fileRefused file)
+    asked (arrayQuestions s variables marks ++ askFileRoom (s .literals) (length file) ∷ []) (fileRefused file)
     (record { answer = Done; file = over (fileOf (fiveOf s) variables marks) file })
 
 -- the reader's 15, 16 and 17; then 18; then the sizes and the arrays are written
 abbrev pub fileQuestions : List ℕ → List Reply
-fileQuestions file = askFile file ∷ tableQuestions (sizesAt file) (variablesAt file) (marksAt file)
+fileQuestions file = askFile file ∷ entryQuestions (sizesAt file) (variablesAt file) (marksAt file)
 
 unfoldable pub fileRead : List ℕ → List ℕ → List ℕ → List ℕ → After
 fileRead file sizes variables marks =

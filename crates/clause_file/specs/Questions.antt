@@ -51,9 +51,9 @@ unfoldable pub askClosed : ℕ → List ℕ → Reply
 askClosed M marks = question 17 0 (eqb M (howMany closes marks) && endsClosed marks)
 
 -- question 18, of the writer: is the file's array long enough?
-unfoldable pub askBytes : ℕ → ℕ → Reply
-askBytes L file = question 18 0 (leb (fileLength L) file)
+unfoldable pub askFileRoom : ℕ → ℕ → Reply
+askFileRoom L file = question 18 0 (leb (fileLength L) file)
 
 -- "the file's reader and its writer [ask] 15 to 18": 16 and 17 are the same for both, on sizes and arrays
-abbrev pub tableQuestions : Sizes → List ℕ → List ℕ → List Reply
-tableQuestions s variables marks = askEntries s variables marks ∷ askClosed (s .clauses) marks ∷ []
+abbrev pub entryQuestions : Sizes → List ℕ → List ℕ → List Reply
+entryQuestions s variables marks = askEntries s variables marks ∷ askClosed (s .clauses) marks ∷ []

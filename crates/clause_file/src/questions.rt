@@ -9,7 +9,7 @@ ghost use Prim.Native.Nat.{ℕ};
 ghost use Rattle.refusal.specs.Asked.{asked};
 ghost use Rattle.clause_file.specs.File.{variablesAt};
 ghost use Rattle.clause_file.specs.Held.{Held};
-ghost use Rattle.clause_file.specs.Questions.{allPass, howMany, askFile, askArrays, inLimits, isVariable, isMark, askEntries, closes, endsClosed, askClosed, askBytes, tableQuestions};
+ghost use Rattle.clause_file.specs.Questions.{allPass, howMany, askFile, askArrays, inLimits, isVariable, isMark, askEntries, closes, endsClosed, askClosed, askFileRoom, entryQuestions};
 ghost use Rattle.clause_file.specs.Calls.{arrayQuestions, fileQuestions};
 
 // C and k as in questions 1 and 2.
@@ -116,7 +116,7 @@ fn ask_closed(clauses: u32, marks: &[u8]) -> Reply
 
 // Both.
 fn ask_table(s: Sizes, fit: bool, marks: &[u8]) -> Reply
-    ensures { λ r. ⌜ ((variables : List ℕ) → fit ≡ allPass (isVariable (s .variables)) variables → r ≡ asked (tableQuestions s variables (now (marks .entry))) Reply.No Reply.Yes) ⌝ }
+    ensures { λ r. ⌜ ((variables : List ℕ) → fit ≡ allPass (isVariable (s .variables)) variables → r ≡ asked (entryQuestions s variables (now (marks .entry))) Reply.No Reply.Yes) ⌝ }
 {
     if let Reply::No(r) = ask_entries(s, fit, marks) {
         return Reply::No(r);
@@ -169,7 +169,7 @@ pub fn ask_file(file: &[u8]) -> Reply
 
 // Question 18 of the writer.
 pub fn ask_bytes(literals: u32, file: usize) -> Reply
-    ensures { λ r. ⌜ r ≡ askBytes literals file ⌝ }
+    ensures { λ r. ⌜ r ≡ askFileRoom literals file ⌝ }
 {
     refusal::ask(18, crate::file_length(literals) <= file)
 }

@@ -20,7 +20,7 @@ use Rattle.interval.specs.Places.{countOf}
 use Rattle.interval.proofs.Listing.{measure-rows, length-rows}
 use Rattle.grammar.specs.Limits.{maxNodes}
 use Rattle.grammar.specs.Trees.{Tree}
-use Rattle.grammar.specs.Reader.{Read, tree, read}
+use Rattle.grammar.specs.Reader.{Read, parsed, read}
 use Rattle.grammar.specs.declared.Sort.the-variants.{Formula}
 use Rattle.grammar.proofs.Bytes.{both}
 use Rattle.formula.specs.Nodes.{Node, nodesOf, nodesIn}
@@ -47,7 +47,7 @@ use Rattle.clauses.specs.Entries.{Entry, entriesOf, flat, variablesIn, marksIn}
 use Rattle.literals.specs.Written.{Room, Wrote}
 use Rattle.clauses.proofs.Sizes.{length-flat-join, clauses-by, literals-by}
 use Rattle.clause_table.specs.Table.{After, onTree, sizesOf, sizesIn, placesIn, askRoom, over, refused, writtenTable, fiveOf, tabled}
-use Rattle.node_clauses.specs.Nodes.{triplesOf, intervalsOf, nodeBy, nodePlaces}
+use Rattle.node_clauses.specs.Nodes.{tripleBlock, intervalBlock, nodeBy, nodePlaces}
 use Rattle.clause_table.specs.Rows.{blockBy, rowDefinitions, rowPlaces, tablePlaces, Low, Measured, tabledBy}
 use Rattle.clause_table.specs.declared.Sizes.{Sizes}
 use Rattle.clause_table.specs.declared.Written.the-variants.{Done}
@@ -80,8 +80,8 @@ chop-rule Cut e = absurd (false≢true e)
 node-weight : (w : Weight) (C k : ℕ) (b : Block) (c : Bool) → isChop (b .rule) ≡ c
     → weightAll w (nodeBy C k b c) ≡ cond c (weightBy w k (b .points) (b .rule) + weightBy w k (b .points) Cut) (weightBy w k (b .points) (b .rule))
 node-weight w C k b true e =
-    let t = triplesOf (b .first + countOf k) b in
-    let i = intervalsOf (b .first + countOf k) b in
+    let t = tripleBlock (b .first + countOf k) b in
+    let i = intervalBlock (b .first + countOf k) b in
     omega (arith, weight-append w (definedBy C k t) (definedBy C k i), block-weight w C k t, block-weight w C k i, ap (weightBy w k (b .points)) (chop-rule (b .rule) e))
 node-weight w C k b false e = block-weight w C k b
 
@@ -222,7 +222,7 @@ module _ (C k : ℕ) (t five variables marks : List ℕ) where
   unfolding acceptOf
   refused-first r e = sym (tabled-is ∙ replied-no (refused five variables marks) _ (formulaQuestions C k t) r e)
 
-  pub of-tree : (f : Tree Formula) → acceptOf C k t ≡ Yes → read t ≡ tree f → tabledBy C k f five variables marks ≡ tabled C k t five variables marks
+  pub of-tree : (f : Tree Formula) → acceptOf C k t ≡ Yes → read t ≡ parsed f → tabledBy C k f five variables marks ≡ tabled C k t five variables marks
   unfolding acceptOf tabledBy sizesIn placesIn
   of-tree f e r =
       sym (tabled-is ∙ replied-yes (refused five variables marks) _ (formulaQuestions C k t) e

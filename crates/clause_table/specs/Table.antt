@@ -8,7 +8,7 @@ use Rattle.refusal.specs.Asked.{question, asked}
 use Rattle.refusal.specs.declared.Refusal.{Refusal}
 use Rattle.refusal.specs.declared.Reply.{Reply}
 use Rattle.grammar.specs.Trees.{Tree}
-use Rattle.grammar.specs.Reader.{Read, tree, stopped, read}
+use Rattle.grammar.specs.Reader.{Read, parsed, stopped, read}
 use Rattle.grammar.specs.declared.Sort.the-variants.{Formula}
 use Rattle.formula.specs.Nodes.{nodesOf}
 use Rattle.formula.specs.Questions.{formulaQuestions}
@@ -29,7 +29,7 @@ fiveOf s = s .channels ∷ s .steps ∷ s .variables ∷ s .clauses ∷ s .liter
 
 -- of the tree that a text reads as; a text that does not read is refused before
 abbrev pub onTree : {A : Type 0} → (Tree Formula → List A) → Read Formula → List A
-onTree g (tree f) = g f
+onTree g (parsed f) = g f
 onTree g (stopped p) = []
 
 -- the sizes and the places of a text's table

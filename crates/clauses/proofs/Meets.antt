@@ -8,7 +8,7 @@ use Prim.Native.Nat.{ℕ, zero, suc, _+_}
 use Rattle.interval.specs.Listing.{rows, tab}
 use Rattle.grammar.proofs.Bytes.{both}
 use Rattle.formula.proofs.Lists.{All}
-use Rattle.meaning.specs.Meaning.{some}
+use Rattle.meaning.specs.Meaning.{any}
 use Rattle.circuit.specs.Gates.{Assignment, valueOf}
 use Rattle.circuit.specs.Circuit.{Definition}
 use Rattle.circuit.specs.declared.Gate.{Gate}
@@ -84,11 +84,11 @@ module _ (a : Assignment) where
       ∙ ap (λ (x : Bool). x && ((not (a v) || anyOf ws) && true)) (meets-each v ws)
       ∙ by-table 2 (λ x y. (x || not y) && ((not x || y) && true)) Bool·beq refl (a v) (anyOf ws)
 
-  pub any-some : (w n : ℕ) → anyOf (tab n (λ e. w + e)) ≡ some a w n
-  unfolding meetsClause rows some
+  pub any-some : (w n : ℕ) → anyOf (tab n (λ e. w + e)) ≡ any a w n
+  unfolding meetsClause rows any
   any-some w zero = refl
   any-some w (suc n) =
-      rw (map-append plain, meets-clause-append, any-some w n) (ap (λ (x : Bool). some a w n || x) (or-false (a (w + n))))
+      rw (map-append plain, meets-clause-append, any-some w n) (ap (λ (x : Bool). any a w n || x) (or-false (a (w + n))))
 
   -- ---- every gate, every list of definitions
 

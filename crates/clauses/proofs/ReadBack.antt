@@ -22,8 +22,8 @@ next-read false v F = refl
 
 clause-read : (l : Literal) (c : Clause) (F : List Entry) → readBack (entriesOf (l ∷ c) ++ F) ≡ (l ∷ c) ∷ readBack F
 unfolding entriesOf
-clause-read l [] F = last-read (l .plain) (l .variable) F
-clause-read l (m ∷ c) F = next-read (l .plain) (l .variable) (entriesOf (m ∷ c) ++ F) ∙ ap (begun l) (clause-read m c F)
+clause-read l [] F = last-read (l .sign) (l .variable) F
+clause-read l (m ∷ c) F = next-read (l .sign) (l .variable) (entriesOf (m ∷ c) ++ F) ∙ ap (begun l) (clause-read m c F)
 
 pub reads-before : (T : List Clause) (F : List Entry) → All Full T → readBack (flat T ++ F) ≡ T ++ readBack F
 unfolding flat flatMap

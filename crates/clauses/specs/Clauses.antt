@@ -11,13 +11,13 @@ use Rattle.circuit.specs.Circuit.{Definition, definitionsOf, rootOf}
 use Rattle.circuit.specs.declared.Gate.{Gate}
 use Rattle.circuit.specs.declared.Gate.the-variants.{Constant, Copy, Inverse, Both, Either, AnyOf, Step}
 
--- a variable, plain or negated
+-- a variable, plain (sign true) or negated
 pub record Literal : Type 0 where
   pub variable : ℕ
-  pub plain : Bool
+  pub sign : Bool
 
 abbrev pub literal : Bool → ℕ → Literal
-literal u v = record { variable = v; plain = u }
+literal u v = record { variable = v; sign = u }
 
 abbrev pub plain : ℕ → Literal
 plain v = literal true v
@@ -55,7 +55,7 @@ clauseTable C k f = clausesBy (definitionsOf C k (nodesOf f 0)) ++ (plain (rootO
 -- ---- "meets": a literal is true where its variable has its sign, a clause where one of its literals is, a table where all clauses are
 
 abbrev pub meetsLiteral : Assignment → Literal → Bool
-meetsLiteral a l = cond (l .plain) (a (l .variable)) (not (a (l .variable)))
+meetsLiteral a l = cond (l .sign) (a (l .variable)) (not (a (l .variable)))
 
 unfoldable pub meetsClause : Assignment → Clause → Bool
 meetsClause a [] = false

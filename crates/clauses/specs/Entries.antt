@@ -17,8 +17,8 @@ entry v m = record { variable = v; mark = m }
 -- "Mark: 1 plain, 0 negated, plus 2 on a clause's final literal."
 unfoldable pub entriesOf : Clause → List Entry
 entriesOf [] = []
-entriesOf (l ∷ []) = entry (l .variable) (bit (l .plain) + 2) ∷ []
-entriesOf (l ∷ m ∷ c) = entry (l .variable) (bit (l .plain)) ∷ entriesOf (m ∷ c)
+entriesOf (l ∷ []) = entry (l .variable) (bit (l .sign) + 2) ∷ []
+entriesOf (l ∷ m ∷ c) = entry (l .variable) (bit (l .sign)) ∷ entriesOf (m ∷ c)
 
 -- the table's places, clause after clause
 unfoldable pub flat : List Clause → List Entry

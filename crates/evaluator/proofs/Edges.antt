@@ -10,11 +10,11 @@ use Rattle.grammar.specs.Reader.{follow, endAfter, run, read}
 use Rattle.formula.specs.Nodes.{nodesOf, nodesIn}
 use Rattle.formula.specs.Questions.{askChannels, askLength, askGrammar, askLetters, askNumbers, askNodes}
 use Rattle.formula.proofs.Lists.{All}
-use Rattle.meaning.specs.Meaning.{bitAt, channelAt, highs, every, some, lasts, fills, chops, truth}
+use Rattle.meaning.specs.Meaning.{bitAt, channelAt, highs, every, any, lasts, fills, chops, truth}
 use Rattle.evaluator.specs.Evaluation.{askRecording, notBelow, askBelow, evaluated}
 use Rattle.evaluator.specs.Edges.{Edge, edges}
 
 -- the one theorem of the table
 pub edges-hold : All (λ (e : Edge). evaluated 1 (length (e .recording)) 0 (length (e .recording)) (ascii (e .text)) (e .recording) ≡ e .answer) edges
-unfolding ascii edges evaluated askChannels askSteps askLength askGrammar askLetters askNumbers askNodes askInterval askRecording notBelow askBelow follow endAfter run read nodesOf nodesIn flatMap decimalIn decimal write truth bitAt channelAt highs every some lasts fills chops
+unfolding ascii edges evaluated askChannels askSteps askLength askGrammar askLetters askNumbers askNodes askInterval askRecording notBelow askBelow follow endAfter run read nodesOf nodesIn flatMap decimalIn decimal write truth bitAt channelAt highs every any lasts fills chops
 edges-hold = (refl, (refl, (refl, (refl, (refl, (refl, tt))))))

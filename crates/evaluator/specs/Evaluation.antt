@@ -8,7 +8,7 @@ use Rattle.refusal.specs.Asked.{question, asked}
 use Rattle.refusal.specs.declared.Reply.{Reply}
 use Rattle.interval.specs.Limits.{askInterval}
 use Rattle.interval.specs.declared.Interval.{Interval}
-use Rattle.grammar.specs.Reader.{Read, tree, stopped, read}
+use Rattle.grammar.specs.Reader.{Read, parsed, stopped, read}
 use Rattle.grammar.specs.declared.Sort.the-variants.{Formula}
 use Rattle.formula.specs.Questions.{atFirst, formulaQuestions}
 use Rattle.meaning.specs.Meaning.{holds}
@@ -37,7 +37,7 @@ recordingQuestions C k i j recording = askInterval i j k ∷ askRecording k reco
 
 -- the truth of a text that reads; one that does not is refused before
 abbrev pub readHolds : List ℕ → Read Formula → Interval → Bool
-readHolds recording (tree f) v = holds recording f v
+readHolds recording (parsed f) v = holds recording f v
 readHolds recording (stopped p) v = false
 
 abbrev pub verdictOf : Bool → Verdict

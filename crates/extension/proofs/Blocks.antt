@@ -21,7 +21,7 @@ use Rattle.grammar.specs.Limits.{maxChannels}
 use Rattle.grammar.specs.Trees.{and, or, chop, Tree, constant, letter, negation, pair, duration, throughout, Letters}
 use Rattle.grammar.specs.declared.Sort.{Sort}
 use Rattle.grammar.specs.declared.Sort.the-variants.{State, Formula}
-use Rattle.meaning.specs.Meaning.{bit, Point, truth, some, lasts, fills, chops, channelAt}
+use Rattle.meaning.specs.Meaning.{bit, Point, truth, any, lasts, fills, chops, channelAt}
 use Rattle.meaning.proofs.Laws.{highs-agree, every-highs}
 use Rattle.circuit.specs.Circuit.{pointsOf, widthOf}
 use Rattle.circuit.proofs.Inputs.{intervals-in, triples-in}
@@ -45,8 +45,8 @@ map-agree : {A : Type 0} (In : A → Type 0) (f g : A → ℕ) (l : List A) → 
 map-agree In f g [] a h = refl
 map-agree In f g (x ∷ l) a h = ap₂ (λ (y : ℕ) (m : List ℕ). y ∷ m) (h x (a .0)) (map-agree In f g l (a .1) h)
 
-some-agree : (f g : ℕ → Bool) (i n : ℕ) → ((m : ℕ) → i ≤ m → m < i + n → f m ≡ g m) → some f i n ≡ some g i n
-unfolding some
+some-agree : (f g : ℕ → Bool) (i n : ℕ) → ((m : ℕ) → i ≤ m → m < i + n → f m ≡ g m) → any f i n ≡ any g i n
+unfolding any
 some-agree f g i zero h = refl
 some-agree f g i (suc n) h = ap₂ (λ (x y : Bool). x || y) (some-agree f g i n (λ m l r. h m l (omega arith))) (h (i + n) (omega arith) (omega arith))
 

@@ -15,14 +15,14 @@ use Rattle.interval.specs.Limits.{maxSteps}
 use Rattle.grammar.specs.Limits.{maxLength, maxNumber, maxChannels}
 use Rattle.grammar.specs.Trees.{decimal}
 use Rattle.grammar.proofs.Decimal.{decimal-digit, decimal-more, by-digits}
-use Rattle.scan.specs.Scans.{limited}
+use Rattle.scan.specs.Scans.{capped}
 use Rattle.scan.proofs.Loops.{limited-in, limited-out}
 use Rattle.formula.specs.Questions.{formulaQuestions, acceptOf}
 use Rattle.formula.proofs.Laws.{accepted}
 use Rattle.clause_table.specs.Table.{placesIn}
 use Rattle.file_line.specs.Line.{lineOf, Line, line, other, readLine}
 use Rattle.file_line.specs.Output.{askLiterals, fileIn, outputFor, outputOf, maxInput}
-use Rattle.file_line.specs.Parts.{lineBy, limitedLine}
+use Rattle.file_line.specs.Parts.{lineBy, cappedLine}
 use Rattle.file_line.specs.declared.Parts.{Parts}
 use Rattle.file_line.proofs.Laws.{line-is}
 
@@ -50,17 +50,17 @@ module _ (C k : ℕ) (t : List ℕ) where
 
 -- ---- numbers beyond the limits
 
-output-limited : (x : Line) → outputFor (limitedLine x) ≡ outputFor x
+output-limited : (x : Line) → outputFor (cappedLine x) ≡ outputFor x
 output-limited other = refl
 output-limited (line C k t) = by (decLt maxNumber C) (decLt maxNumber k)
   where
-    by : Dec (maxNumber < C) → Dec (maxNumber < k) → outputFor (line (limited C) (limited k) t) ≡ outputFor (line C k t)
-    by (no h) (no g) = ap (λ (n : ℕ). outputFor (line n (limited k) t)) (sym (limited-in C C refl (omega arith))) ∙ ap (λ (n : ℕ). outputFor (line C n t)) (sym (limited-in k k refl (omega arith)))
-    by (yes h) g = none-beyond (limited C) (limited k) t (λ w. omega (arith, limited-out C C refl h)) ∙ sym (none-beyond C k t (λ w. omega arith))
-    by (no h) (yes g) = none-beyond (limited C) (limited k) t (λ w. omega (arith, limited-out k k refl g)) ∙ sym (none-beyond C k t (λ w. omega arith))
+    by : Dec (maxNumber < C) → Dec (maxNumber < k) → outputFor (line (capped C) (capped k) t) ≡ outputFor (line C k t)
+    by (no h) (no g) = ap (λ (n : ℕ). outputFor (line n (capped k) t)) (sym (limited-in C C refl (omega arith))) ∙ ap (λ (n : ℕ). outputFor (line C n t)) (sym (limited-in k k refl (omega arith)))
+    by (yes h) g = none-beyond (capped C) (capped k) t (λ w. omega (arith, limited-out C C refl h)) ∙ sym (none-beyond C k t (λ w. omega arith))
+    by (no h) (yes g) = none-beyond (capped C) (capped k) t (λ w. omega (arith, limited-out k k refl g)) ∙ sym (none-beyond C k t (λ w. omega arith))
 
 -- what the parts that were read say has the input's output
-pub output-read : (l : List ℕ) {p q : Parts} → p ≡ q → lineBy l p ≡ limitedLine (readLine l) → outputFor (lineBy l q) ≡ outputOf l
+pub output-read : (l : List ℕ) {p q : Parts} → p ≡ q → lineBy l p ≡ cappedLine (readLine l) → outputFor (lineBy l q) ≡ outputOf l
 unfolding outputOf
 output-read l e w = ap outputFor (ap (lineBy l) (sym e) ∙ w) ∙ output-limited (readLine l)
 

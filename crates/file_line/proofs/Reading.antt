@@ -15,10 +15,10 @@ use Rattle.grammar.proofs.Written.{drop-byte}
 use Rattle.reader.specs.Parts.{testAt, isSign, digitCount, numberAt, onGood}
 use Rattle.reader.specs.declared.Got.{Got}
 use Rattle.reader.specs.declared.Got.the-variants.{Good, Bad}
-use Rattle.scan.specs.Scans.{limited, numberFrom}
+use Rattle.scan.specs.Scans.{capped, numberFrom}
 use Rattle.formula.proofs.Standing.{read-number}
 use Rattle.file_line.specs.Line.{line, other, Taken, taken, none, digits, number, blank, textLast, stepsNext, channelsFirst, readLine}
-use Rattle.file_line.specs.Parts.{limitedTaken, limitedLine}
+use Rattle.file_line.specs.Parts.{cappedTaken, cappedLine}
 use Rattle.file_line.proofs.Items.{item-is}
 
 -- ---- an item
@@ -71,16 +71,16 @@ module _ (l : List ℕ) where
 
   module _ (at : ℕ) (g : Got) (w : g ≡ onGood l (testAt (isSign 32)) (numberAt at (drop at l))) where
     -- the item's number is what is read from its place on
-    pub item-good : (next value : ℕ) → g ≡ Good next → value ≡ numberFrom 0 (drop at l) → taken value (drop next l) ≡ limitedTaken (blank (number (drop at l)))
+    pub item-good : (next value : ℕ) → g ≡ Good next → value ≡ numberFrom 0 (drop at l) → taken value (drop next l) ≡ cappedTaken (blank (number (drop at l)))
     item-good next value e v =
         let (n, f) = item-left at in
         let b : blank (number (drop at l)) ≡ taken n (drop next l) = f ∙ ap (leftBy l n) (sym w ∙ e) in
         let d = item-is (drop at l) n (drop next l) b in
-        let u : value ≡ limited n = v ∙ ap (numberFrom 0) d ∙ read-number n (32 ∷ drop next l) refl in
-        ap (λ (m : ℕ). taken m (drop next l)) u ∙ sym (ap limitedTaken b)
+        let u : value ≡ capped n = v ∙ ap (numberFrom 0) d ∙ read-number n (32 ∷ drop next l) refl in
+        ap (λ (m : ℕ). taken m (drop next l)) u ∙ sym (ap cappedTaken b)
 
-    pub item-bad : (p : ℕ) → g ≡ Bad p → none ≡ limitedTaken (blank (number (drop at l)))
-    item-bad p e = let (n, f) = item-left at in sym (ap limitedTaken (f ∙ ap (leftBy l n) (sym w ∙ e)))
+    pub item-bad : (p : ℕ) → g ≡ Bad p → none ≡ cappedTaken (blank (number (drop at l)))
+    item-bad p e = let (n, f) = item-left at in sym (ap cappedTaken (f ∙ ap (leftBy l n) (sym w ∙ e)))
 
 -- ---- the text
 
@@ -103,30 +103,30 @@ module _ (l : List ℕ) (c k at : ℕ) where
 
 -- ---- the line
 
-limited-text : (C k : ℕ) (q : List ℕ) → textLast (limited C) (limited k) q ≡ limitedLine (textLast C k q)
+limited-text : (C k : ℕ) (q : List ℕ) → textLast (capped C) (capped k) q ≡ cappedLine (textLast C k q)
 limited-text C k q = by (eqb (getD q (length q - 1) 0) 10)
   where
-    by : (c : Bool) → cond c (line (limited C) (limited k) (take (length q - 1) q)) other ≡ limitedLine (cond c (line C k (take (length q - 1) q)) other)
+    by : (c : Bool) → cond c (line (capped C) (capped k) (take (length q - 1) q)) other ≡ cappedLine (cond c (line C k (take (length q - 1) q)) other)
     by true = refl
     by false = refl
 
-limited-steps : (C : ℕ) (x : Taken) → stepsNext (limited C) (limitedTaken x) ≡ limitedLine (stepsNext C x)
+limited-steps : (C : ℕ) (x : Taken) → stepsNext (capped C) (cappedTaken x) ≡ cappedLine (stepsNext C x)
 limited-steps C (taken k q) = limited-text C k q
 limited-steps C none = refl
 
 module _ (l : List ℕ) where
-  pub line-good : (v : ℕ) (q : List ℕ) → taken v q ≡ limitedTaken (blank (number l)) → stepsNext v (limitedTaken (blank (number q))) ≡ limitedLine (readLine l)
+  pub line-good : (v : ℕ) (q : List ℕ) → taken v q ≡ cappedTaken (blank (number l)) → stepsNext v (cappedTaken (blank (number q))) ≡ cappedLine (readLine l)
   unfolding readLine
   line-good v q = by (blank (number l))
     where
-      by : (x : Taken) → taken v q ≡ limitedTaken x → stepsNext v (limitedTaken (blank (number q))) ≡ limitedLine (channelsFirst x)
+      by : (x : Taken) → taken v q ≡ cappedTaken x → stepsNext v (cappedTaken (blank (number q))) ≡ cappedLine (channelsFirst x)
       by none e = absurd (false≢true cc)
-      by (taken C r) e = let a : v ≡ limited C = cc in let b : q ≡ r = cc in rw (a, b) (limited-steps C (blank (number r)))
+      by (taken C r) e = let a : v ≡ capped C = cc in let b : q ≡ r = cc in rw (a, b) (limited-steps C (blank (number r)))
 
-  pub line-bad : none ≡ limitedTaken (blank (number l)) → other ≡ limitedLine (readLine l)
+  pub line-bad : none ≡ cappedTaken (blank (number l)) → other ≡ cappedLine (readLine l)
   unfolding readLine
   line-bad = by (blank (number l))
     where
-      by : (x : Taken) → none ≡ limitedTaken x → other ≡ limitedLine (channelsFirst x)
+      by : (x : Taken) → none ≡ cappedTaken x → other ≡ cappedLine (channelsFirst x)
       by none e = refl
       by (taken C r) e = absurd (false≢true cc)

@@ -3,7 +3,7 @@
 use mathlib.Core.List.{List}
 use Prim.Native.Nat.{ℕ, _-_, _≤_}
 use lib.ListN.{length, getD, take, drop}
-use Rattle.scan.specs.Scans.{limited}
+use Rattle.scan.specs.Scans.{capped}
 use Rattle.clause_file.specs.File.{sizesBy}
 use Rattle.clause_file.specs.Calls.{FileAfter, fileWritten}
 use Rattle.file_line.specs.Line.{Line, line, other, Taken, taken, none}
@@ -17,18 +17,18 @@ abbrev pub takenBy : List ℕ → Item → Taken
 takenBy l (OfItem value next) = taken value (drop next l)
 takenBy l NoItem = none
 
-abbrev pub limitedTaken : Taken → Taken
-limitedTaken (taken n q) = taken (limited n) q
-limitedTaken none = none
+abbrev pub cappedTaken : Taken → Taken
+cappedTaken (taken n q) = taken (capped n) q
+cappedTaken none = none
 
 -- what parts of an input say
 abbrev pub lineBy : List ℕ → Parts → Line
 lineBy l (Of c k first end) = line c k (take (end - first) (drop first l))
 lineBy l Other = other
 
-abbrev pub limitedLine : Line → Line
-limitedLine (line C k t) = line (limited C) (limited k) t
-limitedLine other = other
+abbrev pub cappedLine : Line → Line
+cappedLine (line C k t) = line (capped C) (capped k) t
+cappedLine other = other
 
 -- the text lies within the input
 abbrev pub PartsWithin : List ℕ → Parts → Type 0

@@ -9,7 +9,7 @@ ghost use Rattle.clause_table.specs.Table.{over};
 ghost use Rattle.clause_file.specs.File.{fileLength};
 ghost use Rattle.file_line.specs.Line.{line, number, blank, textLast, stepsNext, readLine};
 ghost use Rattle.file_line.specs.Output.{outputFor, outputOf, maxInput};
-ghost use Rattle.file_line.specs.Parts.{takenBy, limitedTaken, lineBy, limitedLine, PartsWithin, filePut};
+ghost use Rattle.file_line.specs.Parts.{takenBy, cappedTaken, lineBy, cappedLine, PartsWithin, filePut};
 
 // The arrays hold so many literals, and the file of so many.
 pub const MAX_LITERALS: usize = 8192;
@@ -45,7 +45,7 @@ pub fn room_for_input() -> [u8; MAX_INPUT]
 
 // The number and the blank from a place on.
 fn item_at(input: &[u8], at: usize) -> Item
-    ensures { λ r. ⌜ takenBy (now (input .entry)) r ≡ limitedTaken (blank (number (drop at (now (input .entry))))) ⌝ }
+    ensures { λ r. ⌜ takenBy (now (input .entry)) r ≡ cappedTaken (blank (number (drop at (now (input .entry))))) ⌝ }
 {
     let g = reader::signed_by(input, b' ', reader::numbered_by(input, Got::Good(at)));
     match g {
@@ -77,7 +77,7 @@ fn text_at(input: &[u8], c: u32, k: u32, at: usize) -> Parts
 
 // k and the text from a place on.
 fn steps_at(input: &[u8], c: u32, at: usize) -> Parts
-    ensures { λ r. ⌜ (lineBy (now (input .entry)) r ≡ stepsNext c (limitedTaken (blank (number (drop at (now (input .entry))))))) × PartsWithin (now (input .entry)) r ⌝ }
+    ensures { λ r. ⌜ (lineBy (now (input .entry)) r ≡ stepsNext c (cappedTaken (blank (number (drop at (now (input .entry))))))) × PartsWithin (now (input .entry)) r ⌝ }
 {
     let e = item_at(input, at);
     match e {
@@ -88,7 +88,7 @@ fn steps_at(input: &[u8], c: u32, at: usize) -> Parts
 
 // The parts of a line.
 fn read_line(input: &[u8]) -> Parts
-    ensures { λ r. ⌜ (lineBy (now (input .entry)) r ≡ limitedLine (readLine (now (input .entry)))) × PartsWithin (now (input .entry)) r ⌝ }
+    ensures { λ r. ⌜ (lineBy (now (input .entry)) r ≡ cappedLine (readLine (now (input .entry)))) × PartsWithin (now (input .entry)) r ⌝ }
 {
     let e = item_at(input, 0);
     match e {

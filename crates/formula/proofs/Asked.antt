@@ -10,40 +10,40 @@ use Rattle.refusal.specs.Asked.{question, asked}
 use Rattle.refusal.specs.declared.Reply.{Reply}
 use Rattle.refusal.specs.declared.Reply.the-variants.{Yes, No}
 use Rattle.grammar.specs.Limits.{maxLength}
-use Rattle.grammar.specs.Reader.{Read, tree, stopped, read}
+use Rattle.grammar.specs.Reader.{Read, parsed, stopped, read}
 use Rattle.grammar.specs.declared.Sort.the-variants.{Formula}
 use Rattle.grammar.proofs.Bytes.{ranged}
 use Rattle.grammar.proofs.Laws.{stops-at-place}
-use Rattle.reader.specs.Parts.{checked, checkedOf}
-use Rattle.reader.specs.declared.Checked.the-variants.{Reads, Stops}
+use Rattle.reader.specs.Parts.{parseOf, parseText}
+use Rattle.reader.specs.declared.Parse.the-variants.{Reads, Stops}
 use Rattle.scan.specs.Scans.{listOf}
 use Rattle.scan.specs.declared.Find.{Find}
 use Rattle.formula.specs.Questions.{atFirst, onRead, askLength, askGrammar}
 
 -- what a check of the grammar says
 module _ (t : List ℕ) where
-  pub grammar-reads : checkedOf t ≡ Reads → askGrammar t ≡ Yes
-  unfolding checkedOf askGrammar
+  pub grammar-reads : parseText t ≡ Reads → askGrammar t ≡ Yes
+  unfolding parseText askGrammar
   grammar-reads = go (read t)
     where
-      go : (o : Read Formula) → checked o ≡ Reads → onRead o ≡ Yes
-      go (tree f) e = refl
+      go : (o : Read Formula) → parseOf o ≡ Reads → onRead o ≡ Yes
+      go (parsed f) e = refl
       go (stopped p) e = absurd (false≢true cc)
 
-  pub grammar-stops : (p : ℕ) → checkedOf t ≡ Stops p → askGrammar t ≡ No (record { number = 4; place = p })
-  unfolding checkedOf askGrammar
+  pub grammar-stops : (p : ℕ) → parseText t ≡ Stops p → askGrammar t ≡ No (record { number = 4; place = p })
+  unfolding parseText askGrammar
   grammar-stops p = go (read t)
     where
-      go : (o : Read Formula) → checked o ≡ Stops p → onRead o ≡ No (record { number = 4; place = p })
-      go (tree f) e = absurd (false≢true cc)
+      go : (o : Read Formula) → parseOf o ≡ Stops p → onRead o ≡ No (record { number = 4; place = p })
+      go (parsed f) e = absurd (false≢true cc)
       go (stopped q) e = let h : q ≡ p = cc in ap (λ (q : ℕ). No (record { number = 4; place = q })) h
 
-  pub stop-within : (p : ℕ) → checkedOf t ≡ Stops p → p ≤ length t
-  unfolding checkedOf
+  pub stop-within : (p : ℕ) → parseText t ≡ Stops p → p ≤ length t
+  unfolding parseText
   stop-within p e = stops-at-place t p (go (read t) e) .within
     where
-      go : (o : Read Formula) → checked o ≡ Stops p → o ≡ stopped p
-      go (tree f) e = absurd (false≢true cc)
+      go : (o : Read Formula) → parseOf o ≡ Stops p → o ≡ stopped p
+      go (parsed f) e = absurd (false≢true cc)
       go (stopped q) e = let h : q ≡ p = cc in ap stopped h
 
 -- the first of some places

@@ -12,14 +12,14 @@ use borrow.Author.Tests.{ne-eqb, lt-leb, le-leb, lt-ltb}
 use Rattle.refusal.specs.declared.Reply.the-variants.{Yes}
 use Rattle.grammar.specs.Limits.{maxNumber, maxNodes}
 use Rattle.grammar.specs.Trees.{Link, and, or, chop, Tree, constant, letter, negation, pair, duration, throughout, Letters, textOf, linkByte}
-use Rattle.grammar.specs.Reader.{isLetter, isStart, Read, tree, stopped, read}
+use Rattle.grammar.specs.Reader.{isLetter, isStart, Read, parsed, stopped, read}
 use Rattle.grammar.specs.declared.Sort.{Sort}
 use Rattle.grammar.specs.declared.Sort.the-variants.{Formula}
 use Rattle.grammar.proofs.Bytes.{at-each}
 use Rattle.grammar.proofs.Laws.{prints-as-text}
 use Rattle.formula.specs.Nodes.{Node, nodesOf, nodesRead, nodesIn}
-use Rattle.formula.specs.Questions.{atFirst, onRead, askGrammar, outside, above, askLetters, askNumbers, askNodes}
-use Rattle.scan.specs.Scans.{scan, startAt, isOutside, outsideAt, limited, digitOf, numberOf, aboveAt, answersAt, foundIn}
+use Rattle.formula.specs.Questions.{atFirst, onRead, askGrammar, outside, tooLarge, askLetters, askNumbers, askNodes}
+use Rattle.scan.specs.Scans.{scan, startAt, isOutside, outsideAt, capped, digitOf, numberOf, aboveAt, answersAt, foundIn}
 use Rattle.scan.specs.declared.Ask.{Ask}
 use Rattle.scan.specs.declared.Ask.the-variants.{Letters as AskLetters, Numbers, Nodes}
 use Rattle.formula.proofs.Lists.{all-map, flat-same, flat-map}
@@ -78,7 +78,7 @@ letter-starts = at-each (λ c. isStart (97 + c) ≡ true) 8 refl refl refl refl 
 -- what stands for an answer at a node
 abbrev answer : Ask → {s : Sort} → Tree s → ℕ → List ℕ
 answer (AskLetters C) x at = outside C x at
-answer Numbers x at = above x at
+answer Numbers x at = tooLarge x at
 answer Nodes x at = at ∷ []
 
 module _ (t : List ℕ) where
@@ -105,14 +105,14 @@ module _ (t : List ℕ) where
   starts-answer (duration x n) at w = refl
   starts-answer (throughout x) at w = refl
 
-  limited-above : (n : ℕ) → ltb maxNumber (limited n) ≡ ltb maxNumber n
+  limited-above : (n : ℕ) → ltb maxNumber (capped n) ≡ ltb maxNumber n
   limited-above n = go (decLt maxNumber n)
     where
-      go : Dec (maxNumber < n) → ltb maxNumber (limited n) ≡ ltb maxNumber n
+      go : Dec (maxNumber < n) → ltb maxNumber (capped n) ≡ ltb maxNumber n
       go (yes h) = rw (lt-leb n maxNumber h, lt-ltb maxNumber n h)
       go (no h) = rw (le-leb n maxNumber (omega arith))
 
-  numbers-answer : {s : Sort} (x : Tree s) (at : ℕ) → Stands t x at → aboveAt t (firstByte x) at ≡ above x at
+  numbers-answer : {s : Sort} (x : Tree s) (at : ℕ) → Stands t x at → aboveAt t (firstByte x) at ≡ tooLarge x at
   numbers-answer (constant true) at w = refl
   numbers-answer (constant false) at w = refl
   numbers-answer (letter c) at w = rw (ne-eqb (97 + c) 35 (λ e. omega arith))
@@ -134,15 +134,15 @@ module _ (t : List ℕ) where
       ∙ flat-same _ _ (nodesOf x at) (all-map (StandsNode t) _ (λ v s. answered a (v .part) (v .first) s) (nodesOf x at) (all-stand t x at w))
 
   -- a text that reads has a tree
-  pub read-tree : askGrammar t ≡ Yes → (f : Tree Formula) × (read t ≡ tree f)
+  pub read-tree : askGrammar t ≡ Yes → (f : Tree Formula) × (read t ≡ parsed f)
   unfolding askGrammar
   read-tree = go (read t)
     where
-      go : (o : Read Formula) → onRead o ≡ Yes → (f : Tree Formula) × (o ≡ tree f)
-      go (tree f) e = (f, refl)
+      go : (o : Read Formula) → onRead o ≡ Yes → (f : Tree Formula) × (o ≡ parsed f)
+      go (parsed f) e = (f, refl)
       go (stopped p) e = absurd (false≢true cc)
 
-  pub root-stands : (f : Tree Formula) → read t ≡ tree f → Stands t f 0
+  pub root-stands : (f : Tree Formula) → read t ≡ parsed f → Stands t f 0
   root-stands f r = let w = prints-as-text t f r in record { rest = []; here = sym (w .1); clear = tt; letters = w .0 }
 
   pub found-in : (a : Ask) → askGrammar t ≡ Yes → foundIn a t ≡ flatMap (λ (w : Node). answer a (w .part) (w .first)) (nodesIn t)

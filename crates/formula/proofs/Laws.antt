@@ -14,14 +14,14 @@ use Rattle.refusal.specs.declared.Reply.the-variants.{Yes, No}
 use Rattle.interval.specs.Limits.{maxSteps, askSteps}
 use Rattle.grammar.specs.Limits.{maxLength, maxNodes, maxNumber, maxChannels}
 use Rattle.grammar.specs.Trees.{Link, Tree, constant, letter, negation, pair, duration, throughout, Letters, Numbers, textOf}
-use Rattle.grammar.specs.Reader.{isStart, tree, read}
+use Rattle.grammar.specs.Reader.{isStart, parsed, read}
 use Rattle.grammar.specs.declared.Sort.{Sort}
 use Rattle.grammar.specs.declared.Sort.the-variants.{State, Formula}
 use Rattle.grammar.proofs.Bytes.{ranged}
 use Rattle.scan.specs.Scans.{scan, startAt, foundIn}
 use Rattle.scan.specs.declared.Ask.the-variants.{Nodes}
 use Rattle.formula.specs.Nodes.{Node, nodesOf, nodesRead, nodesIn}
-use Rattle.formula.specs.Questions.{atFirst, askChannels, askLength, askGrammar, outside, above, askLetters, askNumbers, askNodes, formulaQuestions, acceptOf}
+use Rattle.formula.specs.Questions.{atFirst, askChannels, askLength, askGrammar, outside, tooLarge, askLetters, askNumbers, askNodes, formulaQuestions, acceptOf}
 use Rattle.formula.proofs.Lists.{All, flat-append, flat-map}
 use Rattle.formula.proofs.Found.{read-tree, found-in}
 use Rattle.formula.proofs.Asked.{test-yes}
@@ -33,7 +33,7 @@ pub record Accepted (C k : ℕ) (t : List ℕ) : Type 0 where
   pub bytes : (1 ≤ length t) × (length t ≤ maxLength)
   pub grammar : askGrammar t ≡ Yes
   pub root : Tree Formula
-  pub reads : read t ≡ tree root
+  pub reads : read t ≡ parsed root
   pub letters : Letters C root
   pub numbers : Numbers maxNumber root
   pub nodes : length (nodesOf root 0) ≤ maxNodes
@@ -100,7 +100,7 @@ letters-say C = record {
     own : (c at : ℕ) → cond (leb C c) (at ∷ []) [] ≡ [] → c < C
     own c at e = leb-false C c (test-empty (leb C c) at e)
 
-numbers-say : Says (λ s. above) (λ s. Numbers maxNumber)
+numbers-say : Says (λ s. tooLarge) (λ s. Numbers maxNumber)
 numbers-say = record {
   constants = λ s v. tt;
   letters = λ c at e. tt;
@@ -113,7 +113,7 @@ numbers-say = record {
     own : (x : Tree State) (n at : ℕ) → cond (ltb maxNumber n) ((at + 1 + length (textOf x) + 2) ∷ []) [] ≡ [] → Numbers maxNumber x → n ≤ maxNumber
     own x n at e w = ltb-false maxNumber n (test-empty (ltb maxNumber n) (at + 1 + length (textOf x) + 2) e)
 
-pub nodes-read : (t : List ℕ) (f : Tree Formula) → read t ≡ tree f → nodesIn t ≡ nodesOf f 0
+pub nodes-read : (t : List ℕ) (f : Tree Formula) → read t ≡ parsed f → nodesIn t ≡ nodesOf f 0
 unfolding nodesIn
 nodes-read t f e = ap nodesRead e
 
@@ -133,7 +133,7 @@ accepted C k t e =
       root = f;
       reads = r;
       letters = none-says _ _ (letters-say C) f 0 (ap (flatMap (λ (w : Node). outside C (w .part) (w .first))) (sym n) ∙ none-first 5 _ (q .1 .1 .1 .1 .0));
-      numbers = none-says _ _ numbers-say f 0 (ap (flatMap (λ (w : Node). above (w .part) (w .first))) (sym n) ∙ none-first 6 _ (q .1 .1 .1 .1 .1 .0));
+      numbers = none-says _ _ numbers-say f 0 (ap (flatMap (λ (w : Node). tooLarge (w .part) (w .first))) (sym n) ∙ none-first 6 _ (q .1 .1 .1 .1 .1 .0));
       nodes = omega (arith, ap length n, ap length (none-first 7 (drop maxNodes firsts) (q .1 .1 .1 .1 .1 .1 .0)), length-drop maxNodes firsts, length-map (nodesIn t) (λ (w : Node). w .first));
     }
 

@@ -22,7 +22,7 @@ use Rattle.reader.specs.Parts.{restOf, endOf}
 use Rattle.reader.proofs.Parts.{rest-whole, in-place}
 use Rattle.formula.specs.Nodes.{Node, nodesOf}
 use Rattle.grammar.specs.Limits.{maxNumber}
-use Rattle.scan.specs.Scans.{limited, numberFrom, digitOf, numberOf}
+use Rattle.scan.specs.Scans.{capped, numberFrom, digitOf, numberOf}
 use Rattle.formula.proofs.Lists.{All, all-append}
 use Rattle.formula.proofs.InOrder.{firstByte}
 
@@ -43,21 +43,21 @@ text-some (duration x n) = omega arith
 text-some (throughout x) = omega arith
 
 -- a number above the limit stays above it with a digit more
-limited-more : (m d : ℕ) → d < 10 → limited (limited m * 10 + d) ≡ limited (m * 10 + d)
+limited-more : (m d : ℕ) → d < 10 → capped (capped m * 10 + d) ≡ capped (m * 10 + d)
 limited-more m d h = go (decLt maxNumber m)
   where
-    go : Dec (maxNumber < m) → limited (limited m * 10 + d) ≡ limited (m * 10 + d)
+    go : Dec (maxNumber < m) → capped (capped m * 10 + d) ≡ capped (m * 10 + d)
     go (yes k) = rw (lt-leb m maxNumber k, lt-leb (m * 10 + d) maxNumber (omega arith), lt-leb (suc maxNumber * 10 + d) maxNumber (omega arith))
     go (no k) = rw (le-leb m maxNumber (omega arith))
 
-digits-read : (n : ℕ) (q : List ℕ) → numberFrom 0 (decimal n ++ q) ≡ numberFrom (limited n) q
+digits-read : (n : ℕ) (q : List ℕ) → numberFrom 0 (decimal n ++ q) ≡ numberFrom (capped n) q
 unfolding numberFrom
-digits-read = by-digits (λ n. (q : List ℕ) → numberFrom 0 (decimal n ++ q) ≡ numberFrom (limited n) q)
-    (λ d h q. let e : 0 * 10 + (48 + d - 48) ≡ d = omega arith in rw (decimal-digit d h) (rw (digit-is d h) (ap (λ (v : ℕ). numberFrom (limited v) q) e)))
+digits-read = by-digits (λ n. (q : List ℕ) → numberFrom 0 (decimal n ++ q) ≡ numberFrom (capped n) q)
+    (λ d h q. let e : 0 * 10 + (48 + d - 48) ≡ d = omega arith in rw (decimal-digit d h) (rw (digit-is d h) (ap (λ (v : ℕ). numberFrom (capped v) q) e)))
     (λ m d p h ih q. let e : 48 + d - 48 ≡ d = omega arith in
     rw (decimal-more m d p h, append-assoc (decimal m) ((48 + d) ∷ []) q) (ih ((48 + d) ∷ q) ∙ rw (digit-is d h, e) (ap (λ (v : ℕ). numberFrom v q) (limited-more m d h))))
 
-pub read-number : (n : ℕ) (q : List ℕ) → Clear q → numberFrom 0 (decimal n ++ q) ≡ limited n
+pub read-number : (n : ℕ) (q : List ℕ) → Clear q → numberFrom 0 (decimal n ++ q) ≡ capped n
 unfolding numberFrom
 read-number n [] c = digits-read n []
 read-number n (b ∷ q) c = digits-read n (b ∷ q) ∙ rw c
@@ -145,7 +145,7 @@ module _ (t : List ℕ) where
       let v = measured-stands x n at w in
       ap (λ (m : ℕ). drop m t) e ∙ drop-byte t (suc p) 61 (decimal n ++ w .rest) (drop-byte t p 62 (61 ∷ decimal n ++ w .rest) (drop-part t (suc at) x (v .rest) (v .here)))
 
-  pub number-is : (x : Tree State) (n at : ℕ) → Stands t (duration x n) at → numberOf t at ≡ limited n
+  pub number-is : (x : Tree State) (n at : ℕ) → Stands t (duration x n) at → numberOf t at ≡ capped n
   number-is x n at w = ap (numberFrom 0) (digits-stand x n at w) ∙ read-number n (w .rest) (w .clear)
 
   abbrev pub StandsNode : Node → Type 0

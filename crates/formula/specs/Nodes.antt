@@ -3,7 +3,7 @@ use mathlib.Core.List.{List, [], _∷_, _++_}
 use Prim.Native.Nat.{ℕ, suc, _+_}
 use lib.ListN.{length}
 use Rattle.grammar.specs.Trees.{Tree, constant, letter, negation, pair, duration, throughout, textOf}
-use Rattle.grammar.specs.Reader.{Read, tree, stopped, read}
+use Rattle.grammar.specs.Reader.{Read, parsed, stopped, read}
 use Rattle.grammar.specs.declared.Sort.{Sort}
 use Rattle.grammar.specs.declared.Sort.the-variants.{Formula}
 
@@ -27,7 +27,7 @@ nodesOf (throughout x) at = node (throughout x) at ∷ nodesOf x (suc at)
 
 -- the nodes of a text: none where it does not read
 abbrev pub nodesRead : Read Formula → List Node
-nodesRead (tree f) = nodesOf f 0
+nodesRead (parsed f) = nodesOf f 0
 nodesRead (stopped p) = []
 
 unfoldable pub nodesIn : List ℕ → List Node

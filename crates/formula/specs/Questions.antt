@@ -10,7 +10,7 @@ use Rattle.refusal.specs.declared.Reply.the-variants.{Yes, No}
 use Rattle.interval.specs.Limits.{askSteps}
 use Rattle.grammar.specs.Limits.{maxLength, maxNodes, maxNumber, maxChannels}
 use Rattle.grammar.specs.Trees.{Tree, constant, letter, negation, pair, duration, throughout, textOf}
-use Rattle.grammar.specs.Reader.{Read, tree, stopped, read}
+use Rattle.grammar.specs.Reader.{Read, parsed, stopped, read}
 use Rattle.grammar.specs.declared.Sort.{Sort}
 use Rattle.grammar.specs.declared.Sort.the-variants.{Formula}
 use Rattle.formula.specs.Nodes.{Node, nodesIn}
@@ -31,7 +31,7 @@ askLength t = question 3 0 (leb 1 (length t) && leb (length t) maxLength)
 -- question 4: does it read by the grammar? Its place is where reading stops: the law `stops-at-place` of crate grammar
 -- says that this is the least p such that no grammatical text begins with the first p + 1 bytes, or the length if it only ends early.
 abbrev pub onRead : Read Formula → Reply
-onRead (tree f) = Yes
+onRead (parsed f) = Yes
 onRead (stopped p) = No (record { number = 4; place = p })
 
 unfoldable pub askGrammar : List ℕ → Reply
@@ -50,16 +50,16 @@ unfoldable pub askLetters : ℕ → List ℕ → Reply
 askLetters C t = atFirst 5 (flatMap (λ (w : Node). outside C (w .part) (w .first)) (nodesIn t))
 
 -- question 6: is each n at most 32? Its place: the first digit, after `#`, the state assertion, `>` and `=`.
-abbrev pub above : {s : Sort} → Tree s → ℕ → List ℕ
-above (constant v) at = []
-above (letter c) at = []
-above (negation x) at = []
-above (pair l x y) at = []
-above (duration x n) at = cond (ltb maxNumber n) ((at + 1 + length (textOf x) + 2) ∷ []) []
-above (throughout x) at = []
+abbrev pub tooLarge : {s : Sort} → Tree s → ℕ → List ℕ
+tooLarge (constant v) at = []
+tooLarge (letter c) at = []
+tooLarge (negation x) at = []
+tooLarge (pair l x y) at = []
+tooLarge (duration x n) at = cond (ltb maxNumber n) ((at + 1 + length (textOf x) + 2) ∷ []) []
+tooLarge (throughout x) at = []
 
 unfoldable pub askNumbers : List ℕ → Reply
-askNumbers t = atFirst 6 (flatMap (λ (w : Node). above (w .part) (w .first)) (nodesIn t))
+askNumbers t = atFirst 6 (flatMap (λ (w : Node). tooLarge (w .part) (w .first)) (nodesIn t))
 
 -- question 7: at most 64 nodes? Its place: the first byte of the 65th.
 unfoldable pub askNodes : List ℕ → Reply

@@ -3,7 +3,7 @@ use grammar::MAX_CHANNELS;
 use grammar::MAX_LENGTH;
 use grammar::MAX_NODES;
 use interval::Interval;
-use reader::Checked;
+use reader::Parse;
 use refusal::Refusal;
 use refusal::Reply;
 use scan::Ask;
@@ -47,8 +47,8 @@ fn ask_grammar(text: &[u8]) -> Reply
 {
     let g = reader::check_text(text);
     match g {
-        Checked::Reads => Reply::Yes,
-        Checked::Stops(p) => no(4, p),
+        Parse::Reads => Reply::Yes,
+        Parse::Stops(p) => no(4, p),
     }
 }
 

@@ -8,7 +8,7 @@ use native.Mathlib.Omega.{arith}
 use lib.Dec.{eqb}
 use borrow.Author.Tests.{eqb-true, eqb-false}
 use Rattle.grammar.specs.Trees.{and, Tree, constant, negation, pair, duration, throughout, Letters, decimal, linkByte, constantByte, write, textOf}
-use Rattle.grammar.specs.Reader.{Around, whole, negated, left, right, measured, entered, Reading, part, after, above, equals, digits, Next, go, stop, Outcome, reads, stops, isLetter, isDigit, ownLead, leadOf, leafOf, begin, ownJoint, jointOf, join, follow, next, endAfter, ended, onward, run}
+use Rattle.grammar.specs.Reader.{Around, whole, negated, left, right, measured, entered, Reading, part, after, above, equals, digits, Next, go, stop, Ending, reads, stops, isLetter, isDigit, ownLead, leadOf, leafOf, begin, ownJoint, jointOf, join, follow, next, endAfter, atEnd, onward, run}
 use Rattle.grammar.specs.declared.Sort.{Sort}
 use Rattle.grammar.specs.declared.Sort.the-variants.{State, Formula}
 use Rattle.grammar.specs.declared.Lead.{Lead}
@@ -187,12 +187,12 @@ module _ {r : Sort} where
     pub never : (b : ℕ) (q′ p : List ℕ) → q ≡ b ∷ q′ → run m (before ++ b ∷ p) ≡ stops (b ∷ p)
 
   -- what an outcome says
-  abbrev pub Meant : Reading r → List ℕ → Outcome r → Type 0
+  abbrev pub Meant : Reading r → List ℕ → Ending r → Type 0
   Meant m t (reads x) = Letters 8 x × (wrote m t ≡ textOf x)
   Meant m t (stops q) = Stopped m t q
 
   -- the text's end: the bytes taken are the tree's text, or nothing is left
-  abbrev Ended : List ℕ → Outcome r → Type 0
+  abbrev Ended : List ℕ → Ending r → Type 0
   Ended t (reads x) = Letters 8 x × (t ≡ textOf x)
   Ended t (stops q) = q ≡ []
 
@@ -205,20 +205,20 @@ module _ {r : Sort} where
   ended-after s x (measured K) u w = refl
   ended-after s x (entered K) u w = refl
 
-  ends : (m : Reading r) → Sane m → Ended (wrote m []) (ended m)
+  ends : (m : Reading r) → Sane m → Ended (wrote m []) (atEnd m)
   ends (part s K) w = refl
   ends (after x K) w = ended-after _ x K (w .0) (w .1)
   ends (above x K) w = refl
   ends (equals x K) w = refl
   ends (digits x n K) w = ended-after Formula (duration x n) K (w .0) (w .1)
 
-  end-meant : (m : Reading r) → Sane m → (o : Outcome r) → Ended (wrote m []) o → Meant m [] o
+  end-meant : (m : Reading r) → Sane m → (o : Ending r) → Ended (wrote m []) o → Meant m [] o
   end-meant m w (reads x) h = h
   end-meant m w (stops q) h =
       let (f, v, on, e) = complete m w in
       record { before = []; is = sym h; on = on; can = (f, v, e); never = λ b q′ p g. absurd (false≢true cc) }
 
-  step-meant : (m n : Reading r) (b : ℕ) (t : List ℕ) → next m b ≡ go n → ((q : List ℕ) → wrote m (b ∷ q) ≡ wrote n q) → (o : Outcome r) → Meant n t o → Meant m (b ∷ t) o
+  step-meant : (m n : Reading r) (b : ℕ) (t : List ℕ) → next m b ≡ go n → ((q : List ℕ) → wrote m (b ∷ q) ≡ wrote n q) → (o : Ending r) → Meant n t o → Meant m (b ∷ t) o
   step-meant m n b t e k (reads x) h = (h .0, k t ∙ h .1)
   step-meant m n b t e k (stops q) h =
       let (f, v, g) = h .can in
@@ -245,7 +245,7 @@ module _ {r : Sort} where
   -- what every outcome says
   pub meant : (t : List ℕ) (m : Reading r) → Sane m → Meant m t (run m t)
   unfolding run
-  meant [] m w = end-meant m w (ended m) (ends m w)
+  meant [] m w = end-meant m w (atEnd m) (ends m w)
   meant (b ∷ t) m w = go-on (next m b) refl (keeps m b w) (λ n. meant t n)
     where
       go-on : (n : Next r) → next m b ≡ n → Kept (wrote m) b n → ((n : Reading r) → Sane n → Meant n t (run n t)) → Meant m (b ∷ t) (onward (b ∷ t) (λ n. run n t) n)

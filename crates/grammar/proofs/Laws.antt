@@ -8,17 +8,17 @@ use native.Mathlib.Omega.{arith}
 use lib.ListN.{length, take, drop, length-append, take-append-drop}
 use lib.Seq.{take-at, take-take, take-all}
 use Rattle.grammar.specs.Trees.{Tree, Letters, textOf, Begins, Place}
-use Rattle.grammar.specs.Reader.{whole, part, Outcome, reads, stops, run, Read, tree, stopped, placed, read}
+use Rattle.grammar.specs.Reader.{whole, part, Ending, reads, stops, run, Read, parsed, stopped, placed, read}
 use Rattle.grammar.specs.declared.Sort.the-variants.{Formula}
 use Rattle.grammar.proofs.Kept.{Meant, Stopped, meant}
 use Rattle.grammar.proofs.Printed.{reads-back}
 
 -- what it reads prints as the text, and its channels are a to h
-pub prints-as-text : (t : List ℕ) (f : Tree Formula) → read t ≡ tree f → Letters 8 f × (textOf f ≡ t)
+pub prints-as-text : (t : List ℕ) (f : Tree Formula) → read t ≡ parsed f → Letters 8 f × (textOf f ≡ t)
 unfolding read
 prints-as-text t f e = go (run (part Formula whole) t) (meant t (part Formula whole) tt) e
   where
-    go : (o : Outcome Formula) → Meant (part Formula whole) t o → placed t o ≡ tree f → Letters 8 f × (textOf f ≡ t)
+    go : (o : Ending Formula) → Meant (part Formula whole) t o → placed t o ≡ parsed f → Letters 8 f × (textOf f ≡ t)
     go (reads x) m g = let h : x ≡ f = cc in subst (λ (y : Tree Formula). Letters 8 y × (textOf y ≡ t)) h (m .0, sym (m .1))
     go (stops q) m g = absurd (false≢true cc)
 
@@ -26,8 +26,8 @@ prints-as-text t f e = go (run (part Formula whole) t) (meant t (part Formula wh
 pub one-reading : (f g : Tree Formula) → Letters 8 f → Letters 8 g → textOf f ≡ textOf g → f ≡ g
 one-reading f g u v e = same (sym (reads-back f u) ∙ ap read e ∙ reads-back g v)
   where
-    same : _≡_ {A = Read Formula} (tree f) (tree g) → f ≡ g
-    same e = ap (λ (o : Read Formula). elim o [ tree x ↦ x | stopped p ↦ f ]) e
+    same : _≡_ {A = Read Formula} (parsed f) (parsed g) → f ≡ g
+    same e = ap (λ (o : Read Formula). elim o [ parsed x ↦ x | stopped p ↦ f ]) e
 
 begins-shorter : (n : ℕ) (t : List ℕ) → Begins t → Begins (take n t)
 begins-shorter n t (f, w, q, e) = (f, w, drop n t ++ q, e ∙ ap (λ (u : List ℕ). u ++ q) (sym (take-append-drop n t)) ∙ append-assoc (take n t) (drop n t) q)
@@ -89,6 +89,6 @@ pub stops-at-place : (t : List ℕ) (p : ℕ) → read t ≡ stopped p → Place
 unfolding read
 stops-at-place t p e = go (run (part Formula whole) t) (meant t (part Formula whole) tt) e
   where
-    go : (o : Outcome Formula) → Meant (part Formula whole) t o → placed t o ≡ stopped p → Place t p
+    go : (o : Ending Formula) → Meant (part Formula whole) t o → placed t o ≡ stopped p → Place t p
     go (reads x) m g = absurd (false≢true cc)
     go (stops q) m g = let h : length t - length q ≡ p = cc in subst (Place t) h (at-stop t q m)

@@ -6,7 +6,7 @@ use mathlib.Core.List.{List, [], _∷_, _++_, append-assoc}
 use Prim.Native.Nat.{ℕ, zero, suc, _+_, _*_, _-_, _<_}
 use native.Mathlib.Omega.{arith}
 use Rattle.grammar.specs.Trees.{Link, and, or, chop, Tree, constant, letter, negation, pair, duration, throughout, Letters, decimal, linkByte, constantByte, write, textOf}
-use Rattle.grammar.specs.Reader.{Around, whole, negated, left, right, measured, entered, Reading, part, after, above, equals, digits, go, next, join, jointOf, follow, endAfter, onward, run, tree, placed, read}
+use Rattle.grammar.specs.Reader.{Around, whole, negated, left, right, measured, entered, Reading, part, after, above, equals, digits, go, next, join, jointOf, follow, endAfter, onward, run, parsed, placed, read}
 use Rattle.grammar.specs.declared.Sort.{Sort}
 use Rattle.grammar.specs.declared.Sort.the-variants.{State, Formula}
 use Rattle.grammar.proofs.Decimal.{decimal-digit, decimal-more, by-digits}
@@ -84,6 +84,6 @@ part-read (throughout x) K q w c =
     ∙ one (after x (entered K)) 93 q refl
 
 -- the reader reads back every printed tree
-pub reads-back : (f : Tree Formula) → Letters 8 f → read (textOf f) ≡ tree f
+pub reads-back : (f : Tree Formula) → Letters 8 f → read (textOf f) ≡ parsed f
 unfolding read run endAfter
 reads-back f w = ap (placed (textOf f)) (part-read f whole [] w tt)

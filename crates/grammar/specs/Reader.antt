@@ -35,9 +35,9 @@ pub data Next (r : Sort) : Type 0 where
   stop : Next r
 
 -- the text reads as a tree, or reading stops before this rest
-pub data Outcome (r : Sort) : Type 0 where
-  reads : Tree r → Outcome r
-  stops : List ℕ → Outcome r
+pub data Ending (r : Sort) : Type 0 where
+  reads : Tree r → Ending r
+  stops : List ℕ → Ending r
 
 abbrev pub isLetter : ℕ → Bool
 isLetter b = leb 97 b && leb b 104
@@ -120,7 +120,7 @@ next (equals x K) b = cond (eqb b 48) (go (after (duration x 0) K)) (cond (isDig
 next (digits x n K) b = cond (isDigit b) (go (digits x (n * 10 + (b - 48)) K)) (follow _ (duration x n) K b)
 
 -- the text's end after a part
-unfoldable pub endAfter : {r : Sort} (s : Sort) → Tree s → Around r s → Outcome r
+unfoldable pub endAfter : {r : Sort} (s : Sort) → Tree s → Around r s → Ending r
 endAfter s x whole = reads x
 endAfter s x (negated K) = endAfter s (negation x) K
 endAfter s x (left K) = stops []
@@ -128,28 +128,28 @@ endAfter s x (right l y K) = stops []
 endAfter s x (measured K) = stops []
 endAfter s x (entered K) = stops []
 
-abbrev pub ended : {r : Sort} → Reading r → Outcome r
-ended (part s K) = stops []
-ended (after x K) = endAfter _ x K
-ended (above x K) = stops []
-ended (equals x K) = stops []
-ended (digits x n K) = endAfter _ (duration x n) K
+abbrev pub atEnd : {r : Sort} → Reading r → Ending r
+atEnd (part s K) = stops []
+atEnd (after x K) = endAfter _ x K
+atEnd (above x K) = stops []
+atEnd (equals x K) = stops []
+atEnd (digits x n K) = endAfter _ (duration x n) K
 
-abbrev pub onward : {r : Sort} → List ℕ → (Reading r → Outcome r) → Next r → Outcome r
+abbrev pub onward : {r : Sort} → List ℕ → (Reading r → Ending r) → Next r → Ending r
 onward t f (go m) = f m
 onward t f stop = stops t
 
-unfoldable pub run : {r : Sort} → Reading r → List ℕ → Outcome r
-run m [] = ended m
+unfoldable pub run : {r : Sort} → Reading r → List ℕ → Ending r
+run m [] = atEnd m
 run m (b ∷ t) = onward (b ∷ t) (λ n. run n t) (next m b)
 
 -- the tree that a text reads as, or the place where reading stops
 pub data Read (r : Sort) : Type 0 where
-  tree : Tree r → Read r
+  parsed : Tree r → Read r
   stopped : ℕ → Read r
 
-abbrev pub placed : {r : Sort} → List ℕ → Outcome r → Read r
-placed t (reads x) = tree x
+abbrev pub placed : {r : Sort} → List ℕ → Ending r → Read r
+placed t (reads x) = parsed x
 placed t (stops q) = stopped (length t - length q)
 
 unfoldable pub read : List ℕ → Read Formula

@@ -20,12 +20,12 @@ flat-rows f (suc n) = flat-join (rows n f) (f n) ∙ ap (λ (F : List Entry). F 
 
 -- all literals but the last are open
 abbrev opens : Clause → List Entry
-opens c = map (λ (l : Literal). entry (l .variable) (bit (l .plain))) c
+opens c = map (λ (l : Literal). entry (l .variable) (bit (l .sign))) c
 
 open-before : (k : Literal) (c : Clause) (l : Literal) → entriesOf (k ∷ c ++ l ∷ []) ≡ opens (k ∷ c) ++ entriesOf (l ∷ [])
 unfolding entriesOf
 open-before k [] l = refl
-open-before k (m ∷ c) l = ap (λ (F : List Entry). entry (k .variable) (bit (k .plain)) ∷ F) (open-before m c l)
+open-before k (m ∷ c) l = ap (λ (F : List Entry). entry (k .variable) (bit (k .sign)) ∷ F) (open-before m c l)
 
 module _ (v w : ℕ) where
   raised-flat : (n : ℕ) → flat (map (λ x. plain v ∷ negated x ∷ []) (tab n (λ e. w + e))) ≡ rows n (raisedOf v w)
@@ -33,7 +33,7 @@ module _ (v w : ℕ) where
   raised-flat n = ap flat (map-rows (λ x. plain v ∷ negated x ∷ []) (λ e. (w + e) ∷ []) n) ∙ flat-rows (λ e. (plain v ∷ negated (w + e) ∷ []) ∷ []) n
 
   inputs-open : (n : ℕ) → opens (map plain (tab n (λ e. w + e))) ≡ rows n (runOf w 1)
-  inputs-open n = ap opens (map-rows plain (λ e. (w + e) ∷ []) n) ∙ map-rows (λ (l : Literal). entry (l .variable) (bit (l .plain))) (λ e. plain (w + e) ∷ []) n
+  inputs-open n = ap opens (map-rows plain (λ e. (w + e) ∷ []) n) ∙ map-rows (λ (l : Literal). entry (l .variable) (bit (l .sign))) (λ e. plain (w + e) ∷ []) n
 
   long-flat : (m : ℕ) → flat ((negated v ∷ map plain (tab (suc m) (λ e. w + e))) ∷ []) ≡ longOf v w (suc m)
   unfolding flat flatMap rows entriesOf

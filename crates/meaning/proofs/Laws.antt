@@ -9,7 +9,7 @@ use lib.Dec.{leb, ltb}
 use borrow.Author.Tests.{le-leb, lt-leb, leb-true, leb-false, ltb-true, ltb-false}
 use Rattle.grammar.proofs.Bytes.{both}
 use Rattle.interval.specs.declared.Interval.{Interval}
-use Rattle.meaning.specs.Meaning.{bit, highs, every, some, chops}
+use Rattle.meaning.specs.Meaning.{bit, highs, every, any, chops}
 
 module _ (f : ℕ → Bool) (i : ℕ) where
   pub highs-le : (n : ℕ) → highs f i n ≤ n
@@ -55,10 +55,10 @@ module _ (f : ℕ → Bool) (i : ℕ) where
           let m : i + n ≡ o .0 = omega (arith, o .2, ltb-false (o .0) (i + n) t) in
           sym e ∙ ap f m ∙ o .3
 
-  pub some-one : (n : ℕ) → (some f i n ≡ true) ↔ One n
-  unfolding some
+  pub some-one : (n : ℕ) → (any f i n ≡ true) ↔ One n
+  unfolding any
   some-one zero = (λ e. absurd (false≢true e), λ w. absurd (omega (arith, w .1, w .2)))
-  some-one (suc n) = or-one n (some f i n) (some-one n) (f (i + n)) refl
+  some-one (suc n) = or-one n (any f i n) (some-one n) (f (i + n)) refl
 
 -- only the instants counted matter
 pub highs-agree : (f g : ℕ → Bool) (i n : ℕ) → ((t : ℕ) → i ≤ t → t < i + n → f t ≡ g t) → highs f i n ≡ highs g i n

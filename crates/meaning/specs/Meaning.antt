@@ -33,9 +33,9 @@ every f i zero = true
 every f i (suc n) = every f i n && f (i + n)
 
 -- f is true at some of the n numbers from i on
-unfoldable pub some : (ℕ → Bool) → ℕ → ℕ → Bool
-some f i zero = false
-some f i (suc n) = some f i n || f (i + n)
+unfoldable pub any : (ℕ → Bool) → ℕ → ℕ → Bool
+any f i zero = false
+any f i (suc n) = any f i n || f (i + n)
 
 -- "`#S>=n` on [i, j]: S is true at n or more of its instants", "the instants i to j − 1"
 unfoldable pub lasts : ℕ → (ℕ → Bool) → Interval → Bool
@@ -47,7 +47,7 @@ fills f v = every f (v .i) (v .j - v .i)
 
 -- "`(P;Q)`: some m with i ≤ m ≤ j has P on [i, m] and Q on [m, j]"
 unfoldable pub chops : (Interval → Bool) → (Interval → Bool) → Interval → Bool
-chops f g v = some (λ m. f (record { i = v .i; j = m }) && g (record { i = m; j = v .j })) (v .i) (suc (v .j) - v .i)
+chops f g v = any (λ m. f (record { i = v .i; j = m }) && g (record { i = m; j = v .j })) (v .i) (suc (v .j) - v .i)
 
 -- where a part is judged: a state assertion at an instant, a formula on an interval
 abbrev pub Point : Sort → Type 0

@@ -21,7 +21,7 @@ use Rattle.clauses.specs.Entries.{Entry, entry, entriesOf, flat}
 use Rattle.literals.specs.Written.{Room, Wrote, runOf}
 use Rattle.clauses.proofs.Sizes.{flat-join}
 use Rattle.literals.proofs.Written.{and-then, named, room-first, room-next}
-use Rattle.node_clauses.specs.Nodes.{triplesOf, intervalsOf, choppedBy, nodeBy, nodePlaces, Fine}
+use Rattle.node_clauses.specs.Nodes.{tripleBlock, intervalBlock, choppedBy, nodeBy, nodePlaces, Fine}
 
 pub clauses-join : (D E : List Definition) → clausesBy (D ++ E) ≡ clausesBy D ++ clausesBy E
 unfolding clausesBy
@@ -48,11 +48,11 @@ constant-known C k b {v} e f =
 -- ---- a chop's two blocks, as the code has found them
 
 pub record Halves (k : ℕ) (b t s : Block) : Type 0 where
-  pub triples : t ≡ triplesOf (b .first + countOf k) b
-  pub intervals : s ≡ intervalsOf (b .first + countOf k) b
+  pub triples : t ≡ tripleBlock (b .first + countOf k) b
+  pub intervals : s ≡ intervalBlock (b .first + countOf k) b
 
-pub halves : {k w : ℕ} (b : Block) {t s : Block} → w ≡ b .first + countOf k → t ≡ triplesOf w b → s ≡ intervalsOf w b → Halves k b t s
-halves b e f g = record { triples = f ∙ ap (λ (w : ℕ). triplesOf w b) e; intervals = g ∙ ap (λ (w : ℕ). intervalsOf w b) e }
+pub halves : {k w : ℕ} (b : Block) {t s : Block} → w ≡ b .first + countOf k → t ≡ tripleBlock w b → s ≡ intervalBlock w b → Halves k b t s
+halves b e f g = record { triples = f ∙ ap (λ (w : ℕ). tripleBlock w b) e; intervals = g ∙ ap (λ (w : ℕ). intervalBlock w b) e }
 
 module _ (C : ℕ) {k : ℕ} {b t s : Block} (h : Halves k b t s) where
   pub chopped : definedBy C k t ++ definedBy C k s ≡ choppedBy C k (b .first + countOf k) b

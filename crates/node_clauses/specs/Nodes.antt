@@ -13,14 +13,14 @@ use Rattle.clauses.specs.Clauses.{clausesBy}
 use Rattle.clauses.specs.Entries.{Entry, flat}
 
 -- a chop's triples, from w on, and its intervals, which go by them
-abbrev pub triplesOf : ℕ → Block → Block
-triplesOf w b = record { rule = Cut; points = b .points; first = w; left = b .left; right = b .right }
+abbrev pub tripleBlock : ℕ → Block → Block
+tripleBlock w b = record { rule = Cut; points = b .points; first = w; left = b .left; right = b .right }
 
-abbrev pub intervalsOf : ℕ → Block → Block
-intervalsOf w b = record { rule = Chop; points = b .points; first = b .first; left = w; right = b .right }
+abbrev pub intervalBlock : ℕ → Block → Block
+intervalBlock w b = record { rule = Chop; points = b .points; first = b .first; left = w; right = b .right }
 
 abbrev pub choppedBy : ℕ → ℕ → ℕ → Block → List Definition
-choppedBy C k w b = definedBy C k (triplesOf w b) ++ definedBy C k (intervalsOf w b)
+choppedBy C k w b = definedBy C k (tripleBlock w b) ++ definedBy C k (intervalBlock w b)
 
 -- a node's own definitions
 abbrev pub nodeBy : ℕ → ℕ → Block → Bool → List Definition

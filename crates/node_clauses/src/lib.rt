@@ -12,7 +12,7 @@ ghost use Rattle.weights.specs.Weights.{maxSum};
 ghost use Rattle.clauses.specs.Clauses.{clausesBy};
 ghost use Rattle.clauses.specs.Entries.{flat};
 ghost use Rattle.literals.specs.Written.{Room, Wrote};
-ghost use Rattle.node_clauses.specs.Nodes.{triplesOf, intervalsOf, choppedBy, nodePlaces, Fine};
+ghost use Rattle.node_clauses.specs.Nodes.{tripleBlock, intervalBlock, choppedBy, nodePlaces, Fine};
 
 // The clauses of a block, position after position.
 fn walk_block(
@@ -84,7 +84,7 @@ pub fn beyond(first: u32, k: u32) -> u32
 
 // A chop's triples, from w on.
 pub fn triples_of(w: u32, block: Block) -> Block
-    ensures { λ r. ⌜ r ≡ triplesOf w block ⌝ }
+    ensures { λ r. ⌜ r ≡ tripleBlock w block ⌝ }
 {
     Block {
         rule: Rule::Cut,
@@ -97,7 +97,7 @@ pub fn triples_of(w: u32, block: Block) -> Block
 
 // Its intervals, which go by them.
 pub fn intervals_of(w: u32, block: Block) -> Block
-    ensures { λ r. ⌜ r ≡ intervalsOf w block ⌝ }
+    ensures { λ r. ⌜ r ≡ intervalBlock w block ⌝ }
 {
     Block {
         rule: Rule::Chop,

@@ -12,8 +12,8 @@ use lib.Dec.{eqb}
 use lib.ListN.{length, getD, drop, length-drop, drop-of-length-le}
 use lib.Seq.{drop-cons, drop-drop}
 use Rattle.grammar.specs.Trees.{Link, and, or, chop, Tree, negation, pair, duration, throughout, constant}
-use Rattle.grammar.specs.Reader.{Around, whole, negated, left, right, measured, entered, Reading, part, after, above, equals, digits, go, stop, stops, isDigit, isLetter, isJoint, joins, leadOf, leafOf, begin, ownJoint, jointOf, join, next, follow, endAfter, ended, onward, run, read, placed}
-use Rattle.reader.specs.Parts.{resume, Within, PartAt, restOf, endOf, checkedOf, checked, testAt, isSign, digitCount, numberAt, onGood}
+use Rattle.grammar.specs.Reader.{Around, whole, negated, left, right, measured, entered, Reading, part, after, above, equals, digits, go, stop, stops, isDigit, isLetter, isJoint, joins, leadOf, leafOf, begin, ownJoint, jointOf, join, next, follow, endAfter, atEnd, onward, run, read, placed}
+use Rattle.reader.specs.Parts.{resume, Within, PartAt, restOf, endOf, parseText, parseOf, testAt, isSign, digitCount, numberAt, onGood}
 use Rattle.grammar.specs.declared.Sort.{Sort}
 use Rattle.grammar.specs.declared.Sort.the-variants.{State, Formula}
 use Rattle.grammar.specs.declared.Lead.{Lead}
@@ -22,7 +22,7 @@ use Rattle.grammar.specs.declared.Joint.{Joint}
 use Rattle.grammar.specs.declared.Joint.the-variants.{And, Or, Chop, Nothing}
 use Rattle.reader.specs.declared.Got.{Got}
 use Rattle.reader.specs.declared.Got.the-variants.{Good, Bad}
-use Rattle.reader.specs.declared.Checked.the-variants.{Reads, Stops}
+use Rattle.reader.specs.declared.Parse.the-variants.{Reads, Stops}
 use Rattle.grammar.proofs.Bytes.{cond-elim}
 use Rattle.grammar.proofs.Printed.{after-negated}
 
@@ -60,7 +60,7 @@ module _ {r : Sort} (t : List ℕ) where
   unfolding run
   step n m h = rw (at-byte t n h)
 
-  stuck : (n : ℕ) (m : Reading r) → ended m ≡ stops [] → length t ≤ n → run m (drop n t) ≡ stops (drop n t)
+  stuck : (n : ℕ) (m : Reading r) → atEnd m ≡ stops [] → length t ≤ n → run m (drop n t) ≡ stops (drop n t)
   unfolding run
   stuck n m e h = rw (drop-of-length-le t h) e
 
@@ -68,14 +68,14 @@ module _ {r : Sort} (t : List ℕ) where
   test-step n m′ true = refl
   test-step n m′ false = refl
 
-  test-run : (n : ℕ) (m m′ : Reading r) (f : ℕ → Bool) → ended m ≡ stops [] → next m (getD t n 0) ≡ cond (f (getD t n 0)) (go m′) stop → run m (drop n t) ≡ resume t m′ (testAt f n (drop n t))
+  test-run : (n : ℕ) (m m′ : Reading r) (f : ℕ → Bool) → atEnd m ≡ stops [] → next m (getD t n 0) ≡ cond (f (getD t n 0)) (go m′) stop → run m (drop n t) ≡ resume t m′ (testAt f n (drop n t))
   test-run n m m′ f e w = by (decLt n (length t))
     where
       by : Dec (n < length t) → run m (drop n t) ≡ resume t m′ (testAt f n (drop n t))
       by (yes h) = step n m h ∙ ap (onward (drop n t) (λ m. run m (drop (n + 1) t))) w ∙ test-step n m′ (f (getD t n 0)) ∙ ap (resume t m′) (sym (tested t n f h refl))
       by (no h) = let l : length t ≤ n = omega arith in stuck n m e l ∙ ap (resume t m′) (sym (at-end t n (testAt f) refl l))
 
-  sign-run : (g : Got) (m m′ : Reading r) (v : ℕ) → ended m ≡ stops [] → ((b : ℕ) → next m b ≡ cond (isSign v b) (go m′) stop) → resume t m g ≡ resume t m′ (onGood t (testAt (isSign v)) g)
+  sign-run : (g : Got) (m m′ : Reading r) (v : ℕ) → atEnd m ≡ stops [] → ((b : ℕ) → next m b ≡ cond (isSign v b) (go m′) stop) → resume t m g ≡ resume t m′ (onGood t (testAt (isSign v)) g)
   sign-run (Good n) m m′ v e w = test-run n m m′ (isSign v) e (w (getD t n 0))
   sign-run (Bad p) m m′ v e w = refl
 
@@ -290,16 +290,16 @@ module _ (t : List ℕ) (s : Sort) (at : ℕ) where
   end-bad g p w e = let v = subst (PartAt t s at) e w in (in-place t _ p (v .within) (ap restOf (v .same s whole)), v .within)
 
 module _ (t : List ℕ) (g : Got) (w : PartAt t Formula 0 g) where
-  pub check-reads : (n : ℕ) → g ≡ Good n → length t ≤ n → Reads ≡ checkedOf t
-  unfolding checkedOf read run endAfter
-  check-reads n e h = let v = subst (PartAt t Formula 0) e w in sym (ap (λ o. checked (placed t o)) (v .same Formula whole ∙ ap (run (after (v .tree) whole)) (drop-of-length-le t h)))
+  pub check-reads : (n : ℕ) → g ≡ Good n → length t ≤ n → Reads ≡ parseText t
+  unfolding parseText read run endAfter
+  check-reads n e h = let v = subst (PartAt t Formula 0) e w in sym (ap (λ o. parseOf (placed t o)) (v .same Formula whole ∙ ap (run (after (v .tree) whole)) (drop-of-length-le t h)))
 
-  pub check-more : (n : ℕ) → g ≡ Good n → n < length t → Stops n ≡ checkedOf t
-  unfolding checkedOf read run follow
+  pub check-more : (n : ℕ) → g ≡ Good n → n < length t → Stops n ≡ parseText t
+  unfolding parseText read run follow
   check-more n e h =
       let v = subst (PartAt t Formula 0) e w in
-      sym (ap (λ o. checked (placed t o)) (v .same Formula whole ∙ ap (run (after (v .tree) whole)) (at-byte t n h)) ∙ ap Stops (sym (in-place t (getD t n 0 ∷ drop (n + 1) t) n (v .within .1) (sym (at-byte t n h)))))
+      sym (ap (λ o. parseOf (placed t o)) (v .same Formula whole ∙ ap (run (after (v .tree) whole)) (at-byte t n h)) ∙ ap Stops (sym (in-place t (getD t n 0 ∷ drop (n + 1) t) n (v .within .1) (sym (at-byte t n h)))))
 
-  pub check-stops : (p : ℕ) → g ≡ Bad p → Stops p ≡ checkedOf t
-  unfolding checkedOf read
-  check-stops p e = let v = subst (PartAt t Formula 0) e w in sym (ap (λ o. checked (placed t o)) (v .same Formula whole) ∙ ap Stops (sym (in-place t (drop p t) p (v .within) refl)))
+  pub check-stops : (p : ℕ) → g ≡ Bad p → Stops p ≡ parseText t
+  unfolding parseText read
+  check-stops p e = let v = subst (PartAt t Formula 0) e w in sym (ap (λ o. parseOf (placed t o)) (v .same Formula whole) ∙ ap Stops (sym (in-place t (drop p t) p (v .within) refl)))

@@ -6,15 +6,15 @@ use Prim.Native.Nat.{ℕ, suc, _+_, _-_, _≤_, _<_}
 use lib.Dec.{eqb}
 use lib.ListN.{length, drop}
 use Rattle.grammar.specs.Trees.{Tree}
-use Rattle.grammar.specs.Reader.{Around, whole, Reading, part, after, Outcome, reads, stops, isDigit, run, Read, tree, stopped, read}
+use Rattle.grammar.specs.Reader.{Around, whole, Reading, part, after, Ending, reads, stops, isDigit, run, Read, parsed, stopped, read}
 use Rattle.grammar.specs.declared.Sort.{Sort}
 use Rattle.reader.specs.declared.Got.{Got}
 use Rattle.reader.specs.declared.Got.the-variants.{Good, Bad}
-use Rattle.reader.specs.declared.Checked.{Checked}
-use Rattle.reader.specs.declared.Checked.the-variants.{Reads, Stops}
+use Rattle.reader.specs.declared.Parse.{Parse}
+use Rattle.reader.specs.declared.Parse.the-variants.{Reads, Stops}
 
 -- the outcome of a text from where a read came on
-abbrev pub resume : {r : Sort} → List ℕ → Reading r → Got → Outcome r
+abbrev pub resume : {r : Sort} → List ℕ → Reading r → Got → Ending r
 resume t m (Good n) = run m (drop n t)
 resume t m (Bad p) = stops (drop p t)
 
@@ -53,7 +53,7 @@ onGood t f (Good n) = f n (drop n t)
 onGood t f (Bad p) = Bad p
 
 -- where reading a part of sort s from `at` on stops
-abbrev pub restOf : {r : Sort} → Outcome r → List ℕ
+abbrev pub restOf : {r : Sort} → Ending r → List ℕ
 restOf (reads x) = []
 restOf (stops q) = q
 
@@ -61,9 +61,9 @@ unfoldable pub endOf : List ℕ → Sort → ℕ → ℕ
 endOf t s at = length t - length (restOf (run (part s whole) (drop at t)))
 
 -- whether a text reads
-abbrev pub checked : {r : Sort} → Read r → Checked
-checked (tree x) = Reads
-checked (stopped p) = Stops p
+abbrev pub parseOf : {r : Sort} → Read r → Parse
+parseOf (parsed x) = Reads
+parseOf (stopped p) = Stops p
 
-unfoldable pub checkedOf : List ℕ → Checked
-checkedOf t = checked (read t)
+unfoldable pub parseText : List ℕ → Parse
+parseText t = parseOf (read t)

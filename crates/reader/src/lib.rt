@@ -5,7 +5,7 @@ ghost use mathlib.Core.Path.{_≡_};
 ghost use Prim.Native.Nat.{_+_, _≤_};
 ghost use lib.ListN.{length, drop};
 ghost use Rattle.grammar.specs.Reader.{isJoint};
-ghost use Rattle.reader.specs.Parts.{testAt, isSign, numberAt, digitCount, onGood, PartAt, endOf, checkedOf};
+ghost use Rattle.reader.specs.Parts.{testAt, isSign, numberAt, digitCount, onGood, PartAt, endOf, parseText};
 
 // How far a read came: the place after it, or where it stops.
 pub enum Got {
@@ -14,7 +14,7 @@ pub enum Got {
 }
 
 // Whether a text reads, or where it stops.
-pub enum Checked {
+pub enum Parse {
     Reads,
     Stops(usize),
 }
@@ -127,18 +127,18 @@ pub fn part_end(text: &[u8], s: Sort, at: usize) -> usize
 }
 
 // Whether the whole text reads.
-pub fn check_text(text: &[u8]) -> Checked
-    ensures { λ r. ⌜ r ≡ checkedOf (now (text .entry)) ⌝ }
+pub fn check_text(text: &[u8]) -> Parse
+    ensures { λ r. ⌜ r ≡ parseText (now (text .entry)) ⌝ }
 {
     let g = read_part(text, Sort::Formula, 0);
     match g {
         Got::Good(n) => {
             if n < text.len() {
-                Checked::Stops(n)
+                Parse::Stops(n)
             } else {
-                Checked::Reads
+                Parse::Reads
             }
         }
-        Got::Bad(p) => Checked::Stops(p),
+        Got::Bad(p) => Parse::Stops(p),
     }
 }

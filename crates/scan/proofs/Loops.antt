@@ -13,7 +13,7 @@ use borrow.Author.Tests.{le-leb, lt-leb}
 use Rattle.grammar.specs.Reader.{isDigit}
 use Rattle.reader.proofs.Parts.{at-byte}
 use Rattle.grammar.specs.Limits.{maxNumber}
-use Rattle.scan.specs.Scans.{scan, numberFrom, limited, digitOf, numberOf, aboveAt, foundIn, answersAt, listOf}
+use Rattle.scan.specs.Scans.{scan, numberFrom, capped, digitOf, numberOf, aboveAt, foundIn, answersAt, listOf}
 use Rattle.scan.specs.declared.Ask.{Ask}
 use Rattle.scan.specs.declared.Find.{Find}
 
@@ -70,14 +70,14 @@ module _ (t : List ℕ) (a : Ask) (skip : ℕ) where
     pub left-none : length t ≤ i → [] ≡ take 1 (drop skip (foundIn a t))
     left-none k = sym (ap (take 1) (sym (w .same) ∙ ap (drop left) (scan-end (answersAt a t) t i k) ∙ drop-nil left))
 
-pub limited-in : (n m : ℕ) → n ≡ m → n ≤ maxNumber → n ≡ limited m
+pub limited-in : (n m : ℕ) → n ≡ m → n ≤ maxNumber → n ≡ capped m
 limited-in n m e h = rw (le-leb m maxNumber (omega arith)) e
 
-pub limited-out : (n m : ℕ) → n ≡ m → maxNumber < n → suc maxNumber ≡ limited m
+pub limited-out : (n m : ℕ) → n ≡ m → maxNumber < n → suc maxNumber ≡ capped m
 limited-out n m e h = rw (lt-leb m maxNumber (omega arith))
 
 module _ (t : List ℕ) (i v : ℕ) where
-  pub number-more : i < length t → isDigit (getD t i 0) ≡ true → numberFrom v (drop i t) ≡ numberFrom (limited (v * 10 + (getD t i 0 - 48))) (drop (i + 1) t)
+  pub number-more : i < length t → isDigit (getD t i 0) ≡ true → numberFrom v (drop i t) ≡ numberFrom (capped (v * 10 + (getD t i 0 - 48))) (drop (i + 1) t)
   unfolding numberFrom
   number-more k e = ap (numberFrom v) (at-byte t i k) ∙ rw e
 

@@ -29,13 +29,13 @@ abbrev pub outsideAt : ℕ → ℕ → ℕ → List ℕ
 outsideAt C b at = cond (isOutside C b) (at ∷ []) []
 
 -- a number that goes no further than one above the limit
-abbrev pub limited : ℕ → ℕ
-limited n = cond (leb n maxNumber) n (suc maxNumber)
+abbrev pub capped : ℕ → ℕ
+capped n = cond (leb n maxNumber) n (suc maxNumber)
 
 -- the number that a text begins with, v for the digits before it
 unfoldable pub numberFrom : ℕ → List ℕ → ℕ
 numberFrom v [] = v
-numberFrom v (b ∷ q) = cond (isDigit b) (numberFrom (limited (v * 10 + (b - 48))) q) v
+numberFrom v (b ∷ q) = cond (isDigit b) (numberFrom (capped (v * 10 + (b - 48))) q) v
 
 -- the first digit of the number of the duration at a place: after `#`, a state assertion, `>` and `=`
 abbrev pub digitOf : List ℕ → ℕ → ℕ

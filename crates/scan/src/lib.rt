@@ -8,7 +8,7 @@ ghost use Prim.Native.Nat.{suc, _+_, _*_, _-_, _≤_, _<_};
 ghost use lib.ListN.{length, getD, take, drop};
 ghost use Rattle.grammar.specs.Limits.{maxNumber, maxLength};
 ghost use Rattle.grammar.specs.Reader.{isDigit};
-ghost use Rattle.scan.specs.Scans.{isOutside, aboveAt, numberFrom, limited, numberOf, digitOf, listOf, answersAt, foundIn};
+ghost use Rattle.scan.specs.Scans.{isOutside, aboveAt, numberFrom, capped, numberOf, digitOf, listOf, answersAt, foundIn};
 
 // The number of a duration: its first digit's place, and its value, one above the limit for all beyond.
 pub struct Number {
@@ -49,7 +49,7 @@ fn is_outside(c: u32, b: u8) -> bool
 fn with_digit(v: usize, b: u8) -> usize
     requires { ⌜ v ≤ suc maxNumber ⌝ }
     requires { ⌜ isDigit b ≡ true ⌝ }
-    ensures { λ r. ⌜ (r ≡ limited (v * 10 + (b - 48))) × (r ≤ suc maxNumber) ⌝ }
+    ensures { λ r. ⌜ (r ≡ capped (v * 10 + (b - 48))) × (r ≤ suc maxNumber) ⌝ }
 {
     let n = v * 10 + (wide(b) - 48);
     if n <= MAX_NUMBER { n } else { MAX_NUMBER + 1 }

@@ -10,7 +10,7 @@ use Rattle.refusal.specs.declared.Reply.the-variants.{Yes, No}
 use Rattle.refusal.specs.Asked.{asked}
 use Rattle.refusal.proofs.Laws.{asked-append, replied-yes, earlier-no, last-no, last-yes}
 use Rattle.grammar.specs.Trees.{Tree}
-use Rattle.grammar.specs.Reader.{Read, tree, stopped, read}
+use Rattle.grammar.specs.Reader.{Read, parsed, stopped, read}
 use Rattle.grammar.specs.declared.Sort.the-variants.{Formula}
 use Rattle.formula.specs.Nodes.{Node, nodesOf, nodesIn}
 use Rattle.formula.specs.Questions.{formulaQuestions, acceptOf}
@@ -41,7 +41,7 @@ module _ (C k : ℕ) (t : List ℕ) (B : ℕ) (n : Lent) (recording : List ℕ) 
 
   -- of the tree that the text reads as
   abbrev onRead : Read Formula → Trial
-  onRead r = elim r [ tree f ↦ treeOf C k f | stopped p ↦ trial dead 0 ]
+  onRead r = elim r [ parsed f ↦ treeOf C k f | stopped p ↦ trial dead 0 ]
 
   pub first-refused : {r : Refusal} → acceptOf C k t ≡ No r → refused r ≡ searched C k t B n recording
   unfolding searched acceptOf
@@ -51,12 +51,12 @@ module _ (C k : ℕ) (t : List ℕ) (B : ℕ) (n : Lent) (recording : List ℕ) 
   unfolding searched acceptOf
   last-refused e l = last-no refused answer (formulaQuestions C k t) lent e l
 
-  pub answered : acceptOf C k t ≡ Yes → lent ≡ Yes → (f : Tree Formula) → read t ≡ tree f → limited C k B recording (treeOf C k f) ≡ searched C k t B n recording
+  pub answered : acceptOf C k t ≡ Yes → lent ≡ Yes → (f : Tree Formula) → read t ≡ parsed f → limited C k B recording (treeOf C k f) ≡ searched C k t B n recording
   unfolding searched acceptOf treeIn
   answered e l f q = ap (λ (r : Read Formula). limited C k B recording (onRead r)) (sym q) ∙ last-yes refused answer (formulaQuestions C k t) lent e l
 
   -- once the formula is accepted, the call is what it does with the node table of the tree that the text reads as
-  of-tree : acceptOf C k t ≡ Yes → (f : Tree Formula) → read t ≡ tree f → searchedBy C k f B n recording ≡ searched C k t B n recording
+  of-tree : acceptOf C k t ≡ Yes → (f : Tree Formula) → read t ≡ parsed f → searchedBy C k f B n recording ≡ searched C k t B n recording
   unfolding searched searchedBy acceptOf treeIn placesIn
   of-tree e f q =
       ap (λ (l : List Node). asked (askLent (length (flat (clauseTable C k f))) (variablesOf C k l) k n ∷ []) refused (limited C k B recording (treeOf C k f))) (sym (nodes-read t f q))

@@ -13,7 +13,7 @@ use Rattle.grammar.specs.Reader.{follow, endAfter, run, read}
 use Rattle.formula.specs.Nodes.{nodesOf, nodesIn}
 use Rattle.formula.specs.Questions.{askChannels, askLength, askGrammar, askLetters, askNumbers, askNodes}
 use Rattle.formula.proofs.Lists.{All}
-use Rattle.meaning.specs.Meaning.{some}
+use Rattle.meaning.specs.Meaning.{any}
 use Rattle.circuit.specs.Circuit.{widthOf, blocksOf, variablesOf, truthOf, ownBy, ownOf, definedFrom, definitionsOf, rootOf}
 use Rattle.clauses.specs.Clauses.{clausesOf, clausesBy, clauseTable}
 use Rattle.clauses.specs.Entries.{entriesOf, flat}
@@ -43,5 +43,5 @@ Holds e =
 
 -- the one theorem of the table
 pub edges-hold : All Holds edges
-unfolding ascii edges searched askChannels askSteps askLength askGrammar askLetters askNumbers askNodes askLent follow endAfter run read nodesOf nodesIn flatMap decimalIn decimal write placesIn rows sum countOf intervalsOf placeOf triplesOf triplePlaceOf tripleCountOf widthOf blocksOf variablesOf truthOf ownBy ownOf definedFrom definitionsOf rootOf clausesOf clausesBy clauseTable entriesOf flat some recordingBy add allOpposed membersOf membersIn firstForced forced closure clashes isOpen lowestOpen treeBelow tree treeOf treeIn limited
+unfolding ascii edges searched askChannels askSteps askLength askGrammar askLetters askNumbers askNodes askLent follow endAfter run read nodesOf nodesIn flatMap decimalIn decimal write placesIn rows sum countOf intervalsOf placeOf triplesOf triplePlaceOf tripleCountOf widthOf blocksOf variablesOf truthOf ownBy ownOf definedFrom definitionsOf rootOf clausesOf clausesBy clauseTable entriesOf flat any recordingBy add allOpposed membersOf membersIn firstForced forced closure clashes isOpen lowestOpen treeBelow tree treeOf treeIn limited
 edges-hold = (refl, (refl, (refl, (refl, (refl, (refl, tt))))))

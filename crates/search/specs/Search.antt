@@ -10,7 +10,7 @@ use Rattle.refusal.specs.Asked.{question, asked}
 use Rattle.refusal.specs.declared.Refusal.{Refusal}
 use Rattle.refusal.specs.declared.Reply.{Reply}
 use Rattle.grammar.specs.Trees.{Tree}
-use Rattle.grammar.specs.Reader.{tree, stopped, read}
+use Rattle.grammar.specs.Reader.{parsed, stopped, read}
 use Rattle.grammar.specs.declared.Sort.the-variants.{Formula}
 use Rattle.formula.specs.Nodes.{nodesOf, nodesIn}
 use Rattle.formula.specs.Questions.{formulaQuestions}
@@ -40,7 +40,7 @@ treeOf C k f = tries.tree (clauseTable C k f) (variablesOf C k (nodesOf f 0)) (k
 
 -- of the tree that a text reads as; a text that does not read is refused before
 unfoldable pub treeIn : ℕ → ℕ → List ℕ → Trial
-treeIn C k t = elim (read t) [ tree f ↦ treeOf C k f | stopped p ↦ trial dead 0 ]
+treeIn C k t = elim (read t) [ parsed f ↦ treeOf C k f | stopped p ↦ trial dead 0 ]
 
 -- the answer, and the recording's array after it
 pub record Searched : Type 0 where

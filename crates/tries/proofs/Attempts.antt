@@ -32,7 +32,7 @@ module _ {v₀ t₀ v₁ t₁ : List ℕ} {l : Literal} {top at : ℕ} (o : isOp
   one-more : top ≡ at → ⊥
   one-more e =
       let s : heldIn v₀ ≡ add l (heldIn v₀) = ap heldIn (sym (grown-same (a .grown) (sym e))) ∙ a .added in
-      true≢false (sym (subst (λ S. In S l) (sym s) (added l (heldIn v₀))) ∙ open-free (heldIn v₀) (l .plain) (l .variable) o)
+      true≢false (sym (subst (λ S. In S l) (sym s) (added l (heldIn v₀))) ∙ open-free (heldIn v₀) (l .sign) (l .variable) o)
 
   pub tried-to : {variables marks values trail : List ℕ} {r : Closed} → ClosedTo variables marks v₁ t₁ at values trail r → Tried variables marks l v₀ t₀ top values trail r
   tried-to {variables} {marks} c =

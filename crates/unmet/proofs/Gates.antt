@@ -11,7 +11,7 @@ use lib.ListN.{length, getD}
 use Rattle.interval.specs.Listing.{tab}
 use Rattle.interval.proofs.Listing.{length-tab, getD-tab}
 use Rattle.grammar.proofs.Bytes.{both}
-use Rattle.meaning.specs.Meaning.{some}
+use Rattle.meaning.specs.Meaning.{any}
 use Rattle.meaning.proofs.Laws.{some-one}
 use Rattle.circuit.specs.Gates.{Assignment, valueOf}
 use Rattle.circuit.specs.declared.Gate.{Gate}
@@ -99,15 +99,15 @@ module _ (a : Assignment) where
 
   -- ---- any number of inputs
 
-  all-low : (w n : ℕ) → ((e : ℕ) → e < n → a (w + e) ≡ false) → some a w n ≡ false
-  unfolding some
+  all-low : (w n : ℕ) → ((e : ℕ) → e < n → a (w + e) ≡ false) → any a w n ≡ false
+  unfolding any
   all-low w zero h = refl
   all-low w (suc n) h = rw (all-low w n (λ e l. h e (omega arith)), h n (omega arith))
 
-  pub first-some : {w n r : ℕ} → FirstHigh a w n r → ltb r n ≡ some a w n
+  pub first-some : {w n r : ℕ} → FirstHigh a w n r → ltb r n ≡ any a w n
   first-some {w} {n} {r} h = go (ltb r n) refl
     where
-      go : (b : Bool) → ltb r n ≡ b → b ≡ some a w n
+      go : (b : Bool) → ltb r n ≡ b → b ≡ any a w n
       go true e = let l = ltb-true r n e in sym (some-one a w n .1 (w + r, omega arith, omega arith, h .high l))
       go false e = let l = ltb-false r n e in sym (all-low w n (λ x m. h .low x (omega arith)))
 

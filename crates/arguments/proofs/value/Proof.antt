@@ -10,11 +10,11 @@ use borrow.Author.Tests.{lt-leb, leb-false}
 use lib.Dec.{leb}
 use lib.ListN.{length, getD, drop, drop-of-length-le}
 use Rattle.reader.proofs.Parts.{at-byte}
-use Rattle.arguments.specs.Number.{maxTries, limited, valueFrom}
+use Rattle.arguments.specs.Number.{maxTries, cappedTries, valueFrom}
 use Rattle.arguments.proofs.value.Statement.{statement}
 use Rattle.arguments.proofs.value.Tie as tie
 
-passed : (n : ℕ) → maxTries < n → limited n ≡ suc maxTries
+passed : (n : ℕ) → maxTries < n → cappedTries n ≡ suc maxTries
 passed n h = rw (lt-leb n maxTries h)
 
 stays : (v : ℕ) (q : List ℕ) → maxTries < v → maxTries < valueFrom v q
@@ -22,35 +22,35 @@ unfolding valueFrom
 stays v [] h = h
 stays v (b ∷ q) h = stays (v * 10 + (b - 48)) q (omega arith)
 
--- so a value may be limited on the way
-on-the-way : (v : ℕ) (q : List ℕ) → limited (valueFrom (limited v) q) ≡ limited (valueFrom v q)
+-- so a value may be capped on the way
+on-the-way : (v : ℕ) (q : List ℕ) → cappedTries (valueFrom (cappedTries v) q) ≡ cappedTries (valueFrom v q)
 on-the-way v q = go (leb v maxTries) refl
   where
-    go : (b : Bool) → leb v maxTries ≡ b → limited (valueFrom (limited v) q) ≡ limited (valueFrom v q)
+    go : (b : Bool) → leb v maxTries ≡ b → cappedTries (valueFrom (cappedTries v) q) ≡ cappedTries (valueFrom v q)
     go true e = rw e
     go false e =
         let h = leb-false v maxTries e in
-        ap (λ (n : ℕ). limited (valueFrom n q)) (passed v h) ∙ passed _ (stays (suc maxTries) q (omega arith)) ∙ sym (passed _ (stays v q h))
+        ap (λ (n : ℕ). cappedTries (valueFrom n q)) (passed v h) ∙ passed _ (stays (suc maxTries) q (omega arith)) ∙ sym (passed _ (stays v q h))
 
-as-is : (v : ℕ) → v ≤ suc maxTries → v ≡ limited v
+as-is : (v : ℕ) → v ≤ suc maxTries → v ≡ cappedTries v
 as-is v h = go (leb v maxTries) refl
   where
-    go : (b : Bool) → leb v maxTries ≡ b → v ≡ limited v
+    go : (b : Bool) → leb v maxTries ≡ b → v ≡ cappedTries v
     go true e = rw e
     go false e = let k = leb-false v maxTries e in omega (arith, passed v k)
 
 module _ (t : List ℕ) (i v : ℕ) where
-  more : i < length t → limited (valueFrom (limited (v * 10 + (getD t i 0 - 48))) (drop (i + 1) t)) ≡ limited (valueFrom v (drop i t))
+  more : i < length t → cappedTries (valueFrom (cappedTries (v * 10 + (getD t i 0 - 48))) (drop (i + 1) t)) ≡ cappedTries (valueFrom v (drop i t))
   unfolding valueFrom
-  more k = on-the-way (v * 10 + (getD t i 0 - 48)) (drop (i + 1) t) ∙ ap (λ q. limited (valueFrom v q)) (sym (at-byte t i k))
+  more k = on-the-way (v * 10 + (getD t i 0 - 48)) (drop (i + 1) t) ∙ ap (λ q. cappedTries (valueFrom v q)) (sym (at-byte t i k))
 
-  none-left : length t ≤ i → v ≤ suc maxTries → v ≡ limited (valueFrom v (drop i t))
+  none-left : length t ≤ i → v ≤ suc maxTries → v ≡ cappedTries (valueFrom v (drop i t))
   unfolding valueFrom
-  none-left k h = as-is v h ∙ ap (λ q. limited (valueFrom v q)) (sym (drop-of-length-le t k))
+  none-left k h = as-is v h ∙ ap (λ q. cappedTries (valueFrom v q)) (sym (drop-of-length-le t k))
 
 abbrev Inv-loop : tie.InvT-loop
 Inv-loop digits v₀ at₀ at-end v at =
-    (at ≤ at-end) × (at-end ≡ length digits) × (v ≤ suc maxTries) × (limited (valueFrom v (drop at digits)) ≡ limited (valueFrom 0 digits))
+    (at ≤ at-end) × (at-end ≡ length digits) × (v ≤ suc maxTries) × (cappedTries (valueFrom v (drop at digits)) ≡ cappedTries (valueFrom 0 digits))
 
 abbrev μ-loop : tie.MeasureT-loop
 μ-loop digits v₀ at₀ at-end v at = at-end - at
@@ -74,7 +74,7 @@ loop-again : tie.Need-loop-again Inv-loop μ-loop
 loop-again c =
     let w = c .before .before .before .loop in
     let t = c .before .before .before .before .before .args .digits .now in
-    (omega arith, refl, c .with-digit .ensures .1, ap (λ (n : ℕ). limited (valueFrom n (drop (w .at + 1) t))) (c .with-digit .ensures .0) ∙ more t (w .at) (w .v) (search needs) ∙ w .inv .3)
+    (omega arith, refl, c .with-digit .ensures .1, ap (λ (n : ℕ). cappedTries (valueFrom n (drop (w .at + 1) t))) (c .with-digit .ensures .0) ∙ more t (w .at) (w .v) (search needs) ∙ w .inv .3)
 
 returns : tie.Need-returns Inv-loop μ-loop
 returns c =

@@ -4,14 +4,14 @@ use Prim.Native.Nat.{ℕ, suc, _+_, _*_, _≤_, _<_}
 use native.Mathlib.Omega.{arith}
 use borrow.Author.Needs.{needs}
 use borrow.Author.Tests.{le-leb, lt-leb}
-use Rattle.arguments.specs.Number.{maxTries, limited}
+use Rattle.arguments.specs.Number.{maxTries, cappedTries}
 use Rattle.arguments.proofs.with_digit.Statement.{statement}
 use Rattle.arguments.proofs.with_digit.Tie as tie
 
-within : (n m : ℕ) → n ≡ m → n ≤ maxTries → n ≡ limited m
+within : (n m : ℕ) → n ≡ m → n ≤ maxTries → n ≡ cappedTries m
 within n m e h = rw (le-leb m maxTries (omega arith)) e
 
-beyond : (n m : ℕ) → n ≡ m → maxTries < n → suc maxTries ≡ limited m
+beyond : (n m : ℕ) → n ≡ m → maxTries < n → suc maxTries ≡ cappedTries m
 beyond n m e h = rw (lt-leb m maxTries (omega arith))
 
 mul-n : tie.Need-mul-n

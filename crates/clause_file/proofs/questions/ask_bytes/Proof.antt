@@ -1,6 +1,6 @@
 -- The file is long enough where 20 + 5L is at most its length,
 -- 20 + 5L being the true number.
-use Rattle.clause_file.specs.Questions.{askBytes}
+use Rattle.clause_file.specs.Questions.{askFileRoom}
 use Rattle.refusal.specs.Asked.{question}
 use lib.Dec.{leb}
 use mathlib.Core.Path.{ap, _∙_}
@@ -16,7 +16,7 @@ ask-requires : tie.Need-ask-requires
 ask-requires c κs = search needs
 
 returns : tie.Need-returns
-returns c = unfold askBytes in c .ask .ensures ∙ ap (λ (n : ℕ). question 18 0 (leb n (c .before .before .args .file))) (c .before .file-length .ensures)
+returns c = unfold askFileRoom in c .ask .ensures ∙ ap (λ (n : ℕ). question 18 0 (leb n (c .before .before .args .file))) (c .before .file-length .ensures)
 
 pub ask-bytes-spec : {M : Type 1} → statement M
 ask-bytes-spec = tie.close (tie.spec file-length-requires ask-requires returns)

@@ -1,7 +1,7 @@
 -- Question 15 first; then 16 and 17 on the sizes, variables and marks that the file holds,
 -- since it is then as long as its sizes say (Asking.antt).
 use Rattle.clause_file.specs.File.{variablesAt}
-use Rattle.clause_file.specs.Questions.{tableQuestions}
+use Rattle.clause_file.specs.Questions.{entryQuestions}
 use Rattle.clause_file.proofs.Asking.{file-long, file-held}
 use Rattle.refusal.specs.Asked.{asked}
 use Rattle.refusal.specs.declared.Reply.the-variants.{Yes, No}
@@ -38,7 +38,7 @@ ask-table-requires : tie.Need-ask-table-requires
 ask-table-requires c κs = search needs
 
 returns-2 : tie.Need-returns-2
-returns-2 c = simp (sym (c .before .before .before .before .before .before .ask-length .ensures) ∙ c .before .before .before .before .enum-told .given .1) (c .ask-table .ensures (variablesAt (c .before .before .before .before .before .before .before .before .args .file .now)) (c .before .before .are-variables-at .ensures) ∙ ap₂ (λ (s : Sizes) (m : List ℕ). asked (tableQuestions s (variablesAt (c .before .before .before .before .before .before .before .before .args .file .now)) m) No Yes) (c .before .before .before .sizes-at .ensures) (c .before .marks-at .ensures))
+returns-2 c = simp (sym (c .before .before .before .before .before .before .ask-length .ensures) ∙ c .before .before .before .before .enum-told .given .1) (c .ask-table .ensures (variablesAt (c .before .before .before .before .before .before .before .before .args .file .now)) (c .before .before .are-variables-at .ensures) ∙ ap₂ (λ (s : Sizes) (m : List ℕ). asked (entryQuestions s (variablesAt (c .before .before .before .before .before .before .before .before .args .file .now)) m) No Yes) (c .before .before .before .sizes-at .ensures) (c .before .marks-at .ensures))
 
 pub ask-file-spec : {M : Type 1} → statement M
 ask-file-spec =
