@@ -6,7 +6,6 @@ use Rattle.interval.specs.Limits.{askSteps, askInterval}
 use Rattle.interval.specs.Listing.{rows, sum}
 use Rattle.interval.specs.Places.{countOf, intervalsOf, placeOf, triplesOf, triplePlaceOf, tripleCountOf}
 use Rattle.grammar.specs.Ascii.{ascii}
-use Rattle.grammar.specs.Trees.{decimalIn, decimal, write}
 use Rattle.grammar.specs.Reader.{follow, endAfter, run, read}
 use Rattle.formula.specs.Nodes.{nodesOf, nodesIn}
 use Rattle.formula.specs.Questions.{askChannels, askLength, askGrammar, askLetters, askNumbers, askNodes}
@@ -34,11 +33,10 @@ a and b = (a, b)
 -- the one theorem of the table, a line for each sentence of document 01
 pub edges-hold : All Holds edges
 unfolding ascii edges evaluated askChannels askSteps askLength askGrammar askLetters askNumbers askNodes askInterval askRecording notBelow askBelow
-    follow endAfter run read nodesOf nodesIn flatMap decimalIn decimal write truth bitAt channelAt highs every some lasts fills chops tabled askRoom
-    sizesIn placesIn sizesOf rows countOf intervalsOf placeOf widthOf blocksOf variablesOf truthOf ownBy ownOf definedFrom definitionsOf rootOf
-    clausesOf clausesBy clauseTable entriesOf flat searched askLent sum triplesOf triplePlaceOf tripleCountOf recordingBy add allOpposed membersOf
-    membersIn firstForced forced closure clashes isOpen lowestOpen treeBelow tree treeOf treeIn limited digits number readLine outputFor outputOf
-    bytesOf fileOf
+    follow endAfter run read nodesOf nodesIn flatMap truth bitAt channelAt highs every some lasts fills chops tabled askRoom sizesIn placesIn sizesOf
+    rows countOf intervalsOf placeOf widthOf blocksOf variablesOf truthOf ownBy ownOf definedFrom definitionsOf rootOf clausesOf clausesBy clauseTable
+    entriesOf flat searched askLent sum triplesOf triplePlaceOf tripleCountOf recordingBy add allOpposed membersOf membersIn firstForced forced
+    closure clashes isOpen lowestOpen treeBelow tree treeOf treeIn limited digits number readLine outputFor outputOf bytesOf fileOf
 edges-hold =
     (refl, refl) and refl
     and refl
