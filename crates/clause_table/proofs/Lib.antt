@@ -3,4 +3,3 @@ pub mod Measure
 pub mod Places
 pub mod Call
 pub mod Laws
-pub mod Edges

@@ -2,4 +2,3 @@ pub mod Seen
 pub mod Steps
 pub mod Questions
 pub mod Laws
-pub mod Edges

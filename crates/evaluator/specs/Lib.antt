@@ -1,2 +1,1 @@
 pub mod Evaluation
-pub mod Edges

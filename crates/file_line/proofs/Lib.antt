@@ -3,4 +3,3 @@ pub mod Laws
 pub mod Reading
 pub mod Output
 pub mod File
-pub mod Edges

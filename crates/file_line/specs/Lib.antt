@@ -1,4 +1,3 @@
 pub mod Line
 pub mod Output
-pub mod Edges
 pub mod Parts

@@ -5,4 +5,3 @@ pub mod Call
 pub mod Demand
 pub mod Drawn
 pub mod Arrays
-pub mod Edges

@@ -1,0 +1,1 @@
+// Document 01's starred edges: one table and its theorem, no code.
