@@ -4,3 +4,4 @@ pub mod Places
 pub mod Call
 pub mod Laws
 pub mod Edges
+pub mod Gives

@@ -3,3 +3,4 @@ pub mod Steps
 pub mod Questions
 pub mod Laws
 pub mod Edges
+pub mod Gives

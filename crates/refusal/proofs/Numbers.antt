@@ -34,5 +34,6 @@ pub asked-meets : {A : Type 0} (P : A → Type 0) {refused : Refusal → A} {ans
     → ((r : Refusal) → List·Memᴰ (r .number) numbers → P (refused r)) → (AllYes questions → P answer) → P (asked questions refused answer)
 asked-meets P {refused} {answer} numbers questions a f g =
     ⊎-elim (λ (y : AllYes questions). subst P (sym (all-yes-answers refused answer y)) (g y))
-    (λ (n : (r : Refusal) × FirstNo questions r). subst P (sym (first-no-answers refused answer (n .1))) (f (n .0) (first-no-number numbers questions a (n .1))))
+    (λ (n : (r : Refusal) × FirstNo questions r).
+    subst P (sym (first-no-answers refused answer (n .1))) (f (n .0) (first-no-number numbers questions a (n .1))))
     (all-yes-or-first-no questions)

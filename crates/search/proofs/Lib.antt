@@ -6,3 +6,4 @@ pub mod Demand
 pub mod Drawn
 pub mod Arrays
 pub mod Edges
+pub mod Gives
