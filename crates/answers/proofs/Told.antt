@@ -41,23 +41,23 @@ module _ (r : Refusal) (h : r .number < 64) where
 
   pub verdict-refused : Told packVerdict verdictBy (verdict.Refused r)
   unfolding packVerdict
-  verdict-refused = refused-halves verdictBy ∙ rw (other tuvNo (omega arith), other tuvYes (omega arith))
+  verdict-refused = refused-halves verdictBy ∙ simp (other tuvNo (omega arith), other tuvYes (omega arith))
 
   pub written-refused : Told packWritten writtenBy (written.Refused r)
   unfolding packWritten
-  written-refused = refused-halves writtenBy ∙ rw (other tuvWritten (omega arith))
+  written-refused = refused-halves writtenBy ∙ simp (other tuvWritten (omega arith))
 
   pub checked-refused : Told packChecked checkedBy (checked.Refused r)
   unfolding packChecked
-  checked-refused = refused-halves checkedBy ∙ rw (other tuvAccepted (omega arith))
+  checked-refused = refused-halves checkedBy ∙ simp (other tuvAccepted (omega arith))
 
   pub answer-refused : Told packAnswer answerBy (answer.Refused r)
   unfolding packAnswer
-  answer-refused = refused-halves answerBy ∙ rw (other tuvFound (omega arith), other tuvNone (omega arith), other tuvSpent (omega arith))
+  answer-refused = refused-halves answerBy ∙ simp (other tuvFound (omega arith), other tuvNone (omega arith), other tuvSpent (omega arith))
 
   pub located-refused : Told packLocated locatedBy (located.Refused r)
   unfolding packLocated
-  located-refused = refused-halves locatedBy ∙ rw (other tuvNodeText (omega arith))
+  located-refused = refused-halves locatedBy ∙ simp (other tuvNodeText (omega arith))
 
 -- any other answer
 pub verdict-told : (b : Bool) → Told packVerdict verdictBy (verdictOf b)
