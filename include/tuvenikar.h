@@ -21,6 +21,10 @@
  *     default:      refused(tuv_code(answer), tuv_value(answer));   // without the second '=': 4 at 10
  *     }
  *
+ * Proved, for every input: what each call answers and writes, and that the number of its answer tells the answer. This file is not
+ * part of the proof: tests/header/run holds its numbers of answers, and the refusals that it lists at each call, to the definitions
+ * that are. Not proved: the stack figures, measured on x86-64, and TUV_MOST_*, counted.
+ *
  * Link libtuvenikar.a; of the firmware it needs memcpy and memset, and nothing else.
  */
 #ifndef TUVENIKAR_H
@@ -117,7 +121,9 @@ enum tuv_mark {
     TUV_CLOSING = 2 /* the last literal of its clause */
 };
 
-/* The most that a table can have. One text has the most of all three, c 8, k 32: 21 times `(#a>=32;`, `T`, 21 times `)`. */
+/* The most that a table can have: counted by tests/boundary/run, which goes through all numbers of nodes, and not proved. (Proved:
+ * they fit 32 bits; and where arrays are too short, whatever these say, a call is refused, TUV_ROOM.)
+ * One text has the most of all three, c 8, k 32: 21 times `(#a>=32;`, `T`, 21 times `)`. */
 enum tuv_most {
     TUV_MOST_VARIABLES = 539488,
     TUV_MOST_CLAUSES = 2016688,

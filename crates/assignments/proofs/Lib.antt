@@ -4,3 +4,4 @@ pub mod Meets
 pub mod Only
 pub mod Recordings
 pub mod Laws
+pub mod Gives

@@ -5,3 +5,4 @@ pub mod Laws
 pub mod Passed
 pub mod Stored
 pub mod Writable
+pub mod Gives

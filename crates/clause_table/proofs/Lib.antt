@@ -3,3 +3,4 @@ pub mod Measure
 pub mod Places
 pub mod Call
 pub mod Laws
+pub mod Gives

@@ -2,3 +2,4 @@ pub mod Seen
 pub mod Steps
 pub mod Questions
 pub mod Laws
+pub mod Gives

@@ -4,3 +4,4 @@ pub mod Standing
 pub mod Found
 pub mod Asked
 pub mod Laws
+pub mod Gives

@@ -45,7 +45,7 @@ nodePlaceOf C k x t = asked (nodeQuestions C k x t) Refused (partPlace (drop (x 
 -- "a node's own text is handed back as that part of the lent text, the empty part where refused"; the law `own-text` says that
 -- this part is what the node prints
 abbrev pub partOf : List ℕ → Located → List ℕ
-partOf t (Part first length) = take length (drop first t)
+partOf t (Part first bytes) = take bytes (drop first t)
 partOf t (Refused r) = []
 
 unfoldable pub nodeTextOf : ℕ → ℕ → ℕ → List ℕ → List ℕ

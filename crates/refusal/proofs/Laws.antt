@@ -4,20 +4,10 @@ use mathlib.Core.Path.{_≡_, refl, sym, ap, _∙_}
 use mathlib.Core.Bool.{false≢true}
 use mathlib.Core.List.{List, [], _∷_, _++_}
 use mathlib.Core.Logic.{_⊎_, inl, inr, ⊎-elim}
-use Rattle.refusal.specs.Asked.{asked}
+use Rattle.refusal.specs.Asked.{asked, AllYes, none-left, yes-then, FirstNo, here, later}
 use Rattle.refusal.specs.declared.Refusal.{Refusal}
 use Rattle.refusal.specs.declared.Reply.{Reply}
 use Rattle.refusal.specs.declared.Reply.the-variants.{Yes, No}
-
--- every question is answered with yes
-pub data AllYes : List Reply → Type 0 where
-  none-left : AllYes []
-  yes-then : {questions : List Reply} → AllYes questions → AllYes (Yes ∷ questions)
-
--- r is the first no
-pub data FirstNo : List Reply → Refusal → Type 0 where
-  here : {r : Refusal} {questions : List Reply} → FirstNo (No r ∷ questions) r
-  later : {r : Refusal} {questions : List Reply} → FirstNo questions r → FirstNo (Yes ∷ questions) r
 
 -- either all say yes, or there is a first no
 pub all-yes-or-first-no : (questions : List Reply) → AllYes questions ⊎ ((r : Refusal) × FirstNo questions r)

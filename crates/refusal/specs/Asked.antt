@@ -1,4 +1,5 @@
 -- Document 01, "Questions in order": a call asks those that concern it, in this order; the first no gives number and place.
+use mathlib.Core.Path.{_≡_}
 use mathlib.Core.Bool.{Bool, true, false}
 use mathlib.Core.List.{List, [], _∷_}
 use Prim.Native.Nat.{ℕ}
@@ -16,3 +17,25 @@ abbrev pub asked : {A : Type 0} → List Reply → (Refusal → A) → A → A
 asked [] refused answer = answer
 asked (Yes ∷ questions) refused answer = asked questions refused answer
 asked (No r ∷ questions) refused answer = refused r
+
+-- every question is answered with yes
+pub data AllYes : List Reply → Type 0 where
+  none-left : AllYes []
+  yes-then : {questions : List Reply} → AllYes questions → AllYes (Yes ∷ questions)
+
+-- r is the first no
+pub data FirstNo : List Reply → Refusal → Type 0 where
+  here : {r : Refusal} {questions : List Reply} → FirstNo (No r ∷ questions) r
+  later : {r : Refusal} {questions : List Reply} → FirstNo questions r → FirstNo (Yes ∷ questions) r
+
+-- a question's no gives this number
+abbrev pub Gives : ℕ → Reply → Type 0
+Gives n Yes = Unit
+Gives n (No r) = r .number ≡ n
+
+-- questions with these numbers, in this order
+abbrev pub Asks : List ℕ → List Reply → Type 0
+Asks [] [] = Unit
+Asks [] (q ∷ questions) = ⊥
+Asks (n ∷ numbers) [] = ⊥
+Asks (n ∷ numbers) (q ∷ questions) = Gives n q × Asks numbers questions

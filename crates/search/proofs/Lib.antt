@@ -5,3 +5,4 @@ pub mod Call
 pub mod Demand
 pub mod Drawn
 pub mod Arrays
+pub mod Gives

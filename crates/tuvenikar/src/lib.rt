@@ -1,5 +1,13 @@
 // The calls for C, on numbers and slices. Each answers with one number: its low half says what, its high half the place or the
 // value; include/tuvenikar.h has the same for C.
+use answers::TUV_ACCEPTED;
+use answers::TUV_FOUND;
+use answers::TUV_NO;
+use answers::TUV_NODE_TEXT;
+use answers::TUV_NONE;
+use answers::TUV_SPENT;
+use answers::TUV_WRITTEN;
+use answers::TUV_YES;
 use assignments::Checked;
 use clause_table::Sizes;
 use clause_table::Written;
@@ -15,7 +23,7 @@ ghost use Rattle.assignments.specs.Calls.{extended, proposed};
 ghost use Rattle.clause_file.specs.File.{sizesBy};
 ghost use Rattle.clause_file.specs.Calls.{fileWritten, fileRead};
 ghost use Rattle.search.specs.Search.{lentOf, searched, Unchanged};
-ghost use Rattle.tuvenikar.specs.Answers.{packed, packVerdict, packLocated, packWritten, packChecked, packAnswer};
+ghost use Rattle.answers.specs.Answers.{packed, packVerdict, packLocated, packWritten, packChecked, packAnswer};
 
 // What, and the place or the value above it.
 fn pack(code: u32, value: u32) -> u64
@@ -29,7 +37,10 @@ fn pack_located(a: Located) -> u64
     ensures { λ r. ⌜ r ≡ packLocated a ⌝ }
 {
     match a {
-        Located::Part { first, length } => pack(71, first as u32 + 256 * (length as u32)),
+        Located::Part { first, length } => pack(
+            TUV_NODE_TEXT,
+            first as u32 + 256 * (length as u32),
+        ),
         Located::Refused(r) => pack(r.number, r.place),
     }
 }
@@ -39,8 +50,8 @@ fn pack_verdict(a: Verdict) -> u64
     ensures { λ r. ⌜ r ≡ packVerdict a ⌝ }
 {
     match a {
-        Verdict::No => pack(64, 0),
-        Verdict::Yes => pack(65, 0),
+        Verdict::No => pack(TUV_NO, 0),
+        Verdict::Yes => pack(TUV_YES, 0),
         Verdict::Refused(r) => pack(r.number, r.place),
     }
 }
@@ -50,7 +61,7 @@ fn pack_written(a: Written) -> u64
     ensures { λ r. ⌜ r ≡ packWritten a ⌝ }
 {
     match a {
-        Written::Done => pack(66, 0),
+        Written::Done => pack(TUV_WRITTEN, 0),
         Written::Refused(r) => pack(r.number, r.place),
     }
 }
@@ -60,7 +71,7 @@ fn pack_checked(a: Checked) -> u64
     ensures { λ r. ⌜ r ≡ packChecked a ⌝ }
 {
     match a {
-        Checked::Accepted => pack(67, 0),
+        Checked::Accepted => pack(TUV_ACCEPTED, 0),
         Checked::Refused(r) => pack(r.number, r.place),
     }
 }
@@ -70,9 +81,9 @@ fn pack_answer(a: Answer) -> u64
     ensures { λ r. ⌜ r ≡ packAnswer a ⌝ }
 {
     match a {
-        Answer::Found(n) => pack(68, n),
-        Answer::None(n) => pack(69, n),
-        Answer::Spent(n) => pack(70, n),
+        Answer::Found(n) => pack(TUV_FOUND, n),
+        Answer::None(n) => pack(TUV_NONE, n),
+        Answer::Spent(n) => pack(TUV_SPENT, n),
         Answer::Refused(r) => pack(r.number, r.place),
     }
 }

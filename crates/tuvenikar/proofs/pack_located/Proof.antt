@@ -1,7 +1,7 @@
 -- Each case packs the numbers that the definition gives it:
 -- a node's first byte and length fit a byte, so the value fits its half.
 use mathlib.Core.Path.{sym, ap, _∙_}
-use Rattle.tuvenikar.specs.Answers.{packLocated}
+use Rattle.answers.specs.Answers.{packLocated}
 use borrow.Author.Needs.{needs}
 use Rattle.tuvenikar.proofs.pack_located.Statement.{statement}
 use Rattle.tuvenikar.proofs.pack_located.Tie as tie

@@ -1,6 +1,6 @@
 -- Each case packs the numbers that the definition gives it:
 -- the match tells which case it is.
-use Rattle.tuvenikar.specs.Answers.{packVerdict}
+use Rattle.answers.specs.Answers.{packVerdict}
 use mathlib.Core.Path.{sym, ap, _∙_}
 use borrow.Author.Needs.{needs}
 use Rattle.tuvenikar.proofs.pack_verdict.Statement.{statement}

@@ -1,6 +1,6 @@
 -- The call's answer is packed as its definition says;
 -- the recording's array is left as the call leaves it.
-use Rattle.tuvenikar.specs.Answers.{packChecked}
+use Rattle.answers.specs.Answers.{packChecked}
 use Rattle.assignments.specs.Calls.{Proposed}
 use mathlib.Core.Path.{ap, _∙_}
 use borrow.Author.Needs.{needs}

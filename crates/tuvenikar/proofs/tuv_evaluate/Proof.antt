@@ -1,6 +1,6 @@
 -- `tuv_evaluate` packs what `evaluate` answers,
 -- and `evaluate` answers as its definition.
-use Rattle.tuvenikar.specs.Answers.{packVerdict}
+use Rattle.answers.specs.Answers.{packVerdict}
 use mathlib.Core.Path.{ap, _∙_}
 use borrow.Author.Needs.{needs}
 use Rattle.tuvenikar.proofs.tuv_evaluate.Statement.{statement}

@@ -1,6 +1,6 @@
 -- The call's answer is packed as its definition says;
 -- the assignment is left as the call leaves it.
-use Rattle.tuvenikar.specs.Answers.{packWritten}
+use Rattle.answers.specs.Answers.{packWritten}
 use Rattle.assignments.specs.Calls.{Extended}
 use mathlib.Core.Path.{ap, _∙_}
 use borrow.Author.Needs.{needs}

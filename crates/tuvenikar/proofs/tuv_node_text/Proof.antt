@@ -1,7 +1,7 @@
 -- `tuv_node_text` packs what `node_place` answers,
 -- and `node_place` answers as its definition.
 use mathlib.Core.Path.{ap, _∙_}
-use Rattle.tuvenikar.specs.Answers.{packLocated}
+use Rattle.answers.specs.Answers.{packLocated}
 use borrow.Author.Needs.{needs}
 use Rattle.tuvenikar.proofs.tuv_node_text.Statement.{statement}
 use Rattle.tuvenikar.proofs.tuv_node_text.Tie as tie

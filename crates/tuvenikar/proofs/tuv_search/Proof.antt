@@ -1,6 +1,6 @@
 -- The call's answer is packed as its definition says; the recording's array is left as the call leaves it,
 -- and the work arrays as they were where the definition refuses.
-use Rattle.tuvenikar.specs.Answers.{packAnswer}
+use Rattle.answers.specs.Answers.{packAnswer}
 use Rattle.search.specs.Search.{Searched}
 use mathlib.Core.Path.{ap, _∙_}
 use borrow.Author.Needs.{needs}

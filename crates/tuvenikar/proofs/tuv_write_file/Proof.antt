@@ -1,6 +1,6 @@
 -- The call's answer is packed as its definition says;
 -- the file is left as the call leaves it.
-use Rattle.tuvenikar.specs.Answers.{packWritten}
+use Rattle.answers.specs.Answers.{packWritten}
 use Rattle.clause_file.specs.Calls.{FileAfter}
 use mathlib.Core.Path.{ap, _∙_}
 use borrow.Author.Needs.{needs}

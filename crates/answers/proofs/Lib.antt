@@ -1,0 +1,3 @@
+pub mod Asks
+pub mod Told
+pub mod Calls

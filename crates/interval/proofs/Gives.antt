@@ -1,0 +1,16 @@
+-- Question 2 answers no with number 2, and question 9 with number 9:
+-- each is a test with its number.
+use mathlib.Core.Bool.{_&&_}
+use Prim.Native.Nat.{ℕ}
+use lib.Dec.{leb}
+use Rattle.refusal.specs.Asked.{Gives}
+use Rattle.refusal.proofs.Numbers.{question-gives}
+use Rattle.interval.specs.Limits.{maxSteps, askSteps, askInterval}
+
+pub steps-gives : (k : ℕ) → Gives 2 (askSteps k)
+unfolding askSteps
+steps-gives k = question-gives 2 0 (leb k maxSteps)
+
+pub interval-gives : (i j k : ℕ) → Gives 9 (askInterval i j k)
+unfolding askInterval
+interval-gives i j k = question-gives 9 0 (leb i j && leb j k)
