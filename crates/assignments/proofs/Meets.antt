@@ -119,7 +119,8 @@ module _ (a : Assignment) (k : ℕ) where
         let n : suc (v .j) - v .i ≡ suc (v .j - v .i) = omega arith in
         on-intervals b (chops f g) h v o ∙ ap (any (λ m. cuts f g (cut m)) (v .i)) n
         ∙ sym (some-along a (λ m. cuts f g (cut m)) (w + triplePlaceOf k (cut (v .i))) (v .i) (suc (v .j - v .i)) (λ e l.
-        let q : w + triplePlaceOf k (cut (v .i)) + e ≡ w + triplePlaceOf k (cut (v .i + e)) = omega (arith, triples-in-a-row k (v .i) (v .i + e) (v .j)) in
+        let q : w + triplePlaceOf k (cut (v .i)) + e ≡ w + triplePlaceOf k (cut (v .i + e)) =
+        omega (arith, triples-in-a-row k (v .i) (v .i + e) (v .j) (omega arith) (omega arith) (omega arith)) in
         ap a q ∙ on-triples (cut (v .i + e)) (omega arith)))
 
 -- ---- a node's truth stands where the gates of what it is a part of look

@@ -9,10 +9,9 @@ use native.Mathlib.Omega.{arith}
 use lib.Dec.{eqb}
 use borrow.Author.Tests.{eq-eqb, ne-eqb}
 use Rattle.interval.specs.Listing.{rows, tab, sum}
-use Rattle.interval.specs.Shape.{line, place, per}
-use Rattle.interval.specs.Places.{countOf, placeOf, triplePlaceOf, intervalsOf, intervals, triples}
+use Rattle.interval.specs.Places.{countOf, placeOf, triplePlaceOf, intervalsOf}
 use Rattle.interval.proofs.Listing.{sum-ones, sum-times, rows-same}
-use Rattle.interval.proofs.Shape.{per-same, map-per}
+use Rattle.interval.proofs.Shape.{line, place, per, intervals, triples, per-same, map-per}
 use Rattle.interval.proofs.Counts.{intervals-count}
 use Rattle.interval.proofs.Laws.{interval, triple, intervals-listed, interval-entry, triples-listed, triple-entry}
 use Rattle.interval.specs.declared.Interval.{Interval}

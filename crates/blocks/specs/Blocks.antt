@@ -5,7 +5,7 @@ use mathlib.Core.List.{List, [], _∷_}
 use Prim.Native.Nat.{ℕ, suc, _+_, _-_, _%_, _^_, _≤_, _<_}
 use lib.Dec.{eqb, ltb}
 use lib.ListN.{getD}
-use Rattle.interval.specs.Shape.{Shape, line, stack, Inside, place, per}
+use Rattle.interval.proofs.Shape.{Shape, line, stack, Inside, place, per}
 use Rattle.interval.specs.Places.{countOf, placeOf, triplePlaceOf}
 use Rattle.interval.specs.Limits.{maxSteps}
 use Rattle.grammar.specs.Limits.{maxChannels}
