@@ -1,4 +1,5 @@
--- A node's block as the code walks it: rows of lines of cells, each cell by its place and its position. No call open to others cites these.
+-- A node's block as the code walks it: rows of lines of cells, each cell by its place and its position. Nothing here need be believed: no
+-- call open to others cites it.
 use mathlib.Core.Path.{_≡_}
 use mathlib.Core.Bool.{Bool, true, false, cond}
 use mathlib.Core.List.{List, [], _∷_}

@@ -1,5 +1,5 @@
 -- Document 01, "Variables" and "Clauses": the variables of a formula of C channels over k steps, and the one gate that defines each
--- variable beyond the channels, in the order in which document 01 lists the clauses.
+-- variable beyond the channels, in the order in which document 01 lists the clauses (their Tseitin encoding, crate clauses).
 use mathlib.Core.Bool.{true, false, cond}
 use mathlib.Core.List.{List, [], _∷_, _++_, map}
 use Prim.Native.Nat.{ℕ, zero, suc, _+_, _-_, _*_}
