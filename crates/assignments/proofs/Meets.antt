@@ -25,7 +25,7 @@ use Rattle.formula.proofs.Lists.{All, all-append}
 use Rattle.meaning.specs.Meaning.{bit, channelAt, highs, any, lasts, fills, chops, truth}
 use Rattle.word.proofs.Words.{high-bit}
 use Rattle.circuit.specs.Gates.{Assignment, valueOf}
-use Rattle.circuit.specs.Circuit.{channelOf, pointsOf, widthOf, blocksOf, truthOf, Definition, shorter, throughoutGate, levelOf, levelGate, tripleGate, chopGate, ownBy, leftOf, rightOf, ownOf, definedFrom}
+use Rattle.circuit.specs.Circuit.{channelOf, pointsOf, widthOf, blocksOf, truthOf, Definition, shorter, throughoutGate, levelOf, levelGate, tripleGate, chopGate, Seats, seatsOf, ownBy, ownOf, definedFrom}
 use Rattle.circuit.proofs.Lists.{all-rows, all-mapped}
 use Rattle.circuit.proofs.Blocks.{partsOf, truth-lt, defined-append, defined-parts}
 use Rattle.circuit.proofs.Inputs.{intervals-in, triples-in, row-lt}
@@ -119,7 +119,8 @@ module _ (a : Assignment) (k : ℕ) where
         let n : suc (v .j) - v .i ≡ suc (v .j - v .i) = omega arith in
         on-intervals b (chops f g) h v o ∙ ap (any (λ m. cuts f g (cut m)) (v .i)) n
         ∙ sym (some-along a (λ m. cuts f g (cut m)) (w + triplePlaceOf k (cut (v .i))) (v .i) (suc (v .j - v .i)) (λ e l.
-        let q : w + triplePlaceOf k (cut (v .i)) + e ≡ w + triplePlaceOf k (cut (v .i + e)) = omega (arith, triples-in-a-row k (v .i) (v .i + e) (v .j)) in
+        let q : w + triplePlaceOf k (cut (v .i)) + e ≡ w + triplePlaceOf k (cut (v .i + e)) =
+        omega (arith, triples-in-a-row k (v .i) (v .i + e) (v .j) (omega arith) (omega arith) (omega arith)) in
         ap a q ∙ on-triples (cut (v .i + e)) (omega arith)))
 
 -- ---- a node's truth stands where the gates of what it is a part of look
@@ -132,14 +133,14 @@ module _ (a : Assignment) (k : ℕ) (recording : List ℕ) where
   own-true : {s : Sort} (x : Tree s) (b : ℕ) → Spells a b (truthValues s k (truth recording x)) → Truly x b
   own-true {s} x b h = let f = truth recording x in spelled a b (pointsOf s k) (λ e. f (pointAt s k e)) (truthValues s k f) (truth-length s k f) (truth-at s k f) h
 
-  -- the parts' truth stands from l and from r on
-  abbrev Parts : {s : Sort} → Tree s → ℕ → ℕ → Type 0
-  Parts (constant v) l r = Unit
-  Parts (letter c) l r = Unit
-  Parts (negation x) l r = Truly x l
-  Parts (pair o x y) l r = Truly x l × Truly y r
-  Parts (duration x n) l r = Truly x l
-  Parts (throughout x) l r = Truly x l
+  -- the parts' truth stands at their seats
+  abbrev Parts : {s : Sort} → Tree s → Seats → Type 0
+  Parts (constant v) S = Unit
+  Parts (letter c) S = Unit
+  Parts (negation x) S = Truly x (S .left)
+  Parts (pair o x y) S = Truly x (S .left) × Truly y (S .right)
+  Parts (duration x n) S = Truly x (S .left)
+  Parts (throughout x) S = Truly x (S .left)
 
   pub part-true : {s : Sort} (x : Tree s) (b : ℕ) → Spells a b (nodeValues k recording (nodesOf x 0)) → Truly x (b + truthOf k x)
   part-true {s} x b h e m =
@@ -153,7 +154,7 @@ module _ (a : Assignment) (k : ℕ) (recording : List ℕ) where
       spells-append a b (blocksOf k (nodesOf x 0)) (nodeValues k recording (nodesOf x 0)) (nodeValues k recording (nodesOf y 0)) (values-length k recording (nodesOf x 0))
       (rw (values-append k recording (nodesOf x 0)) at h)
 
-  parts-true : {s : Sort} (x : Tree s) (b : ℕ) → Spells a b (nodeValues k recording (partsOf x)) → Parts x (leftOf k b x) (rightOf k b x)
+  parts-true : {s : Sort} (x : Tree s) (b : ℕ) → Spells a b (nodeValues k recording (partsOf x)) → Parts x (seatsOf k b x)
   parts-true (constant v) b h = tt
   parts-true (letter c) b h = tt
   parts-true (negation x) b h = part-true x b h
@@ -164,31 +165,31 @@ module _ (a : Assignment) (k : ℕ) (recording : List ℕ) where
 -- ---- every definition
 
 module _ (a : Assignment) (C k : ℕ) (recording : List ℕ) (channels : (t c : ℕ) → t < k → c < C → a (channelOf C t c) ≡ channelAt recording c t) where
-  own-meets : {s : Sort} (x : Tree s) (b l r : ℕ) → Letters C x → Spells a b (blockValues k recording x) → Parts a k recording x l r → All (Defined a) (ownBy C k b l r x)
+  own-meets : {s : Sort} (x : Tree s) (b : ℕ) (S : Seats) → Letters C x → Spells a b (blockValues k recording x) → Parts a k recording x S → All (Defined a) (ownBy C k b S x)
   unfolding ownBy blockValues truth valueOf
-  own-meets {s} (constant v) b l r L h p = all-rows _ (pointsOf s k) _ (λ e m. (own-true a k recording {s = s} (constant v) b h e m, tt))
-  own-meets (letter c) b l r L h p = all-rows _ k _ (λ t m. (own-true a k recording (letter c) b h t m ∙ sym (channels t c m L), tt))
-  own-meets {s} (negation x) b l r L h p = all-rows _ (pointsOf s k) _ (λ e m. (own-true a k recording (negation x) b h e m ∙ ap not (sym (p e m)), tt))
-  own-meets {s} (pair and x y) b l r L h p =
+  own-meets {s} (constant v) b S L h p = all-rows _ (pointsOf s k) _ (λ e m. (own-true a k recording {s = s} (constant v) b h e m, tt))
+  own-meets (letter c) b S L h p = all-rows _ k _ (λ t m. (own-true a k recording (letter c) b h t m ∙ sym (channels t c m L), tt))
+  own-meets {s} (negation x) b S L h p = all-rows _ (pointsOf s k) _ (λ e m. (own-true a k recording (negation x) b h e m ∙ ap not (sym (p e m)), tt))
+  own-meets {s} (pair and x y) b S L h p =
       all-rows _ (pointsOf s k) _ (λ e m. (own-true a k recording (pair and x y) b h e m ∙ sym (ap₂ _&&_ (p .0 e m) (p .1 e m)), tt))
-  own-meets {s} (pair or x y) b l r L h p =
+  own-meets {s} (pair or x y) b S L h p =
       all-rows _ (pointsOf s k) _ (λ e m. (own-true a k recording (pair or x y) b h e m ∙ sym (ap₂ _||_ (p .0 e m) (p .1 e m)), tt))
-  own-meets (pair chop x y) b l r L h p =
+  own-meets (pair chop x y) b S L h p =
       let f = truth recording x in
       let g = truth recording y in
       let w = b + countOf k in
       let t = spells-append a b (countOf k) (truthValues Formula k (chops f g)) (cutValues k f g) (truth-length Formula k (chops f g)) h in
       all-append (Defined a) (map _ (triplesOf k)) (map _ (intervalsOf k))
-      (all-mapped (Defined a) (TripleOf k) _ (triplesOf k) (triple-meets a k f g w (t .1) l r (p .0) (p .1)) (triples-in k))
+      (all-mapped (Defined a) (TripleOf k) _ (triplesOf k) (triple-meets a k f g w (t .1) (S .left) (S .right) (p .0) (p .1)) (triples-in k))
       (all-mapped (Defined a) (IntervalOf k) _ (intervalsOf k) (chop-meets a k f g w (t .1) b (own-true a k recording (pair chop x y) b (t .0))) (intervals-in k))
-  own-meets (duration x n) b l r L h p =
+  own-meets (duration x n) b S L h p =
       let f = truth recording x in
       let level : (c : ℕ) → c < suc n → HasOn a k (b + c * countOf k) (lasts c f) = λ c m.
       own-true a k recording (duration x c) (b + c * countOf k)
       (spells-row a b (countOf k) (λ c. truthValues Formula k (lasts c f)) (λ c. truth-length Formula k (lasts c f)) (suc n) c m h) in
-      all-rows _ (suc n) _ (λ c m. all-mapped (Defined a) (IntervalOf k) _ (intervalsOf k) (level-meets a k b l f p (suc n) level c m) (intervals-in k))
-  own-meets (throughout x) b l r L h p =
-      all-mapped (Defined a) (IntervalOf k) _ (intervalsOf k) (throughout-meets a k b l (truth recording x) p (own-true a k recording (throughout x) b h)) (intervals-in k)
+      all-rows _ (suc n) _ (λ c m. all-mapped (Defined a) (IntervalOf k) _ (intervalsOf k) (level-meets a k b (S .left) f p (suc n) level c m) (intervals-in k))
+  own-meets (throughout x) b S L h p =
+      all-mapped (Defined a) (IntervalOf k) _ (intervalsOf k) (throughout-meets a k b (S .left) (truth recording x) p (own-true a k recording (throughout x) b h)) (intervals-in k)
 
   -- a tree's own definitions are met, and with its parts' all of them
   with-parts : {s : Sort} (x : Tree s) (b : ℕ) → Letters C x → Spells a b (nodeValues k recording (nodesOf x 0))
@@ -199,7 +200,7 @@ module _ (a : Assignment) (C k : ℕ) (recording : List ℕ) (channels : (t c : 
       let p = b + widthOf k x in
       let t = spells-append a b (widthOf k x) (blockValues k recording x) (nodeValues k recording (partsOf x)) (block-length k recording x)
       (rw (values-parts k recording x 0) at h) in
-      let own = own-meets x b (leftOf k p x) (rightOf k p x) L (t .0) (parts-true a k recording x p (t .1)) in
+      let own = own-meets x b (seatsOf k p x) L (t .0) (parts-true a k recording x p (t .1)) in
       rw (defined-parts C k b x 0) (all-append (Defined a) (ownOf C k b x) (definedFrom C k p (partsOf x)) own (g (t .1)))
 
   pub nodes-meet : {s : Sort} (x : Tree s) (b : ℕ) → Letters C x → Spells a b (nodeValues k recording (nodesOf x 0)) → All (Defined a) (definedFrom C k b (nodesOf x 0))

@@ -8,10 +8,10 @@ use Rattle.interval.specs.Listing.{rows, tab, sum}
 use Rattle.interval.specs.Places.{intervalsOf, triplesOf}
 use Rattle.interval.specs.declared.Interval.{Interval}
 use Rattle.interval.specs.declared.Triple.{Triple}
-use Rattle.grammar.specs.Trees.{and, or, chop, Tree, constant, letter, negation, pair, duration, throughout}
+use Rattle.grammar.specs.Trees.{Tree, duration}
 use Rattle.grammar.specs.declared.Sort.{Sort}
 use Rattle.grammar.specs.declared.Sort.the-variants.{State, Formula}
-use Rattle.formula.specs.Nodes.{Node}
+use Rattle.formula.specs.Nodes.{Node, aLetter, aDuration, aChop, another, viewOf}
 use Rattle.meaning.specs.Meaning.{bit, channelAt, Point, truth}
 use Rattle.circuit.specs.Gates.{Assignment}
 use Rattle.circuit.specs.Circuit.{channelOf}
@@ -39,14 +39,14 @@ cutValues k f g = map (λ (t : Triple). bit (cuts f g t)) (triplesOf k)
 -- the values of a node's own block: "S node: k variables, one an instant"; "levels 0 to n, each of I variables"; "Chop: I variables,
 -- then J, one a triple"; "Any other P: I variables"
 unfoldable pub blockValues : {s : Sort} → ℕ → List ℕ → Tree s → List ℕ
-blockValues {s} k recording (constant v) = truthValues s k (truth {s = s} recording (constant v))
-blockValues k recording (letter c) = truthValues State k (truth recording (letter c))
-blockValues {s} k recording (negation x) = truthValues s k (truth recording (negation x))
-blockValues {s} k recording (pair and x y) = truthValues s k (truth recording (pair and x y))
-blockValues {s} k recording (pair or x y) = truthValues s k (truth recording (pair or x y))
-blockValues k recording (pair chop x y) = truthValues Formula k (truth recording (pair chop x y)) ++ cutValues k (truth recording x) (truth recording y)
-blockValues k recording (duration x n) = rows (suc n) (λ c. truthValues Formula k (truth recording (duration x c)))
-blockValues k recording (throughout x) = truthValues Formula k (truth recording (throughout x))
+blockValues {s} k recording x =
+    let own = truthValues s k (truth recording x) in
+    elim (viewOf x) [
+      | aLetter c ↦ own
+      | aDuration S n ↦ rows (suc n) (λ c. truthValues Formula k (truth recording (duration S c)))
+      | aChop P Q ↦ own ++ cutValues k (truth recording P) (truth recording Q)
+      | another ↦ own
+    ]
 
 -- "each node, in number order, has a block"
 unfoldable pub nodeValues : ℕ → List ℕ → List Node → List ℕ

@@ -9,17 +9,16 @@ use native.Mathlib.Omega.{arith}
 use lib.Dec.{eqb}
 use borrow.Author.Tests.{eq-eqb, ne-eqb}
 use Rattle.interval.specs.Listing.{rows, tab, sum}
-use Rattle.interval.specs.Shape.{line, place, per}
-use Rattle.interval.specs.Places.{countOf, placeOf, triplePlaceOf, intervalsOf, intervals, triples}
+use Rattle.interval.specs.Places.{countOf, placeOf, triplePlaceOf, intervalsOf}
 use Rattle.interval.proofs.Listing.{sum-ones, sum-times, rows-same}
-use Rattle.interval.proofs.Shape.{per-same, map-per}
+use Rattle.interval.proofs.Shape.{line, place, per, intervals, triples, per-same, map-per}
 use Rattle.interval.proofs.Counts.{intervals-count}
 use Rattle.interval.proofs.Laws.{interval, triple, intervals-listed, interval-entry, triples-listed, triple-entry}
 use Rattle.interval.specs.declared.Interval.{Interval}
 use Rattle.grammar.specs.Trees.{and, or, chop, Tree, constant, letter, negation, pair, duration, throughout}
 use Rattle.grammar.specs.declared.Sort.{Sort}
 use Rattle.grammar.specs.declared.Sort.the-variants.{Formula}
-use Rattle.circuit.specs.Circuit.{Definition, define, alike, channelOf, pointsOf, throughoutGate, levelOf, levelGate, tripleGate, chopGate, ownBy}
+use Rattle.circuit.specs.Circuit.{Definition, define, alike, channelOf, pointsOf, throughoutGate, levelOf, levelGate, tripleGate, chopGate, Seats, ownBy}
 use Rattle.circuit.specs.declared.Gate.{Gate}
 use Rattle.circuit.specs.declared.Gate.the-variants.{Constant, Copy, Inverse, Both, Either, AnyOf, Step}
 use Rattle.blocks.specs.Blocks.{throughoutBy, levelBy, chopBy, ruleOf, gateOf, definedBy, blockOf}
@@ -88,27 +87,27 @@ module _ (k b l : ℕ) where
 abbrev pub tripled : ℕ → ℕ → ℕ → ℕ → Block
 tripled k b l r = record { rule = Cut; points = countOf k; first = b + countOf k; left = l; right = r }
 
-module _ (C k b l r : ℕ) where
+module _ (C k b : ℕ) (S : Seats) where
   -- the definitions of a node's own block, of a chop those of its triples and then of its intervals
-  pub own-defined : {s : Sort} (x : Tree s) → (ruleOf x ≡ Chop → ⊥) → ownBy C k b l r x ≡ definedBy C k (blockOf k b l r x)
+  pub own-defined : {s : Sort} (x : Tree s) → (ruleOf x ≡ Chop → ⊥) → ownBy C k b S x ≡ definedBy C k (blockOf k b (S .left) (S .right) x)
   unfolding ownBy definedBy gateOf rows sum
   own-defined {s} (constant v) n = one-line b (pointsOf s k) (λ p. Constant v)
   own-defined (letter c) n = one-line b k (λ p. Copy (channelOf C p c))
-  own-defined {s} (negation x) n = one-line b (pointsOf s k) (λ p. Inverse (l + p))
-  own-defined {s} (pair and x y) n = one-line b (pointsOf s k) (λ p. Both (l + p) (r + p))
-  own-defined {s} (pair or x y) n = one-line b (pointsOf s k) (λ p. Either (l + p) (r + p))
+  own-defined {s} (negation x) n = one-line b (pointsOf s k) (λ p. Inverse (S .left + p))
+  own-defined {s} (pair and x y) n = one-line b (pointsOf s k) (λ p. Both (S .left + p) (S .right + p))
+  own-defined {s} (pair or x y) n = one-line b (pointsOf s k) (λ p. Either (S .left + p) (S .right + p))
   own-defined (pair chop x y) n = absurd (n refl)
-  own-defined (duration x n) _ = rows-same (suc n) _ _ (λ c h. level-defined k b l c)
+  own-defined (duration x n) _ = rows-same (suc n) _ _ (λ c h. level-defined k b (S .left) c)
   own-defined (throughout x) n =
-      on-intervals k b l _ _
-      (λ i d h p. ap₂ define (omega (arith, p)) (throughout-same k b l i d h ∙ ap (λ (p : ℕ). throughoutBy b l p i d) (omega arith)))
+      on-intervals k b (S .left) _ _
+      (λ i d h p. ap₂ define (omega (arith, p)) (throughout-same k b (S .left) i d h ∙ ap (λ (p : ℕ). throughoutBy b (S .left) p i d) (omega arith)))
 
-  pub chop-defined : (x y : Tree Formula) → ownBy C k b l r (pair chop x y) ≡ definedBy C k (tripled k b l r) ++ definedBy C k (blockOf k b (b + countOf k) r (pair chop x y))
+  pub chop-defined : (x y : Tree Formula) → ownBy C k b S (pair chop x y) ≡ definedBy C k (tripled k b (S .left) (S .right)) ++ definedBy C k (blockOf k b (b + countOf k) (S .right) (pair chop x y))
   unfolding ownBy definedBy gateOf rows sum
   chop-defined x y =
       ap₂ (λ (m n : List Definition). m ++ n)
-      (ap (map _) (triples-listed k) ∙ map-per _ (triples k) (triple k) ∙ per-same (triples k) _ _ (λ t m. ap (λ (p : ℕ). define (b + countOf k + p) (tripleGate k l r (triple k t))) (triple-entry k t m .1)))
-      (on-intervals k b l _ _
+      (ap (map _) (triples-listed k) ∙ map-per _ (triples k) (triple k) ∙ per-same (triples k) _ _ (λ t m. ap (λ (p : ℕ). define (b + countOf k + p) (tripleGate k (S .left) (S .right) (triple k t))) (triple-entry k t m .1)))
+      (on-intervals k b (S .left) _ _
       (λ i d h p.
       let v : b + placeOf k (record { i = i; j = i + d }) ≡ b + (0 + place (intervals k) (i, d)) = omega (arith, p) in
       ap₂ define v (chop-same k b (b + countOf k) i d)))

@@ -11,11 +11,12 @@ use lib.ListN.{getD, List·getD-eq-default}
 use lib.Dec.{ltb}
 use borrow.Author.Tests.{lt-ltb, le-ltb, ltb-true, ltb-false}
 use Rattle.interval.specs.Listing.{sum}
-use Rattle.interval.specs.Shape.{Inside, count}
 use Rattle.interval.specs.Places.{countOf, tripleCountOf, triplePlaceOf}
-use Rattle.interval.specs.Limits.{maxSteps, maxCount}
+use Rattle.interval.specs.Limits.{maxSteps, maxCount, TripleOf}
+use Rattle.interval.specs.declared.Triple.{Triple}
 use Rattle.interval.proofs.Counts.{intervals-count, triple-count-le}
-use Rattle.interval.proofs.Laws.{triples-numbered}
+use Rattle.interval.proofs.Shape.{Inside, count}
+use Rattle.interval.proofs.Laws.{triple-place, triples-numbered}
 use Rattle.blocks.specs.Blocks.{rulesFor, ruleBy, formOf, rowsOf, linesOf, cellsOf, nextOf, numberOf, shapeOf, Placed, Before, bound, gateBy, gateOf}
 use Rattle.blocks.specs.declared.Block.{Block}
 use Rattle.blocks.specs.declared.Form.{Form}
@@ -92,11 +93,13 @@ module _ {points k x a i d : ℕ} {r : Rule} (p : Placed points k r x a i d) whe
 -- before the triples of a chop's interval stand those of the intervals before it
 pub chop-before : {points k x : ℕ} {r : Rule} (p : Position) → Placed points k r x (p .row) (p .line) (p .cell) → Before points k r p → r ≡ Chop → k ≤ maxSteps
     → (p .before ≡ triplePlaceOf k (record { i = p .line; m = p .line; j = p .line + p .cell })) × (p .before ≤ (maxSteps + 1) * (maxSteps + 2) * (maxSteps + 3) / 6)
-unfolding triplePlaceOf tripleCountOf
+unfolding tripleCountOf
 chop-before {points} {k} p q b e h =
     let n : p .line + p .cell - p .line ≡ p .cell = omega arith in
-    let t : p .before ≡ triplePlaceOf k (record { i = p .line; m = p .line; j = p .line + p .cell }) = omega (arith, subst (λ (r : Rule). Before points k r p) e b, ap (sum suc) n) in
-    (t, omega (arith, t, triples-numbered k .below (record { i = p .line; m = p .line; j = p .line + p .cell }) (omega (arith, chop-position q e)), triple-count-le maxSteps k h))
+    let first : Triple = record { i = p .line; m = p .line; j = p .line + p .cell } in
+    let o : TripleOf k first = omega (arith, chop-position q e) in
+    let t : p .before ≡ triplePlaceOf k first = omega (arith, triple-place k first o, subst (λ (r : Rule). Before points k r p) e b, ap (sum suc) n) in
+    (t, omega (arith, t, triples-numbered k .below first o, triple-count-le maxSteps k h))
 
 -- a block's gate, its rule being known
 pub gate-by : (C k : ℕ) (b : Block) (x a i d : ℕ) {q : Rule} → b .rule ≡ q → gateBy C k (b .first) (b .left) (b .right) x a i d q ≡ gateOf C k b x a i d

@@ -1,11 +1,12 @@
--- A node's block as the code walks it: rows of lines of cells, each cell by its place and its position. No call open to others cites these.
+-- A node's block as the code walks it: rows of lines of cells, each cell by its place and its position. Nothing here need be believed: no
+-- call open to others cites it.
 use mathlib.Core.Path.{_≡_}
 use mathlib.Core.Bool.{Bool, true, false, cond}
 use mathlib.Core.List.{List, [], _∷_}
 use Prim.Native.Nat.{ℕ, suc, _+_, _-_, _%_, _^_, _≤_, _<_}
 use lib.Dec.{eqb, ltb}
 use lib.ListN.{getD}
-use Rattle.interval.specs.Shape.{Shape, line, stack, Inside, place, per}
+use Rattle.interval.proofs.Shape.{Shape, line, stack, Inside, place, per}
 use Rattle.interval.specs.Places.{countOf, placeOf, triplePlaceOf}
 use Rattle.interval.specs.Limits.{maxSteps}
 use Rattle.grammar.specs.Limits.{maxChannels}

@@ -1,4 +1,4 @@
--- Which rows of a table a chop can skip. No call open to others cites these.
+-- Which rows of a table a chop can skip. Nothing here need be believed: no call open to others cites it.
 use mathlib.Core.Path.{_≡_}
 use mathlib.Core.Bool.{Bool, true}
 use mathlib.Core.List.{List}

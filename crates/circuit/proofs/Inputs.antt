@@ -106,7 +106,7 @@ module _ (C k b : ℕ) where
         inside = omega arith;
         inputs = all-rows _ n _ (λ e h.
             let q = triples-numbered k .below (record { i = v .i; m = v .i + e; j = v .j }) (omega arith) in
-            let r = triples-in-a-row k (v .i) (v .i + e) (v .j) in
+            let r = triples-in-a-row k (v .i) (v .i + e) (v .j) (omega arith) (omega arith) (omega arith) in
             (own (omega arith), tt));
         apart = distinct-tab (b + countOf k + triplePlaceOf k (record { i = v .i; m = v .i; j = v .j })) n;
       }

@@ -18,7 +18,7 @@ use Rattle.grammar.specs.declared.Sort.{Sort}
 use Rattle.grammar.proofs.Bytes.{cond-elim}
 use Rattle.formula.specs.Nodes.{Node}
 use Rattle.formula.proofs.Lists.{All}
-use Rattle.circuit.specs.Circuit.{Definition, define, alike, pointsOf, widthOf, blocksOf, variablesOf, levelGate, tripleGate, chopGate, throughoutGate, ownBy, ownOf, definedFrom, definitionsOf}
+use Rattle.circuit.specs.Circuit.{Definition, define, alike, pointsOf, widthOf, blocksOf, variablesOf, levelGate, tripleGate, chopGate, throughoutGate, Seats, ownBy, ownOf, definedFrom, definitionsOf}
 use Rattle.circuit.specs.declared.Gate.{Gate}
 use Rattle.circuit.proofs.Blocks.{From}
 
@@ -79,26 +79,26 @@ module _ (v : ℕ) where
         map-map _ _ listed ∙ sym (map-map (λ p. b + p) placed listed) ∙ ap (map (λ p. b + p)) (m .in-order) ∙ map-rows (λ p. b + p) (λ p. p ∷ []) n in
         rw e (fills-tab b n)
 
-  own-fills : (C k b l r : ℕ) {s : Sort} (x : Tree s) → Fills b (b + widthOf k x) (variables (ownBy C k b l r x))
+  own-fills : (C k b : ℕ) (S : Seats) {s : Sort} (x : Tree s) → Fills b (b + widthOf k x) (variables (ownBy C k b S x))
   unfolding widthOf ownBy
-  own-fills C k b l r {s} (constant v) = fills-alike b (pointsOf s k) _
-  own-fills C k b l r (letter c) = fills-alike b k _
-  own-fills C k b l r {s} (negation x) = fills-alike b (pointsOf s k) _
-  own-fills C k b l r {s} (pair and x y) = fills-alike b (pointsOf s k) _
-  own-fills C k b l r {s} (pair or x y) = fills-alike b (pointsOf s k) _
-  own-fills C k b l r (pair chop x y) =
+  own-fills C k b S {s} (constant v) = fills-alike b (pointsOf s k) _
+  own-fills C k b S (letter c) = fills-alike b k _
+  own-fills C k b S {s} (negation x) = fills-alike b (pointsOf s k) _
+  own-fills C k b S {s} (pair and x y) = fills-alike b (pointsOf s k) _
+  own-fills C k b S {s} (pair or x y) = fills-alike b (pointsOf s k) _
+  own-fills C k b S (pair chop x y) =
       let w = b + countOf k in
       rw (map-append, occurs-append)
-      (omega (arith, fills-numbered (intervals-numbered k) b (chopGate k w), fills-numbered (triples-numbered k) w (tripleGate k l r), ap (below v) (add-assoc b (countOf k) (tripleCountOf k))))
-  own-fills C k b l r (duration x n) =
-      simp map-rows (fills-rows b (countOf k) (suc n) _ (λ c. fills-numbered (intervals-numbered k) (b + c * countOf k) (levelGate k b l c)))
-  own-fills C k b l r (throughout x) = fills-numbered (intervals-numbered k) b (throughoutGate k b l)
+      (omega (arith, fills-numbered (intervals-numbered k) b (chopGate k w), fills-numbered (triples-numbered k) w (tripleGate k (S .left) (S .right)), ap (below v) (add-assoc b (countOf k) (tripleCountOf k))))
+  own-fills C k b S (duration x n) =
+      simp map-rows (fills-rows b (countOf k) (suc n) _ (λ c. fills-numbered (intervals-numbered k) (b + c * countOf k) (levelGate k b (S .left) c)))
+  own-fills C k b S (throughout x) = fills-numbered (intervals-numbered k) b (throughoutGate k b (S .left))
 
   defined-fills : (C k b : ℕ) (l : List Node) → Fills b (b + blocksOf k l) (variables (definedFrom C k b l))
   unfolding blocksOf definedFrom ownOf
   defined-fills C k b [] = fills-none b _ (omega arith)
   defined-fills C k b (w ∷ l) =
-      rw map-append (fills-append b _ _ _ _ _ (own-fills C k b _ _ (w .part)) (defined-fills C k (b + widthOf k (w .part)) l) (omega arith))
+      rw map-append (fills-append b _ _ _ _ _ (own-fills C k b _ (w .part)) (defined-fills C k (b + widthOf k (w .part)) l) (omega arith))
 
 -- the definitions define the variables from 1 + k·C to V, each once, and no others
 pub record DefinedOnce (C k : ℕ) (l : List Node) (v : ℕ) : Type 0 where
@@ -113,7 +113,7 @@ defined-once C k l v = omega (arith, defined-fills v C k (1 + k * C) l)
 -- so do a node's own definitions with its block
 pub own-once : (C k b v : ℕ) {s : Sort} (x : Tree s) → From b (widthOf k x) v → times v (ownOf C k b x) ≡ 1
 unfolding ownOf below
-own-once C k b v x h = let f : Fills v b (b + widthOf k x) (variables (ownOf C k b x)) = own-fills v C k b _ _ x in omega arith
+own-once C k b v x h = let f : Fills v b (b + widthOf k x) (variables (ownOf C k b x)) = own-fills v C k b _ x in omega arith
 
 -- what is defined once has a definition
 pub definition-of : (P Q : Definition → Type 0) (v : ℕ) (D : List Definition) → times v D ≡ 1 → All P D → All Q D

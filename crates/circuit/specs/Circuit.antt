@@ -1,5 +1,5 @@
 -- Document 01, "Variables" and "Clauses": the variables of a formula of C channels over k steps, and the one gate that defines each
--- variable beyond the channels, in the order in which document 01 lists the clauses.
+-- variable beyond the channels, in the order in which document 01 lists the clauses (their Tseitin encoding, crate clauses).
 use mathlib.Core.Bool.{true, false, cond}
 use mathlib.Core.List.{List, [], _∷_, _++_, map}
 use Prim.Native.Nat.{ℕ, zero, suc, _+_, _-_, _*_}
@@ -11,7 +11,7 @@ use Rattle.interval.specs.declared.Triple.{Triple}
 use Rattle.grammar.specs.Trees.{and, or, chop, Tree, constant, letter, negation, pair, duration, throughout}
 use Rattle.grammar.specs.declared.Sort.{Sort}
 use Rattle.grammar.specs.declared.Sort.the-variants.{State, Formula}
-use Rattle.formula.specs.Nodes.{Node, nodesOf}
+use Rattle.formula.specs.Nodes.{Node, aLetter, aDuration, aChop, another, viewOf, nodesOf}
 use Rattle.circuit.specs.declared.Gate.{Gate}
 use Rattle.circuit.specs.declared.Gate.the-variants.{Constant, Copy, Inverse, Both, Either, AnyOf, Step}
 
@@ -26,14 +26,8 @@ pointsOf Formula k = countOf k
 
 -- a node's block: "S node: k variables"; "levels 0 to n, each of I variables"; "Chop: I variables, then J"; "Any other P: I variables"
 unfoldable pub widthOf : {s : Sort} → ℕ → Tree s → ℕ
-widthOf {s} k (constant v) = pointsOf s k
-widthOf k (letter c) = k
-widthOf {s} k (negation x) = pointsOf s k
-widthOf {s} k (pair and x y) = pointsOf s k
-widthOf {s} k (pair or x y) = pointsOf s k
-widthOf k (pair chop x y) = countOf k + tripleCountOf k
-widthOf k (duration x n) = suc n * countOf k
-widthOf k (throughout x) = countOf k
+widthOf {s} k x =
+    elim (viewOf x) [ aLetter c ↦ k | aDuration S n ↦ suc n * countOf k | aChop P Q ↦ countOf k + tripleCountOf k | another ↦ pointsOf s k ]
 
 -- "each node, in number order, has a block": the blocks of these nodes together
 unfoldable pub blocksOf : ℕ → List Node → ℕ
@@ -46,12 +40,7 @@ variablesOf C k l = k * C + blocksOf k l
 
 -- where in its block a node's truth begins: "Level n is the node's truth"
 unfoldable pub truthOf : {s : Sort} → ℕ → Tree s → ℕ
-truthOf k (constant v) = 0
-truthOf k (letter c) = 0
-truthOf k (negation x) = 0
-truthOf k (pair l x y) = 0
-truthOf k (duration x n) = n * countOf k
-truthOf k (throughout x) = 0
+truthOf k x = elim (viewOf x) [ aLetter c ↦ 0 | aDuration S n ↦ n * countOf k | aChop P Q ↦ 0 | another ↦ 0 ]
 
 -- a variable, and the gate that defines it
 pub record Definition : Type 0 where
@@ -89,40 +78,37 @@ tripleGate k l r t = Both (l + placeOf k (record { i = t .i; j = t .m })) (r + p
 abbrev pub chopGate : ℕ → ℕ → Interval → Gate
 chopGate k w v = AnyOf (w + triplePlaceOf k (record { i = v .i; m = v .i; j = v .j })) (suc (v .j - v .i))
 
--- the definitions of a node's own block from b on, l and r being the first variables of its parts' truth
-unfoldable pub ownBy : {s : Sort} → ℕ → ℕ → ℕ → ℕ → ℕ → Tree s → List Definition
-ownBy {s} C k b l r (constant v) = alike b (pointsOf s k) (λ p. Constant v)
-ownBy C k b l r (letter c) = alike b k (λ t. Copy (channelOf C t c))
-ownBy {s} C k b l r (negation x) = alike b (pointsOf s k) (λ p. Inverse (l + p))
-ownBy {s} C k b l r (pair and x y) = alike b (pointsOf s k) (λ p. Both (l + p) (r + p))
-ownBy {s} C k b l r (pair or x y) = alike b (pointsOf s k) (λ p. Either (l + p) (r + p))
-ownBy C k b l r (pair chop x y) =
+-- the first variables of the truth of a node's parts
+pub record Seats : Type 0 where
+  pub left : ℕ
+  pub right : ℕ
+
+-- the parts' blocks following from p on: the first part's nodes, then the second's; 0 where there is no such part
+abbrev pub seatsOf : {s : Sort} → ℕ → ℕ → Tree s → Seats
+seatsOf k p (constant v) = record { left = 0; right = 0 }
+seatsOf k p (letter c) = record { left = 0; right = 0 }
+seatsOf k p (negation x) = record { left = p + truthOf k x; right = 0 }
+seatsOf k p (pair l x y) = record { left = p + truthOf k x; right = p + blocksOf k (nodesOf x 0) + truthOf k y }
+seatsOf k p (duration x n) = record { left = p + truthOf k x; right = 0 }
+seatsOf k p (throughout x) = record { left = p + truthOf k x; right = 0 }
+
+-- the definitions of a node's own block from b on, by the seats of its parts
+unfoldable pub ownBy : {s : Sort} → ℕ → ℕ → ℕ → Seats → Tree s → List Definition
+ownBy {s} C k b seats (constant v) = alike b (pointsOf s k) (λ p. Constant v)
+ownBy C k b seats (letter c) = alike b k (λ t. Copy (channelOf C t c))
+ownBy {s} C k b seats (negation x) = alike b (pointsOf s k) (λ p. Inverse (seats .left + p))
+ownBy {s} C k b seats (pair and x y) = alike b (pointsOf s k) (λ p. Both (seats .left + p) (seats .right + p))
+ownBy {s} C k b seats (pair or x y) = alike b (pointsOf s k) (λ p. Either (seats .left + p) (seats .right + p))
+ownBy C k b seats (pair chop x y) =
     let w = b + countOf k in
-    map (λ (t : Triple). define (w + triplePlaceOf k t) (tripleGate k l r t)) (triplesOf k)
+    map (λ (t : Triple). define (w + triplePlaceOf k t) (tripleGate k (seats .left) (seats .right) t)) (triplesOf k)
     ++ map (λ (v : Interval). define (b + placeOf k v) (chopGate k w v)) (intervalsOf k)
-ownBy C k b l r (duration x n) = rows (suc n) (λ c. map (λ (v : Interval). define (levelOf k b c v) (levelGate k b l c v)) (intervalsOf k))
-ownBy C k b l r (throughout x) = map (λ (v : Interval). define (b + placeOf k v) (throughoutGate k b l v)) (intervalsOf k)
-
--- the first variable of the truth of a node's parts, the parts' blocks following from p on: the first part's nodes, then the second's
-abbrev pub leftOf : {s : Sort} → ℕ → ℕ → Tree s → ℕ
-leftOf k p (constant v) = 0
-leftOf k p (letter c) = 0
-leftOf k p (negation x) = p + truthOf k x
-leftOf k p (pair l x y) = p + truthOf k x
-leftOf k p (duration x n) = p + truthOf k x
-leftOf k p (throughout x) = p + truthOf k x
-
-abbrev pub rightOf : {s : Sort} → ℕ → ℕ → Tree s → ℕ
-rightOf k p (constant v) = 0
-rightOf k p (letter c) = 0
-rightOf k p (negation x) = 0
-rightOf k p (pair l x y) = p + blocksOf k (nodesOf x 0) + truthOf k y
-rightOf k p (duration x n) = 0
-rightOf k p (throughout x) = 0
+ownBy C k b seats (duration x n) = rows (suc n) (λ c. map (λ (v : Interval). define (levelOf k b c v) (levelGate k b (seats .left) c v)) (intervalsOf k))
+ownBy C k b seats (throughout x) = map (λ (v : Interval). define (b + placeOf k v) (throughoutGate k b (seats .left) v)) (intervalsOf k)
 
 -- a node's own definitions, its block from b on and its parts' blocks after it
 unfoldable pub ownOf : {s : Sort} → ℕ → ℕ → ℕ → Tree s → List Definition
-ownOf C k b x = let p = b + widthOf k x in ownBy C k b (leftOf k p x) (rightOf k p x) x
+ownOf C k b x = ownBy C k b (seatsOf k (b + widthOf k x) x) x
 
 -- "Nodes in order": the definitions of these nodes, the first one's block from b on
 unfoldable pub definedFrom : ℕ → ℕ → ℕ → List Node → List Definition

@@ -1,4 +1,4 @@
--- What the code knows once question 15 is answered with yes. No call open to others cites this.
+-- What the code knows once question 15 is answered with yes. Nothing here need be believed: no call open to others cites it.
 use mathlib.Core.Path.{_≡_}
 use mathlib.Core.List.{List}
 use Prim.Native.Nat.{ℕ}

@@ -24,7 +24,7 @@ use Rattle.formula.proofs.Laws.{accepted}
 use Rattle.rows.specs.Table.{headOf}
 use Rattle.rows.proofs.Found.{state-numbers}
 use Rattle.circuit.specs.Gates.{inputsOf}
-use Rattle.circuit.specs.Circuit.{Definition, widthOf, variablesOf, leftOf, rightOf, ownOf, definedFrom, definitionsOf, rootOf}
+use Rattle.circuit.specs.Circuit.{Definition, widthOf, variablesOf, seatsOf, ownOf, definedFrom, definitionsOf, rootOf}
 use Rattle.circuit.proofs.Blocks.{From, truth-lt}
 use Rattle.circuit.proofs.Laws.{Mentions, definitions-mention}
 use Rattle.blocks.specs.Blocks.{ruleBy, isChop}
@@ -132,7 +132,7 @@ module _ (w : Weight) (k : ℕ) (h : Small w k) where
       omega (
         arith,
         weight-append w (ownOf C k b (u .part)) (definedFrom C k p l),
-        row-weight w k C b (leftOf k p (u .part)) (rightOf k p (u .part)) (u .part),
+        row-weight w k C b (seatsOf k p (u .part)) (u .part),
         row-le (headOf (u .part) .kind) (headOf (u .part) .number) (a .0),
         nodes-le C p l (a .1),
       )

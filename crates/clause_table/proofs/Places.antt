@@ -19,7 +19,7 @@ use Rattle.formula.specs.Nodes.{Node, node, nodesOf}
 use Rattle.rows.specs.Table.{sortCode, headOf}
 use Rattle.rows.specs.declared.Row.{Row}
 use Rattle.nodes.proofs.Standing.{column, nodes-count, stands, Begins, node-at}
-use Rattle.circuit.specs.Circuit.{Definition, pointsOf, widthOf, blocksOf, truthOf, ownBy, ownOf, definedFrom, definitionsOf, rootOf}
+use Rattle.circuit.specs.Circuit.{Definition, pointsOf, widthOf, blocksOf, truthOf, Seats, ownBy, ownOf, definedFrom, definitionsOf, rootOf}
 use Rattle.circuit.proofs.Blocks.{blocks-parts}
 use Rattle.blocks.specs.Blocks.{rulesFor, ruleBy, isChop}
 use Rattle.blocks.specs.declared.Rule.{Rule}
@@ -37,9 +37,9 @@ use Rattle.node_clauses.proofs.Nodes.{places-join}
 
 -- ---- a node by its row's kind and number
 
-module _ (C k b l r : ℕ) where
+module _ (C k b : ℕ) (S : Seats) where
   abbrev nodeFor : Rule → ℕ → List Definition
-  nodeFor rule points = nodeBy C k (record { rule = rule; points = points; first = b; left = l; right = r }) (isChop rule)
+  nodeFor rule points = nodeBy C k (record { rule = rule; points = points; first = b; left = S .left; right = S .right }) (isChop rule)
 
   abbrev headFor : ℕ → ℕ → List Definition
   headFor kind number = nodeFor (ruleBy kind number) (pointsBy k kind)
@@ -54,16 +54,16 @@ module _ (C k b l r : ℕ) where
       let e : (16 + op) % 16 ≡ op = omega arith in
       ap₂ (λ (o p : ℕ). nodeFor (getD (rulesFor n) o Throughout) p) e (sym (points-formula k (16 + op) (omega arith)))
 
-  by-head : {s : Sort} (x : Tree s) → headFor (headOf x .kind) (headOf x .number) ≡ ownBy C k b l r x
-  by-head {s} (constant false) = coded s 0 0 (omega arith) ∙ sym (own-defined C k b l r {s = s} (constant false) (λ e. false≢true cc))
-  by-head {s} (constant true) = coded s 1 0 (omega arith) ∙ sym (own-defined C k b l r {s = s} (constant true) (λ e. false≢true cc))
-  by-head (letter c) = coded State 6 c (omega arith) ∙ sym (own-defined C k b l r (letter c) (λ e. false≢true cc))
-  by-head {s} (negation x) = coded s 2 0 (omega arith) ∙ sym (own-defined C k b l r (negation x) (λ e. false≢true cc))
-  by-head {s} (pair and x y) = coded s 3 0 (omega arith) ∙ sym (own-defined C k b l r (pair and x y) (λ e. false≢true cc))
-  by-head {s} (pair or x y) = coded s 4 0 (omega arith) ∙ sym (own-defined C k b l r (pair or x y) (λ e. false≢true cc))
-  by-head (pair chop x y) = coded Formula 5 0 (omega arith) ∙ sym (chop-defined C k b l r x y)
-  by-head (duration x n) = coded Formula 7 n (omega arith) ∙ sym (own-defined C k b l r (duration x n) (λ e. false≢true cc))
-  by-head (throughout x) = coded Formula 8 0 (omega arith) ∙ sym (own-defined C k b l r (throughout x) (λ e. false≢true cc))
+  by-head : {s : Sort} (x : Tree s) → headFor (headOf x .kind) (headOf x .number) ≡ ownBy C k b S x
+  by-head {s} (constant false) = coded s 0 0 (omega arith) ∙ sym (own-defined C k b S {s = s} (constant false) (λ e. false≢true cc))
+  by-head {s} (constant true) = coded s 1 0 (omega arith) ∙ sym (own-defined C k b S {s = s} (constant true) (λ e. false≢true cc))
+  by-head (letter c) = coded State 6 c (omega arith) ∙ sym (own-defined C k b S (letter c) (λ e. false≢true cc))
+  by-head {s} (negation x) = coded s 2 0 (omega arith) ∙ sym (own-defined C k b S (negation x) (λ e. false≢true cc))
+  by-head {s} (pair and x y) = coded s 3 0 (omega arith) ∙ sym (own-defined C k b S (pair and x y) (λ e. false≢true cc))
+  by-head {s} (pair or x y) = coded s 4 0 (omega arith) ∙ sym (own-defined C k b S (pair or x y) (λ e. false≢true cc))
+  by-head (pair chop x y) = coded Formula 5 0 (omega arith) ∙ sym (chop-defined C k b S x y)
+  by-head (duration x n) = coded Formula 7 n (omega arith) ∙ sym (own-defined C k b S (duration x n) (λ e. false≢true cc))
+  by-head (throughout x) = coded Formula 8 0 (omega arith) ∙ sym (own-defined C k b S (throughout x) (λ e. false≢true cc))
 
 -- a duration's kind is 23, no other's
 module _ (k : ℕ) where
@@ -146,32 +146,34 @@ module _ (C k : ℕ) (l : List Node) (firsts : List ℕ) (h : (y : ℕ) → y < 
         ∙ seat-at y (n + 1 + length a) q m (drop-front l (n + 1) a later after)
         ∙ omega (arith, start-next l C k w n (a ++ later) e, part-width k l (n + 1) a later after, blocks-parts k x at, blocks-parts k x 0)
 
+  -- the seats of the parts of the node at row n, if it has two
+  abbrev seats : ℕ → Seats
+  seats n = record { left = seat (n + 1); right = seat (n + 1 + getD (sizes l) (n + 1) 0) }
+
   -- a node's parts stand where its own definitions go by them
   parts-at : {s : Sort} (x : Tree s) (n at : ℕ) (m : List Node) → drop n l ≡ nodesOf x at ++ m
-      → ownBy C k (start l C k n) (seat (n + 1)) (seat (n + 1 + getD (sizes l) (n + 1) 0)) x ≡ ownOf C k (start l C k n) x
+      → ownBy C k (start l C k n) (seats n) x ≡ ownOf C k (start l C k n) x
   unfolding ownBy ownOf nodesOf
   parts-at (constant v) n at m e = refl
   parts-at (letter c) n at m e = refl
-  parts-at (negation x) n at m e = ap (λ (v : ℕ). ownBy C k (start l C k n) v 0 (negation x)) (left-at (node (negation x) at) n x (suc at) m e)
+  parts-at (negation x) n at m e = ap (λ (v : ℕ). ownBy C k (start l C k n) (record { left = v; right = 0 }) (negation x)) (left-at (node (negation x) at) n x (suc at) m e)
   parts-at (pair o x y) n at m e =
       let w = node (pair o x y) at in
       let q = suc (suc at + length (textOf x)) in
       let g = e ∙ ap (λ (r : List Node). w ∷ r) (append-assoc (nodesOf x (suc at)) (nodesOf y q) m) in
-      ap₂ (λ (v u : ℕ). ownBy C k (start l C k n) v u (pair o x y)) (left-at w n x (suc at) (nodesOf y q ++ m) g) (right-at w n x (suc at) y q m g)
-  parts-at (duration x c) n at m e = ap (λ (v : ℕ). ownBy C k (start l C k n) v 0 (duration x c)) (left-at (node (duration x c) at) n x (suc at) m e)
-  parts-at (throughout x) n at m e = ap (λ (v : ℕ). ownBy C k (start l C k n) v 0 (throughout x)) (left-at (node (throughout x) at) n x (suc at) m e)
+      ap₂ (λ (v u : ℕ). ownBy C k (start l C k n) (record { left = v; right = u }) (pair o x y)) (left-at w n x (suc at) (nodesOf y q ++ m) g) (right-at w n x (suc at) y q m g)
+  parts-at (duration x c) n at m e = ap (λ (v : ℕ). ownBy C k (start l C k n) (record { left = v; right = 0 }) (duration x c)) (left-at (node (duration x c) at) n x (suc at) m e)
+  parts-at (throughout x) n at m e = ap (λ (v : ℕ). ownBy C k (start l C k n) (record { left = v; right = 0 }) (throughout x)) (left-at (node (throughout x) at) n x (suc at) m e)
 
   -- a row's definitions are its node's own
   row-defined : {s : Sort} (x : Tree s) (n at : ℕ) (m : List Node) → drop n l ≡ nodesOf x at ++ m
       → rowDefinitions C k (kinds l) (numbers l) (sizes l) firsts n ≡ ownOf C k (start l C k n) x
   unfolding blockBy
   row-defined x n at m e =
-      let left = seat (n + 1) in
-      let right = seat (n + 1 + getD (sizes l) (n + 1) 0) in
       let o = stands l x n at m e .own in
-      ap (λ (b : ℕ). headFor C k b left right (getD (kinds l) n 0) (getD (numbers l) n 0)) (first-at x n at m e)
-      ∙ ap₂ (headFor C k (start l C k n) left right) (o .kind) (o .number)
-      ∙ by-head C k (start l C k n) left right x
+      ap (λ (b : ℕ). headFor C k b (seats n) (getD (kinds l) n 0) (getD (numbers l) n 0)) (first-at x n at m e)
+      ∙ ap₂ (headFor C k (start l C k n) (seats n)) (o .kind) (o .number)
+      ∙ by-head C k (start l C k n) (seats n) x
       ∙ parts-at x n at m e
 
 -- ---- the rows of a formula's nodes

@@ -1,4 +1,4 @@
--- What a row of the node table defines, as the code goes by it. No call open to others cites these.
+-- What a row of the node table defines, as the code goes by it. Nothing here need be believed: no call open to others cites it.
 use mathlib.Core.Bool.{cond}
 use mathlib.Core.Path.{_≡_}
 use mathlib.Core.List.{List, [], _∷_, _++_}

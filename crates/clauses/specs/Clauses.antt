@@ -1,4 +1,5 @@
--- Document 01, "Clauses": the clauses of each gate, the table of a formula, and what it is for an assignment to meet them.
+-- Document 01, "Clauses": the clauses of each gate, the table of a formula (the Tseitin encoding of its circuit), and what it is for an
+-- assignment to meet them.
 use mathlib.Core.Bool.{Bool, true, false, not, cond, _&&_, _||_}
 use mathlib.Core.List.{List, [], _∷_, _++_, map, flatMap}
 use Prim.Native.Nat.{ℕ, _+_}

@@ -1,4 +1,4 @@
--- What closing a set of literals does with values and trail. No call open to others cites these.
+-- What closing a set of literals does with values and trail. Nothing here need be believed: no call open to others cites it.
 use mathlib.Core.Path.{_≡_}
 use mathlib.Core.Bool.{true, false}
 use mathlib.Core.List.{List, [], _∷_}

@@ -1,4 +1,5 @@
--- What one clause of the arrays comes to under the values, and one pass over the table. No call open to others cites these.
+-- What one clause of the arrays comes to under the values, and one pass over the table. Nothing here need be believed: no call open to others
+-- cites it.
 use mathlib.Core.Path.{_≡_}
 use mathlib.Core.Bool.{true, false, cond}
 use mathlib.Core.List.{List, [], _∷_}

@@ -7,13 +7,12 @@ use Prim.Native.Nat.{ℕ, suc, _-_, _≤_}
 use native.Mathlib.Omega.{arith}
 use lib.ListN.{length}
 use Rattle.interval.specs.Listing.{rows, sum}
-use Rattle.interval.specs.Places.{countOf, tripleCountOf, triples}
-use Rattle.interval.specs.Shape.{line, stack}
+use Rattle.interval.specs.Places.{countOf, tripleCountOf}
 use Rattle.interval.specs.declared.Triple.{Triple}
 use Rattle.interval.proofs.Counts.{triangle-count, triples-count}
 use Rattle.interval.proofs.Laws.{triple, triples-listed}
 use Rattle.interval.proofs.Listing.{length-tab}
-use Rattle.interval.proofs.Shape.{length-per, map-per}
+use Rattle.interval.proofs.Shape.{line, stack, triples, length-per, map-per}
 use Rattle.meaning.specs.Meaning.{bit}
 use Rattle.assignments.specs.Extension.{cuts, cutValues}
 use Rattle.cuts.specs.Cuts.{onPlaces, cutsFrom}

@@ -1,4 +1,4 @@
--- A chop's triples from the truths of its parts, by their places. No call open to others cites these.
+-- A chop's triples from the truths of its parts, by their places. Nothing here need be believed: no call open to others cites it.
 use mathlib.Core.Bool.{Bool}
 use mathlib.Core.List.{List}
 use Prim.Native.Nat.{ℕ, suc, _+_}

@@ -1,5 +1,5 @@
--- How much of its parts' truth a node's block goes by, and what the call does with an accepted formula's node table. No call open to
--- others cites these.
+-- How much of its parts' truth a node's block goes by, and what the call does with an accepted formula's node table. Nothing here need be
+-- believed: no call open to others cites it.
 use mathlib.Core.Path.{_≡_}
 use mathlib.Core.Bool.{Bool}
 use mathlib.Core.List.{List, [], _∷_, map}

@@ -1,5 +1,5 @@
--- How the code reads a line, by places, with numbers no further than one above the limit; and how it hands the sizes on. No call open to
--- others cites these.
+-- How the code reads a line, by places, with numbers no further than one above the limit; and how it hands the sizes on. Nothing here need be
+-- believed: no call open to others cites it.
 use mathlib.Core.List.{List}
 use Prim.Native.Nat.{ℕ, _-_, _≤_}
 use lib.ListN.{length, getD, take, drop}

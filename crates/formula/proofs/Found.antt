@@ -92,7 +92,9 @@ module _ (t : List ℕ) where
   letters-answer C (constant false) at w = refl
   letters-answer C (letter c) at w = let e : 97 + c - 97 ≡ c = omega arith in rw (letter-is c w, e)
   letters-answer C (negation x) at w = refl
-  letters-answer C (pair l x y) at w = refl
+  letters-answer C (pair and x y) at w = refl
+  letters-answer C (pair or x y) at w = refl
+  letters-answer C (pair chop x y) at w = refl
   letters-answer C (duration x n) at w = refl
   letters-answer C (throughout x) at w = refl
 
@@ -117,7 +119,9 @@ module _ (t : List ℕ) where
   numbers-answer (constant false) at w = refl
   numbers-answer (letter c) at w = rw (ne-eqb (97 + c) 35 (λ e. omega arith))
   numbers-answer (negation x) at w = refl
-  numbers-answer (pair l x y) at w = refl
+  numbers-answer (pair and x y) at w = refl
+  numbers-answer (pair or x y) at w = refl
+  numbers-answer (pair chop x y) at w = refl
   numbers-answer (duration x n) at w = rw (number-is t x n at w, digit-place t x n at w, limited-above n)
   numbers-answer (throughout x) at w = refl
 
@@ -151,14 +155,14 @@ module _ (t : List ℕ) where
       let (f, r) = read-tree e in
       ap (λ (q : List ℕ). scan (answersAt a t) q 0) (sym (prints-as-text t f r .1)) ∙ found-part a f 0 (root-stands f r) ∙ ap (λ (o : Read Formula). flatMap (λ (w : Node). answer a (w .part) (w .first)) (nodesRead o)) (sym r)
 
-  pub letters-asked : (C : ℕ) → askGrammar t ≡ Yes → askLetters C t ≡ atFirst 5 (drop 0 (foundIn (AskLetters C) t))
+  pub letters-asked : (C : ℕ) → askGrammar t ≡ Yes → askLetters C (nodesIn t) ≡ atFirst 5 (drop 0 (foundIn (AskLetters C) t))
   unfolding askLetters
   letters-asked C e = ap (atFirst 5) (sym (found-in (AskLetters C) e))
 
-  pub numbers-asked : askGrammar t ≡ Yes → askNumbers t ≡ atFirst 6 (drop 0 (foundIn Numbers t))
+  pub numbers-asked : askGrammar t ≡ Yes → askNumbers (nodesIn t) ≡ atFirst 6 (drop 0 (foundIn Numbers t))
   unfolding askNumbers
   numbers-asked e = ap (atFirst 6) (sym (found-in Numbers e))
 
-  pub nodes-asked : askGrammar t ≡ Yes → askNodes t ≡ atFirst 7 (drop maxNodes (foundIn Nodes t))
+  pub nodes-asked : askGrammar t ≡ Yes → askNodes (nodesIn t) ≡ atFirst 7 (drop maxNodes (foundIn Nodes t))
   unfolding askNodes
   nodes-asked e = ap (λ (l : List ℕ). atFirst 7 (drop maxNodes l)) (sym (found-in Nodes e ∙ flat-map (λ (w : Node). w .first) (nodesIn t)))

@@ -2,10 +2,10 @@
 use mathlib.Core.List.{List, [], _∷_, _++_}
 use Prim.Native.Nat.{ℕ, suc, _+_}
 use lib.ListN.{length}
-use Rattle.grammar.specs.Trees.{Tree, constant, letter, negation, pair, duration, throughout, textOf}
+use Rattle.grammar.specs.Trees.{and, or, chop, Tree, constant, letter, negation, pair, duration, throughout, textOf}
 use Rattle.grammar.specs.Reader.{Read, parsed, stopped, read}
 use Rattle.grammar.specs.declared.Sort.{Sort}
-use Rattle.grammar.specs.declared.Sort.the-variants.{Formula}
+use Rattle.grammar.specs.declared.Sort.the-variants.{State, Formula}
 
 -- a part of a formula, and the place of its first byte
 pub record Node : Type 0 where
@@ -24,6 +24,23 @@ nodesOf {s} (negation x) at = node {s = s} (negation x) at ∷ nodesOf x (suc at
 nodesOf {s} (pair l x y) at = node {s = s} (pair l x y) at ∷ nodesOf x (suc at) ++ nodesOf y (suc (suc at + length (textOf x)))
 nodesOf (duration x n) at = node (duration x n) at ∷ nodesOf x (suc at)
 nodesOf (throughout x) at = node (throughout x) at ∷ nodesOf x (suc at)
+
+-- what questions 5 and 6 and the blocks of variables tell nodes apart by
+pub data View : Type 0 where
+  aLetter : ℕ → View
+  aDuration : Tree State → ℕ → View
+  aChop : Tree Formula → Tree Formula → View
+  another : View
+
+abbrev pub viewOf : {s : Sort} → Tree s → View
+viewOf (constant v) = another
+viewOf (letter c) = aLetter c
+viewOf (negation x) = another
+viewOf (pair and x y) = another
+viewOf (pair or x y) = another
+viewOf (pair chop x y) = aChop x y
+viewOf (duration x n) = aDuration x n
+viewOf (throughout x) = another
 
 -- the nodes of a text: none where it does not read
 abbrev pub nodesRead : Read Formula → List Node

@@ -9,11 +9,11 @@ use Rattle.refusal.specs.declared.Reply.{Reply}
 use Rattle.refusal.specs.declared.Reply.the-variants.{Yes, No}
 use Rattle.interval.specs.Limits.{askSteps}
 use Rattle.grammar.specs.Limits.{maxLength, maxNodes, maxNumber, maxChannels}
-use Rattle.grammar.specs.Trees.{Tree, constant, letter, negation, pair, duration, throughout, textOf}
+use Rattle.grammar.specs.Trees.{Tree, textOf}
 use Rattle.grammar.specs.Reader.{Read, parsed, stopped, read}
 use Rattle.grammar.specs.declared.Sort.{Sort}
 use Rattle.grammar.specs.declared.Sort.the-variants.{Formula}
-use Rattle.formula.specs.Nodes.{Node, nodesIn}
+use Rattle.formula.specs.Nodes.{Node, aLetter, aDuration, aChop, another, viewOf, nodesIn}
 
 -- a question that names a place: no at the first of the places that fail it
 abbrev pub atFirst : ℕ → List ℕ → Reply
@@ -39,35 +39,26 @@ askGrammar t = onRead (read t)
 
 -- question 5: is each letter among the first C? Its place: first that isn't.
 abbrev pub outside : {s : Sort} → ℕ → Tree s → ℕ → List ℕ
-outside C (constant v) at = []
-outside C (letter c) at = cond (leb C c) (at ∷ []) []
-outside C (negation x) at = []
-outside C (pair l x y) at = []
-outside C (duration x n) at = []
-outside C (throughout x) at = []
+outside C x at = elim (viewOf x) [ aLetter c ↦ cond (leb C c) (at ∷ []) [] | aDuration S n ↦ [] | aChop P Q ↦ [] | another ↦ [] ]
 
-unfoldable pub askLetters : ℕ → List ℕ → Reply
-askLetters C t = atFirst 5 (flatMap (λ (w : Node). outside C (w .part) (w .first)) (nodesIn t))
+unfoldable pub askLetters : ℕ → List Node → Reply
+askLetters C l = atFirst 5 (flatMap (λ (w : Node). outside C (w .part) (w .first)) l)
 
 -- question 6: is each n at most 32? Its place: the first digit, after `#`, the state assertion, `>` and `=`.
 abbrev pub tooLarge : {s : Sort} → Tree s → ℕ → List ℕ
-tooLarge (constant v) at = []
-tooLarge (letter c) at = []
-tooLarge (negation x) at = []
-tooLarge (pair l x y) at = []
-tooLarge (duration x n) at = cond (ltb maxNumber n) ((at + 1 + length (textOf x) + 2) ∷ []) []
-tooLarge (throughout x) at = []
+tooLarge x at =
+    elim (viewOf x) [ aLetter c ↦ [] | aDuration S n ↦ cond (ltb maxNumber n) ((at + 1 + length (textOf S) + 2) ∷ []) [] | aChop P Q ↦ [] | another ↦ [] ]
 
-unfoldable pub askNumbers : List ℕ → Reply
-askNumbers t = atFirst 6 (flatMap (λ (w : Node). tooLarge (w .part) (w .first)) (nodesIn t))
+unfoldable pub askNumbers : List Node → Reply
+askNumbers l = atFirst 6 (flatMap (λ (w : Node). tooLarge (w .part) (w .first)) l)
 
 -- question 7: at most 64 nodes? Its place: the first byte of the 65th.
-unfoldable pub askNodes : List ℕ → Reply
-askNodes t = atFirst 7 (drop maxNodes (map (λ (w : Node). w .first) (nodesIn t)))
+unfoldable pub askNodes : List Node → Reply
+askNodes l = atFirst 7 (drop maxNodes (map (λ (w : Node). w .first) l))
 
 -- "A formula is accepted for C and k exactly when 1 to 7 are all answered yes."
 abbrev pub textQuestions : ℕ → List ℕ → List Reply
-textQuestions C t = askGrammar t ∷ askLetters C t ∷ askNumbers t ∷ askNodes t ∷ []
+textQuestions C t = askGrammar t ∷ askLetters C (nodesIn t) ∷ askNumbers (nodesIn t) ∷ askNodes (nodesIn t) ∷ []
 
 abbrev pub formulaQuestions : ℕ → ℕ → List ℕ → List Reply
 formulaQuestions C k t = askChannels C ∷ askSteps k ∷ askLength t ∷ textQuestions C t

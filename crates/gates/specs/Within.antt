@@ -1,4 +1,4 @@
--- What the code asks of a gate. No call open to others cites this.
+-- What the code asks of a gate. Nothing here need be believed: no call open to others cites it.
 use Prim.Native.Nat.{_+_, _≤_}
 use Rattle.circuit.specs.declared.Gate.{Gate}
 use Rattle.circuit.specs.declared.Gate.the-variants.{Constant, Copy, Inverse, Both, Either, AnyOf, Step}

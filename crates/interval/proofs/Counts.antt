@@ -5,11 +5,11 @@ use Prim.Native.Nat.{ℕ, zero, suc, _+_, _-_, _*_, _/_, _≤_}
 use native.Mathlib.Nat.{suc-mul, mul-suc, zero-mul, mul-comm, mul-assoc, mul-le-mul, sub-zero, le-refl}
 use native.Mathlib.Omega.{arith}
 use Rattle.interval.specs.Listing.{sum}
-use Rattle.interval.specs.Shape.{count, place}
-use Rattle.interval.specs.Places.{countOf, placeOf, tripleCountOf, triplePlaceOf, intervals, triples}
+use Rattle.interval.specs.Places.{countOf, placeOf, tripleCountOf}
 use Rattle.interval.specs.Limits.{IntervalOf, TripleOf}
 use Rattle.interval.specs.declared.Interval.{Interval}
 use Rattle.interval.specs.declared.Triple.{Triple}
+use Rattle.interval.proofs.Shape.{count, place, intervals, triples}
 
 -- w 1 + .. + w n
 abbrev upTo : (ℕ → ℕ) → ℕ → ℕ
@@ -105,8 +105,7 @@ half : (d : ℕ) → d * (d + 1) / 2 ≡ sum suc d
 half d = omega (arith, triangle d)
 
 pub triple-place-code : (k : ℕ) (t : Triple) (a b : ℕ) → TripleOf k t → a ≡ tripleCountOf k → b ≡ tripleCountOf (k - t .i)
-    → (b ≤ a) × (a - b + (t .j - t .i) * (t .j - t .i + 1) / 2 + (t .m - t .i) ≡ triplePlaceOf k t)
-unfolding triplePlaceOf
+    → (b ≤ a) × (a - b + (t .j - t .i) * (t .j - t .i + 1) / 2 + (t .m - t .i) ≡ place (triples k) (t .i, (t .j - t .i, t .m - t .i)))
 triple-place-code k t a b o p q = omega (arith, all-but (sum suc) tripleCountOf pyramid-count k (t .i) (omega arith), half (t .j - t .i))
 
 pub half-le : (n k : ℕ) (t : Triple) → k ≤ n → TripleOf k t → (t .j - t .i) * (t .j - t .i + 1) ≤ n * (n + 1)

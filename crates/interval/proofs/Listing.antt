@@ -2,6 +2,7 @@
 -- and y further stands in row i at y; and every place is such a sum and a y. Each is by induction on the number of rows.
 use mathlib.Core.Path.{_≡_, refl, sym, ap, ap₂, _∙_, subst}
 use mathlib.Core.Logic.{⊎-elim}
+use mathlib.Core.Bool.{Bool, true, false}
 use mathlib.Core.List.{List, [], _∷_, _++_, map, map-append}
 use Prim.Native.Nat.{ℕ, zero, suc, _+_, _-_, _*_, _≤_, _<_}
 use native.Mathlib.Nat.{zero-mul, suc-mul, add-mul, not-suc-le-zero, eq-or-lt-of-le, le-of-suc-le-suc}
@@ -9,7 +10,7 @@ use native.Mathlib.Decide.{decLt}
 use native.Mathlib.Omega.{arith}
 use lib.ListN.{length, getD, length-append, List·getD-append}
 use lib.Seq.{getD-append-add}
-use Rattle.interval.specs.Listing.{rows, tab, sum}
+use Rattle.interval.specs.Listing.{rows, tab, placeIn, sum}
 
 -- to show a fact at i < n + 1: at i < n, or at n
 pub below-suc : (X : ℕ → Type 0) (n i : ℕ) → i < suc n → (i < n → X i) → X n → X i
@@ -105,3 +106,11 @@ module _ {A : Type 0} (n : ℕ) (g : ℕ → A) where
   getD-tab x d h =
       let e : x ≡ sum (λ i. 1) x + 0 = omega (arith, sum-ones x) in
       ap (λ y. getD (tab n g) y d) e ∙ getD-rows (λ i. g i ∷ []) (λ i. 1) (λ i. refl) n x 0 d h (omega arith)
+
+-- the first one that is so stands at p, if the one at p is and none before it
+pub place-in : {A : Type 0} (is : A → Bool) (l : List A) (p : ℕ) (d : A) → p < length l → is (getD l p d) ≡ true
+    → ((q : ℕ) → q < p → is (getD l q d) ≡ false) → placeIn is l ≡ p
+unfolding placeIn
+place-in is [] p d h e f = absurd (not-suc-le-zero h)
+place-in is (x ∷ l) zero d h e f = rw e refl
+place-in is (x ∷ l) (suc p) d h e f = rw (f 0 (omega arith)) (ap suc (place-in is l p d (le-of-suc-le-suc h) e (λ q m. f (suc q) (omega arith))))

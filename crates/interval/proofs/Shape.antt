@@ -1,14 +1,52 @@
--- Laws of shapes: the list of all entries has each entry at its place, and every place is an entry's.
--- A line is plain; a stack is its rows, by the laws of rows.
+-- Shapes: a line of n entries, or n shapes one after another. The list of all entries has each entry at its place, and every place is
+-- an entry's: a line is plain; a stack is its rows, by the laws of rows.
 use mathlib.Core.Path.{_≡_, refl, sym, ap, _∙_, subst}
+use mathlib.Core.Bool.{Bool, true, false, not-eq-not}
 use mathlib.Core.List.{List, [], _∷_, map}
-use Prim.Native.Nat.{ℕ, _+_, _<_}
+use Prim.Native.Nat.{ℕ, suc, _+_, _-_, _<_}
 use native.Mathlib.Omega.{arith}
 use lib.ListN.{length, getD, length-map, List·getD-map}
 use lib.Seq.{ext-getD}
-use Rattle.interval.specs.Listing.{tab, sum}
-use Rattle.interval.specs.Shape.{Shape, line, stack, Entry, Inside, count, place, per}
-use Rattle.interval.proofs.Listing.{sum-lt, row-of, rows-same, map-rows, length-rows, getD-rows, length-tab, getD-tab}
+use Rattle.interval.specs.Listing.{rows, tab, placeIn, sum}
+use Rattle.interval.proofs.Listing.{sum-lt, row-of, rows-same, map-rows, length-rows, getD-rows, length-tab, getD-tab, place-in}
+
+pub data Shape : Type 0 where
+  line : ℕ → Shape
+  stack : ℕ → (ℕ → Shape) → Shape
+
+-- an entry by its number in its line, after those of the stacks around the line
+abbrev pub Entry : Shape → Type 0
+Entry (line n) = ℕ
+Entry (stack n f) = (i : ℕ) × Entry (f i)
+
+-- the entry is one of the shape's
+abbrev pub Inside : (s : Shape) → Entry s → Type 0
+Inside (line n) x = x < n
+Inside (stack n f) x = (x .0 < n) × Inside (f (x .0)) (x .1)
+
+abbrev pub count : Shape → ℕ
+count (line n) = n
+count (stack n f) = sum (λ i. count (f i)) n
+
+-- an entry's place: how many stand before it
+abbrev pub place : (s : Shape) → Entry s → ℕ
+place (line n) x = x
+place (stack n f) x = sum (λ i. count (f i)) (x .0) + place (f (x .0)) (x .1)
+
+-- g of each entry, in order
+abbrev pub per : {A : Type 0} (s : Shape) → (Entry s → A) → List A
+per (line n) g = tab n g
+per (stack n f) g = rows n (λ i. per (f i) (λ x. g (i, x)))
+
+-- the intervals of k steps, by start and length
+abbrev pub intervals : ℕ → Shape
+intervals k = stack (suc k) (λ i. line (suc k - i))
+
+-- the triples of k steps, by start, length, and where the interval is chopped
+abbrev pub triples : ℕ → Shape
+triples k = stack (suc k) (λ i. stack (suc k - i) (λ d. line (suc d)))
+
+-- ---- laws
 
 pub place-lt : (s : Shape) (x : Entry s) → Inside s x → place s x < count s
 place-lt (line n) x h = h
@@ -33,6 +71,16 @@ module _ {A : Type 0} where
       getD-rows (λ i. per (f i) (λ x. g (i, x))) (λ i. count (f i)) (λ i. length-per (f i) (λ x. g (i, x))) n (x .0) (place (f (x .0)) (x .1)) d (h .0)
       (place-lt (f (x .0)) (x .1) (h .1))
       ∙ getD-per (f (x .0)) (λ y. g (x .0, y)) (x .1) d (h .1)
+
+  -- in the list, an entry's place is the number of entries before the first one that is so, if it is and no other place's entry is
+  pub place-in-per : (s : Shape) (g : Entry s → A) (is : A → Bool) (x : Entry s) → Inside s x → is (g x) ≡ true
+      → ((y : Entry s) → is (g y) ≡ true → place s y ≡ place s x) → placeIn is (per s g) ≡ place s x
+  place-in-per s g is x h e f =
+      place-in is (per s g) (place s x) (g x) (omega (arith, length-per s g, place-lt s x h)) (ap is (getD-per s g x (g x) h) ∙ e)
+      (λ q l.
+      let y = entry-at s q (omega (arith, place-lt s x h)) in
+      ap (λ (p : ℕ). is (getD (per s g) p (g x))) (sym (y .2)) ∙ ap is (getD-per s g (y .0) (g x) (y .1))
+      ∙ not-eq-not {b = false} .0 (λ t. omega (arith, f (y .0) t, y .2)))
 
   -- two lists of all entries are equal if they agree on those inside
   pub per-same : (s : Shape) (g h : Entry s → A) → ((x : Entry s) → Inside s x → g x ≡ h x) → per s g ≡ per s h

@@ -1,4 +1,3 @@
 pub mod Listing
-pub mod Shape
 pub mod Places
 pub mod Limits

@@ -1,4 +1,5 @@
--- Lists made by counting, and the sums that say where a row of such a list starts.
+-- Lists made by counting, places in lists, and sums.
+use mathlib.Core.Bool.{Bool, cond}
 use mathlib.Core.List.{List, [], _∷_, _++_}
 use Prim.Native.Nat.{ℕ, zero, suc, _+_, _-_}
 
@@ -15,7 +16,12 @@ tab n g = rows n (λ i. g i ∷ [])
 abbrev pub each : {A : Type 0} → ℕ → ℕ → (ℕ → List A) → List A
 each a b f = rows (suc b - a) (λ x. f (a + x))
 
--- w 0 + .. + w (n − 1): where row n starts, if row i has w i entries
+-- how many stand before the first one that is so
+unfoldable pub placeIn : {A : Type 0} → (A → Bool) → List A → ℕ
+placeIn is [] = 0
+placeIn is (x ∷ l) = cond (is x) 0 (suc (placeIn is l))
+
+-- w 0 + .. + w (n − 1)
 unfoldable pub sum : (ℕ → ℕ) → ℕ → ℕ
 sum w zero = 0
 sum w (suc n) = sum w n + w n

@@ -1,8 +1,9 @@
 -- Document 01, "Variables": how many intervals and triples there are, their order, and their places.
+use mathlib.Core.Bool.{Bool, _&&_}
 use mathlib.Core.List.{List, [], _∷_}
-use Prim.Native.Nat.{ℕ, suc, _+_, _-_, _*_, _/_}
-use Rattle.interval.specs.Listing.{each}
-use Rattle.interval.specs.Shape.{Shape, line, stack, place}
+use Prim.Native.Nat.{ℕ, _+_, _-_, _*_, _/_}
+use lib.Dec.{eqb}
+use Rattle.interval.specs.Listing.{each, placeIn}
 use Rattle.interval.specs.declared.Interval.{Interval}
 use Rattle.interval.specs.declared.Triple.{Triple}
 
@@ -26,14 +27,9 @@ placeOf k v = v .i * (k + 1) - v .i * (v .i - 1) / 2 + (v .j - v .i)
 unfoldable pub triplesOf : ℕ → List Triple
 triplesOf k = each 0 k (λ i. each i k (λ j. each i j (λ m. record { i = i; m = m; j = j } ∷ [])))
 
--- the intervals of k steps, by start and length
-abbrev pub intervals : ℕ → Shape
-intervals k = stack (suc k) (λ i. line (suc k - i))
-
--- the triples of k steps, by start, length, and where the interval is chopped
-abbrev pub triples : ℕ → Shape
-triples k = stack (suc k) (λ i. stack (suc k - i) (λ d. line (suc d)))
+abbrev pub sameTriple : Triple → Triple → Bool
+sameTriple t u = eqb (t .i) (u .i) && eqb (t .m) (u .m) && eqb (t .j) (u .j)
 
 -- a triple's place: how many stand before it
 unfoldable pub triplePlaceOf : ℕ → Triple → ℕ
-triplePlaceOf k t = place (triples k) (t .i, (t .j - t .i, t .m - t .i))
+triplePlaceOf k t = placeIn (sameTriple t) (triplesOf k)

@@ -1,4 +1,4 @@
--- What it is to have written some places of a table, from a place on. No call open to others cites these.
+-- What it is to have written some places of a table, from a place on. Nothing here need be believed: no call open to others cites it.
 use mathlib.Core.Path.{_≡_}
 use mathlib.Core.List.{List, [], _∷_, _++_}
 use Prim.Native.Nat.{ℕ, _+_, _-_, _^_, _≤_}

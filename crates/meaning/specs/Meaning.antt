@@ -1,4 +1,5 @@
--- Document 01, "Meaning": a recording, the truth of a state assertion at an instant and of a formula on an interval.
+-- Document 01, "Meaning": a recording, the truth of a state assertion at an instant and of a formula on an interval (durations and chop
+-- are those of duration calculus, over instants).
 use mathlib.Core.Bool.{Bool, true, false, not, _&&_, _||_}
 use mathlib.Core.List.{List}
 use Prim.Native.Nat.{ℕ, zero, suc, _+_, _-_, _/_, _%_, _^_}

@@ -8,11 +8,10 @@ use native.Mathlib.Omega.{arith}
 use lib.Dec.{eqb}
 use lib.ListN.{length}
 use Rattle.interval.specs.Listing.{rows}
-use Rattle.interval.specs.Shape.{place}
 use Rattle.interval.specs.Limits.{maxSteps, maxCount}
 use Rattle.interval.specs.Places.{tripleCountOf}
 use Rattle.interval.specs.declared.Triple.{Triple}
-use Rattle.interval.proofs.Shape.{getD-per}
+use Rattle.interval.proofs.Shape.{place, getD-per}
 use Rattle.interval.proofs.Counts.{triple-count-le}
 use Rattle.interval.proofs.Laws.{triples-numbered}
 use Rattle.circuit.specs.Circuit.{Definition, define}

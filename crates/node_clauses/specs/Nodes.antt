@@ -1,4 +1,4 @@
--- What a node defines, by its block, as the code goes by it. No call open to others cites these.
+-- What a node defines, by its block, as the code goes by it. Nothing here need be believed: no call open to others cites it.
 use mathlib.Core.Bool.{Bool, true, false}
 use mathlib.Core.List.{List, _++_}
 use Prim.Native.Nat.{ℕ, _+_, _≤_}

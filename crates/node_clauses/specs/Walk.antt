@@ -1,4 +1,5 @@
--- The walk of a block after x positions: where it stands, and what it has written. No call open to others cites these.
+-- The walk of a block after x positions: where it stands, and what it has written. Nothing here need be believed: no call open to others
+-- cites it.
 use mathlib.Core.Path.{_≡_}
 use mathlib.Core.Bool.{false}
 use mathlib.Core.List.{List}

@@ -1,4 +1,4 @@
--- Where the parts of a node stand in the node table, as the code goes by it. No call open to others cites these.
+-- Where the parts of a node stand in the node table, as the code goes by it. Nothing here need be believed: no call open to others cites it.
 use mathlib.Core.Path.{_≡_}
 use mathlib.Core.List.{List}
 use Prim.Native.Nat.{ℕ, _+_}

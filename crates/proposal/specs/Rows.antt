@@ -1,4 +1,5 @@
--- What the code asks of a node table before it looks variables up, and the questions that it then asks. No call open to others cites these.
+-- What the code asks of a node table before it looks variables up, and the questions that it then asks. Nothing here need be believed: no
+-- call open to others cites it.
 use mathlib.Core.Path.{_≡_}
 use mathlib.Core.List.{List, [], _∷_, _++_, map}
 use Prim.Native.Nat.{ℕ, _+_}

@@ -1,4 +1,5 @@
--- What the reading functions answer, in the reader's terms: a part from a place on, whatever stands around it.
+-- What the reading functions answer, in the reader's terms: a part from a place on, whatever stands around it. Nothing here need be
+-- believed: no call open to others cites it.
 use mathlib.Core.Path.{_≡_}
 use mathlib.Core.Bool.{Bool, cond}
 use mathlib.Core.List.{List, [], _∷_}

@@ -1,4 +1,5 @@
--- A node's row as the code finds it, from its first byte and the rows of its parts: the law `row-found` says that it is the tree's row.
+-- A node's row as the code finds it, from its first byte and the rows of its parts. Nothing here need be believed: the law `row-found` says
+-- that it is the tree's row.
 use mathlib.Core.Bool.{cond, _||_}
 use mathlib.Core.List.{List}
 use Prim.Native.Nat.{ℕ, _+_, _-_}

@@ -1,4 +1,5 @@
--- Questions 5 to 7 as the code asks them, going through the bytes: the laws say that this finds what the tree has.
+-- Questions 5 to 7 as the code asks them, going through the bytes. Nothing here need be believed: the law `found-in` of crate formula says
+-- that this finds what the tree has.
 use mathlib.Core.Bool.{Bool, cond, _&&_}
 use mathlib.Core.List.{List, [], _∷_, _++_}
 use Prim.Native.Nat.{ℕ, suc, _+_, _*_, _-_}

@@ -1,4 +1,4 @@
--- What the code does with the node table of an accepted formula. No call open to others cites this.
+-- What the code does with the node table of an accepted formula. Nothing here need be believed: no call open to others cites it.
 use mathlib.Core.List.{List, [], _∷_}
 use Prim.Native.Nat.{ℕ}
 use lib.ListN.{length}

@@ -34,7 +34,7 @@ lowFirst (x ∷ xs) (y ∷ ys) = elim (eqb x y) [ true ↦ lowFirst xs ys | fals
 unfoldable pub earlier : ℕ → ℕ → List ℕ → List ℕ → Bool
 earlier C k r s = lowFirst (channelValues C k r) (channelValues C k s)
 
--- the tree of a formula: k·C channel variables. Its number of tries is N: "the limit plays no part in it".
+-- the tree of a formula: k·C channel variables. Its number of tries (decisions) is N: "the limit plays no part in it".
 unfoldable pub treeOf : ℕ → ℕ → Tree Formula → Trial
 treeOf C k f = tries.tree (clauseTable C k f) (variablesOf C k (nodesOf f 0)) (k * C)
 

@@ -1,5 +1,5 @@
--- A formula's truth on each interval as the code keeps it: "a table with a yes or no for each of the 561 intervals".
--- No call open to others cites these.
+-- A formula's truth on each interval as the code keeps it: "a table with a yes or no for each of the 561 intervals". Nothing here need be
+-- believed: no call open to others cites it.
 use mathlib.Core.Path.{_≡_}
 use mathlib.Core.Bool.{Bool, cond}
 use mathlib.Core.List.{List}

@@ -1,4 +1,4 @@
--- What the code's search says of values and trail, by the runs of the tree. No call open to others cites these.
+-- What the code's search says of values and trail, by the runs of the tree. Nothing here need be believed: no call open to others cites it.
 use mathlib.Core.Path.{_≡_}
 use mathlib.Core.Bool.{true, false}
 use mathlib.Core.List.{List}

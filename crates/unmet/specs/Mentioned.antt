@@ -1,4 +1,5 @@
--- What the code asks of definitions before it looks their variables up in an assignment of n bytes. No call open to others cites these.
+-- What the code asks of definitions before it looks their variables up in an assignment of n bytes. Nothing here need be believed: no call
+-- open to others cites it.
 use mathlib.Core.Bool.{Bool, false, true}
 use mathlib.Core.Path.{_≡_}
 use mathlib.Core.List.{List}

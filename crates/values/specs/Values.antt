@@ -1,5 +1,5 @@
--- The values of a block by its rule, from the truths of the node's parts by their places, as the code writes them. No call open to
--- others cites these.
+-- The values of a block by its rule, from the truths of the node's parts by their places, as the code writes them. Nothing here need be
+-- believed: no call open to others cites it.
 use mathlib.Core.Path.{_≡_}
 use mathlib.Core.Bool.{Bool, not, _&&_, _||_}
 use mathlib.Core.List.{List, _++_}

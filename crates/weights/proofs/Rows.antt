@@ -25,7 +25,7 @@ use Rattle.rows.specs.Table.{sortCode, headOf}
 use Rattle.rows.specs.declared.Row.{Row}
 use Rattle.nodes.proofs.Laws.{field-after}
 use Rattle.nodes.proofs.Standing.{column}
-use Rattle.circuit.specs.Circuit.{pointsOf, widthOf, blocksOf, leftOf, rightOf, ownBy, ownOf, definedFrom}
+use Rattle.circuit.specs.Circuit.{pointsOf, widthOf, blocksOf, Seats, seatsOf, ownBy, ownOf, definedFrom}
 use Rattle.blocks.specs.Blocks.{numberOf, isChop, rulesFor, ruleOf, ruleBy, definedBy, blockOf}
 use Rattle.blocks.specs.declared.Rule.{Rule}
 use Rattle.blocks.specs.declared.Rule.the-variants.{Chop, Throughout, Cut}
@@ -63,12 +63,12 @@ module _ (w : Weight) (k : ℕ) where
       code State = omega arith
       code Formula = omega arith
 
-  module _ (C b l r : ℕ) where
-    own-weight : {s : Sort} (x : Tree s) → (ruleOf x ≡ Chop → ⊥) → weightBy w k (pointsOf s k) (ruleOf x) ≡ weightAll w (ownBy C k b l r x)
-    own-weight x n = sym (ap (weightAll w) (own-defined C k b l r x n) ∙ block-weight w C k (blockOf k b l r x))
+  module _ (C b : ℕ) (S : Seats) where
+    own-weight : {s : Sort} (x : Tree s) → (ruleOf x ≡ Chop → ⊥) → weightBy w k (pointsOf s k) (ruleOf x) ≡ weightAll w (ownBy C k b S x)
+    own-weight x n = sym (ap (weightAll w) (own-defined C k b S x n) ∙ block-weight w C k (blockOf k b (S .left) (S .right) x))
 
     -- weighs what its node's own definitions weigh
-    pub row-weight : {s : Sort} (x : Tree s) → rowWeight w k (headOf x .kind) (headOf x .number) ≡ weightAll w (ownBy C k b l r x)
+    pub row-weight : {s : Sort} (x : Tree s) → rowWeight w k (headOf x .kind) (headOf x .number) ≡ weightAll w (ownBy C k b S x)
     row-weight {s} (constant false) = row-by s 0 0 (omega arith) ∙ own-weight {s = s} (constant false) (λ e. false≢true cc)
     row-weight {s} (constant true) = row-by s 1 0 (omega arith) ∙ own-weight {s = s} (constant true) (λ e. false≢true cc)
     row-weight (letter c) = row-by State 6 c (omega arith) ∙ own-weight (letter c) (λ e. false≢true cc)
@@ -76,9 +76,9 @@ module _ (w : Weight) (k : ℕ) where
     row-weight {s} (pair and x y) = row-by s 3 0 (omega arith) ∙ own-weight (pair and x y) (λ e. false≢true cc)
     row-weight {s} (pair or x y) = row-by s 4 0 (omega arith) ∙ own-weight (pair or x y) (λ e. false≢true cc)
     row-weight (pair chop x y) =
-        let m = tripled k b l r in
-        let n = blockOf k b (b + countOf k) r (pair chop x y) in
-        omega (arith, row-by Formula 5 0 (omega arith), ap (weightAll w) (chop-defined C k b l r x y), weight-append w (definedBy C k m) (definedBy C k n), block-weight w C k m, block-weight w C k n)
+        let m = tripled k b (S .left) (S .right) in
+        let n = blockOf k b (b + countOf k) (S .right) (pair chop x y) in
+        omega (arith, row-by Formula 5 0 (omega arith), ap (weightAll w) (chop-defined C k b S x y), weight-append w (definedBy C k m) (definedBy C k n), block-weight w C k m, block-weight w C k n)
     row-weight (duration x n) = row-by Formula 7 n (omega arith) ∙ own-weight (duration x n) (λ e. false≢true cc)
     row-weight (throughout x) = row-by Formula 8 0 (omega arith) ∙ own-weight (throughout x) (λ e. false≢true cc)
 
@@ -124,7 +124,7 @@ module _ (w : Weight) (C k : ℕ) (l : List Node) where
         part-weight p (x + 1) A m (drop-front l x (u ∷ []) (A ++ m) e),
         weight-next w k (column l (λ (r : Row). r .head .kind)) (column l (λ (r : Row). r .head .number)) x,
         ap₂ (rowWeight w k) kind number,
-        row-weight w k C b (leftOf k p (u .part)) (rightOf k p (u .part)) (u .part),
+        row-weight w k C b (seatsOf k p (u .part)) (u .part),
         weight-append w (ownOf C k b (u .part)) (definedFrom C k p A),
       )
 
@@ -142,7 +142,7 @@ blocks-weight C k b (u ∷ A) =
       arith,
       weight-append variableWeight (ownOf C k b (u .part)) (definedFrom C k p A),
       blocks-weight C k p A,
-      row-weight variableWeight k C b (leftOf k p (u .part)) (rightOf k p (u .part)) (u .part),
+      row-weight variableWeight k C b (seatsOf k p (u .part)) (u .part),
       row-width k (u .part),
     )
 

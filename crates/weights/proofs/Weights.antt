@@ -11,11 +11,10 @@ use native.Mathlib.Omega.{arith}
 use lib.Dec.{eqb·suc-zero}
 use lib.ListN.{length}
 use Rattle.interval.specs.Listing.{rows, sum}
-use Rattle.interval.specs.Shape.{Shape, line, stack, Entry, count, place, per}
-use Rattle.interval.specs.Places.{countOf, tripleCountOf, intervals, triples}
+use Rattle.interval.specs.Places.{countOf, tripleCountOf}
 use Rattle.interval.specs.Limits.{maxSteps, maxCount}
 use Rattle.interval.proofs.Listing.{sum-ones, sum-after, sum-linear, sum-times, measure-rows}
-use Rattle.interval.proofs.Shape.{length-per}
+use Rattle.interval.proofs.Shape.{Shape, line, stack, Entry, count, place, per, intervals, triples, length-per}
 use Rattle.interval.proofs.Counts.{intervals-count, triples-count, count-le, triple-count-le}
 use Rattle.circuit.specs.Circuit.{Definition, define}
 use Rattle.circuit.specs.declared.Gate.{Gate}

@@ -1,4 +1,4 @@
--- What gates weigh: 1 in variables; how many clauses; how many literals. No call open to others cites these.
+-- What gates weigh: 1 in variables; how many clauses; how many literals. Nothing here need be believed: no call open to others cites it.
 use mathlib.Core.Path.{_≡_}
 use mathlib.Core.Bool.{cond}
 use mathlib.Core.List.{List, [], _∷_}

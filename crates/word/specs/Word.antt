@@ -1,4 +1,5 @@
--- A truth at each instant as one number, and what a node that is not a leaf makes of its parts. No call open to others cites these.
+-- A truth at each instant as one number, and what a node that is not a leaf makes of its parts. Nothing here need be believed: no call open
+-- to others cites it.
 use mathlib.Core.Path.{_≡_}
 use mathlib.Core.Bool.{Bool, not, cond, _&&_, _||_}
 use mathlib.Core.List.{List}

@@ -1,11 +1,12 @@
 -- `Triple::place` is the number of triples before this one: those that start before i, which are J of k less J of k − i steps,
 -- those of the shorter intervals from i on, and those of this interval that are chopped earlier.
+use mathlib.Core.Path.{sym, _∙_}
 use native.Mathlib.Omega.{arith}
 use borrow.Author.Needs.{needs}
 use Rattle.interval.specs.Limits.{maxSteps, TripleOf}
 use Rattle.interval.specs.Places.{tripleCountOf}
 use Rattle.interval.proofs.Counts.{triple-place-code, half-le, triple-count-le}
-use Rattle.interval.proofs.Laws.{triples-numbered}
+use Rattle.interval.proofs.Laws.{triple-place, triples-numbered}
 use Rattle.interval.proofs.Triple.place.Statement.{statement}
 use Rattle.interval.proofs.Triple.place.Tie as tie
 
@@ -45,7 +46,7 @@ returns c =
     let k = c .before .before .before .before .args .k in
     let t = c .before .before .before .before .args .self in
     let o : TripleOf k t = c .before .before .before .before .pre .1 in
-    let e = triple-place-code k t _ _ o (c .before .before .count .ensures .0) (c .before .count2 .ensures .0) .1 in
+    let e = triple-place-code k t _ _ o (c .before .before .count .ensures .0) (c .before .count2 .ensures .0) .1 ∙ sym (triple-place k t o) in
     (e, omega (arith, e, triples-numbered k .below t o, triple-count-le maxSteps k (search needs)))
 
 pub place-spec : {M : Type 1} → statement M
