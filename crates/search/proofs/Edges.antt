@@ -19,8 +19,9 @@ use Rattle.clauses.specs.Clauses.{clausesOf, clausesBy, clauseTable}
 use Rattle.clauses.specs.Entries.{entriesOf, flat}
 use Rattle.clause_table.specs.Table.{placesIn}
 use Rattle.assignments.specs.Extension.{recordingBy}
-use Rattle.closure.specs.Closure.{add, allOpposed, membersOf, membersIn, firstForced, forced, closure}
-use Rattle.closure.specs.Tree.{clashes, isOpen, lowestOpen, treeBelow, tree}
+use Rattle.closure.specs.Closure.{add, allOpposed, membersOf, membersIn}
+use Rattle.closure.specs.Runs.{clashes, isOpen}
+use Rattle.closure.specs.Tree.{firstForced, forced, closure, lowestOpen, treeBelow, tree}
 use Rattle.search.specs.Search.{treeOf, treeIn, limited, askLent, searched}
 use Rattle.search.specs.Edges.{Edge, edges}
 use Rattle.search.specs.declared.Lent.{Lent}
