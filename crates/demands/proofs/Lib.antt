@@ -1,1 +1,4 @@
 pub mod Obeyed
+pub mod Answers
+pub mod Files
+pub mod Search

@@ -3,22 +3,21 @@
 use mathlib.Core.Path.{_≡_, refl, sym, ap, _∙_, subst}
 use mathlib.Core.Logic.{_⊎_, inl, inr, ⊎-elim}
 use mathlib.Core.List.{List, [], _∷_, _++_}
-use Prim.Native.Nat.{ℕ, suc, _<_, _≤_}
+use Prim.Native.Nat.{ℕ, _<_}
 use native.Mathlib.Decide.{decLt}
 use native.Mathlib.Omega.{arith}
-use lib.ListN.{length}
 use Rattle.refusal.specs.Asked.{asked}
 use Rattle.refusal.specs.declared.Refusal.{Refusal}
 use Rattle.refusal.specs.declared.Reply.{Reply}
 use Rattle.refusal.specs.declared.Reply.the-variants.{Yes, No}
 use Rattle.refusal.proofs.Laws.{AllYes, none-left, yes-then, FirstNo, here, later, all-yes-or-first-no, all-yes-answers, first-no-answers}
 use Rattle.interval.specs.Limits.{askSteps}
-use Rattle.grammar.specs.Trees.{Tree, Letters, textOf, Begins, Place}
+use Rattle.grammar.specs.Trees.{Tree, Letters, Place}
 use Rattle.grammar.specs.Reader.{Read, parsed, stopped, read}
 use Rattle.grammar.specs.declared.Sort.the-variants.{Formula}
 use Rattle.grammar.proofs.Printed.{reads-back}
 use Rattle.grammar.proofs.Laws.{prints-as-text, stops-at-place}
-use Rattle.formula.specs.Nodes.{Node, nodesOf, nodesIn}
+use Rattle.formula.specs.Nodes.{Node}
 use Rattle.formula.specs.Questions.{askChannels, askLength, askGrammar, askLetters, askNumbers, askNodes, formulaQuestions, acceptOf, onRead}
 use Rattle.formula.proofs.Laws.{Accepted, accepted, nodes-read}
 use Rattle.demands.specs.Calls as calls
@@ -125,9 +124,9 @@ module _ (C k : ℕ) (t : List ℕ) where
         → Obeys C k t own refused Right (asked (formulaQuestions C k t ++ then) refused answer)
     asked-obeys then answer same right = record {
       of-formula = λ f w. let e = formula-asked f w in let d = same f w in
-        subst (λ (Q : List Reply). Follows (formulaReplies C k t f ++ own f) refused (Right f) (asked Q refused answer))
-        (ap (λ (P : List Reply). P ++ own f) (sym e) ∙ ap (λ (Q : List Reply). formulaQuestions C k t ++ Q) (sym d))
-        (asked-follows (formulaReplies C k t f ++ own f) (Right f) answer (right f w));
+          subst (λ (Q : List Reply). Follows (formulaReplies C k t f ++ own f) refused (Right f) (asked Q refused answer))
+          (ap (λ (P : List Reply). P ++ own f) (sym e) ∙ ap (λ (Q : List Reply). formulaQuestions C k t ++ Q) (sym d))
+          (asked-follows (formulaReplies C k t f ++ own f) (Right f) answer (right f w));
       of-other = λ p u. record {
         first-no = λ r n. first-no-answers refused answer (first-front then (subst (λ (Q : List Reply). FirstNo Q r) (sym (other-asked p u)) (first-front (askLetters C t ∷ askNumbers t ∷ askNodes t ∷ []) n)));
         all-yes = λ h. never-all p h;
@@ -145,3 +144,13 @@ module _ (C k : ℕ) (t : List ℕ) where
     pub obeys-same : {x y : A} → ((f : Tree Formula) → IsText t f → AllYes (formulaReplies C k t f ++ own f) → Right f x → Right f y → x ≡ y)
         → Obeys C k t own refused Right x → Obeys C k t own refused Right y → x ≡ y
     obeys-same = obeys-two (λ x y. x ≡ y) (λ r. refl)
+
+-- what obeys says something of whatever is made of it
+pub obeys-through : {A B : Type 0} (C k : ℕ) (t : List ℕ) (own : Tree Formula → List Reply) {refused : Refusal → A} {Right : Tree Formula → A → Type 0}
+    {refused′ : Refusal → B} {Right′ : Tree Formula → B → Type 0} {x : A} {y : B}
+    → ((r : Refusal) → x ≡ refused r → y ≡ refused′ r) → ((f : Tree Formula) → IsText t f → Right f x → Right′ f y)
+    → Obeys C k t own refused Right x → Obeys C k t own refused′ Right′ y
+obeys-through C k t own g h p = record {
+  of-formula = λ f w. let q = p .of-formula f w in record { first-no = λ r n. g r (q .first-no r n); all-yes = λ y. h f w (q .all-yes y) };
+  of-other = λ n u. let q = p .of-other n u in record { first-no = λ r m. g r (q .first-no r m); all-yes = q .all-yes };
+}

@@ -33,8 +33,10 @@ pub record Follows {A : Type 0} (questions : List Reply) (refused : Refusal → 
 
 abbrev pub askLetters : ℕ → List Node → Reply
 askLetters C l = atFirst 5 (flatMap (λ (w : Node). outside C (w .part) (w .first)) l)
+
 abbrev pub askNumbers : List Node → Reply
 askNumbers l = atFirst 6 (flatMap (λ (w : Node). tooLarge (w .part) (w .first)) l)
+
 abbrev pub askNodes : List Node → Reply
 askNodes l = atFirst 7 (drop maxNodes (map (λ (w : Node). w .first) l))
 

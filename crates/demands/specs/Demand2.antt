@@ -1,14 +1,17 @@
 -- DEMAND 2, of any engine: what evaluation, node text, the table, the extension, the check, the file's writer and reader and the file
 -- program answer and leave in each lent array. Each is a predicate on the answer with the arrays after it.
 use mathlib.Core.Path.{_≡_}
+use mathlib.Core.Bool.{_&&_}
 use mathlib.Core.List.{List, [], _∷_, _++_}
 use Prim.Native.Nat.{ℕ, _-_, _^_, _<_}
+use lib.Dec.{leb}
 use lib.ListN.{length, take, drop}
+use Rattle.refusal.specs.Asked.{question}
+use Rattle.refusal.proofs.Laws.{AllYes}
 use Rattle.interval.specs.Limits.{askInterval}
 use Rattle.grammar.specs.Trees.{Tree, textOf}
 use Rattle.grammar.specs.declared.Sort.the-variants.{Formula}
 use Rattle.formula.specs.Nodes.{Node, nodesOf}
-use Rattle.nodes.specs.Calls.{askNode}
 use Rattle.nodes.specs.declared.Located.{Located}
 use Rattle.nodes.specs.declared.Located.the-variants as located
 use Rattle.meaning.specs.Meaning.{channelAt, holds}
@@ -40,18 +43,16 @@ Evaluates C k i j t recording =
     Obeys C k t (λ f. askInterval i j k ∷ askRecording k recording ∷ askBytes C recording ∷ []) verdict.Refused
     (λ f v. v ≡ verdictOf (holds recording f (record { i = i; j = j })))
 
--- "On demand a node's own text is handed back as that part of the lent text": node x of the formula prints as these bytes
+-- "On demand a node's own text is handed back as that part of the lent text": the part prints as node x of the formula
 pub record NodeText (t : List ℕ) (x : ℕ) (f : Tree Formula) (l : Located) : Type 0 where
   pub node : Node
-  pub bytes : ℕ
   pub rest : List Node
   pub numbered : drop (x - 1) (nodesOf f 0) ≡ node ∷ rest
-  pub prints : take bytes (drop (node .first) t) ≡ textOf (node .part)
-  pub part : l ≡ located.Part (node .first) bytes
-  pub whole : bytes ≡ length (textOf (node .part))
+  pub part : l ≡ located.Part (node .first) (length (textOf (node .part)))
+  pub prints : take (length (textOf (node .part))) (drop (node .first) t) ≡ textOf (node .part)
 
 abbrev pub Locates : ℕ → ℕ → ℕ → List ℕ → Located → Type 0
-Locates C k x t = Obeys C k t (λ f. askNode x t ∷ []) located.Refused (NodeText t x)
+Locates C k x t = Obeys C k t (λ f. question 8 0 (leb 1 x && leb x (length (nodesOf f 0))) ∷ []) located.Refused (NodeText t x)
 
 -- "The clause table is the one those rules give", in the two arrays, and its sizes
 abbrev pub Tables : ℕ → ℕ → List ℕ → List ℕ → List ℕ → List ℕ → After → Type 0
@@ -89,11 +90,11 @@ Writes s variables marks file =
     Follows (arrayQuestions s variables marks ++ askFileRoom (s .literals) (length file) ∷ []) (fileRefused file)
     (λ x. x ≡ record { answer = Done; file = over (fileOf (fiveOf s) variables marks) file })
 
--- a table of 32-bit numbers, of which this is the file
+-- a table of 32-bit numbers that the writer takes, and of which this is the file
 pub record FileOf (file : List ℕ) (s : Sizes) (variables marks : List ℕ) : Type 0 where
   pub sizes : Words (fiveOf s)
   pub numbers : Words variables
-  pub long : length variables ≡ s .literals
+  pub taken : AllYes (arrayQuestions s variables marks)
   pub is : fileOf (fiveOf s) variables marks ≡ file
 
 -- the file's reader: the table read is the one of which this is the file
@@ -106,5 +107,5 @@ Reads file sizes variables marks =
 pub record Outputs (input bytes : List ℕ) : Type 0 where
   pub of-line : (C k : ℕ) (t : List ℕ) → lineOf C k t ≡ input
       → Obeys C k t (λ f. askLiterals (length (flat (clauseTable C k f))) ∷ []) (λ r. [])
-        (λ f x. x ≡ (let F = flat (clauseTable C k f) in fileOf (sizesOf C k f) (variablesIn F) (marksIn F))) bytes
+      (λ f x. x ≡ (let F = flat (clauseTable C k f) in fileOf (sizesOf C k f) (variablesIn F) (marksIn F))) bytes
   pub of-other : ((C k : ℕ) (t : List ℕ) → lineOf C k t ≡ input → ⊥) → bytes ≡ []
