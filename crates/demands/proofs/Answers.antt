@@ -96,7 +96,7 @@ module _ (C k : ℕ) (t sizes variables marks : List ℕ) where
 -- ---- the extension
 
 module _ (C k : ℕ) (t recording assignment : List ℕ) where
-  extension-is : (f : Tree Formula) → IsText t f → AllYes (formulaReplies C k t f) → ExtensionOf C k f recording (extensionOf C k recording (nodesOf f 0))
+  pub extension-is : (f : Tree Formula) → IsText t f → AllYes (formulaReplies C k t f) → ExtensionOf C k f recording (extensionOf C k recording (nodesOf f 0))
   extension-is f w y = record {
     bytes = extension-length C k recording (nodesOf f 0);
     bits = extension-bits C k recording (nodesOf f 0);
@@ -115,7 +115,7 @@ module _ (C k : ℕ) (t recording assignment : List ℕ) where
         ap (λ (l : List Node). record { answer = Done; assignment = over (extensionOf C k recording l) assignment }) (nodes-read t f (reads-as t f w)),
       ))
 
-  one-extension : (f : Tree Formula) → IsText t f → AllYes (formulaReplies C k t f) → (A : List ℕ) → ExtensionOf C k f recording A → A ≡ extensionOf C k recording (nodesOf f 0)
+  pub one-extension : (f : Tree Formula) → IsText t f → AllYes (formulaReplies C k t f) → (A : List ℕ) → ExtensionOf C k f recording A → A ≡ extensionOf C k recording (nodesOf f 0)
   one-extension f w y A e = extension-only C k f (letters-in C k t f w y) recording A (e .bytes) (e .bits) (e .channels) (e .meets)
 
   pub extended-only : (x : Extended) → Extends C k t recording assignment x → x ≡ extended C k t recording assignment
@@ -133,7 +133,7 @@ module _ (C k : ℕ) (t A recording : List ℕ) where
     channels = λ t c h l. sym (recording-channels C k (valueIn A) t c h l);
   }
 
-  one-recording : (r : List ℕ) → RecordingOf C k A r → r ≡ recordingOf C k A
+  pub one-recording : (r : List ℕ) → RecordingOf C k A r → r ≡ recordingOf C k A
   one-recording r w = sym (recording-only C k (valueIn A) r (w .bytes) (w .below) (w .channels))
 
   pub proposed-obeys : Checks C k t A recording (proposed C k t A recording)

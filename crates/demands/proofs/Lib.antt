@@ -2,3 +2,4 @@ pub mod Obeyed
 pub mod Answers
 pub mod Files
 pub mod Search
+pub mod Checked
