@@ -38,7 +38,7 @@ use Rattle.demands.proofs.Obeyed.{yes-both, reads-as, letters-in, asked
 -- ---- N
 
 module _ (C k : ℕ) (f : Tree Formula) where
-  abbrev T : ℕ
+  abbrev pub T : ℕ
   T = treeOf C k f .tries
 
   pub trials-are : Trials C k f T
@@ -116,7 +116,7 @@ pub record Alike (x y : Search) : Type 0 where
   pub refused : (r : Refusal) → x .answer ≡ Refused r → x .arrays ≡ y .arrays
 
 module _ (C k : ℕ) (t : List ℕ) (B : ℕ) (before : Arrays) where
-  abbrev ours : Searched
+  abbrev pub ours : Searched
   ours = searched C k t B (lengths before) (before .recording)
 
   -- the search's contract (`tuv_search`): what is answered, the recording's array, and the work arrays where it is refused
@@ -129,13 +129,13 @@ module _ (C k : ℕ) (t : List ℕ) (B : ℕ) (before : Arrays) where
     pub trail : Unchanged (ours .answer) (before .trail) (x .arrays .trail)
 
   -- 18, and what a search of the formula should say
-  abbrev own : Tree Formula → List Reply
+  abbrev pub own : Tree Formula → List Reply
   own f = askLent (length (flat (clauseTable C k f))) (variablesOf C k (nodesOf f 0)) k (lengths before) ∷ []
 
-  abbrev Says : Tree Formula → Answer → List ℕ → Type 0
+  abbrev pub Says : Tree Formula → Answer → List ℕ → Type 0
   Says f a after = (N : ℕ) → Trials C k f N → Draws C k f B N (before .recording) a after
 
-  ours-obeys : Obeys C k t own (λ r. unwritten (before .recording) (Refused r)) (λ f x. Says f (x .answer) (x .recording)) ours
+  pub ours-obeys : Obeys C k t own (λ r. unwritten (before .recording) (Refused r)) (λ f x. Says f (x .answer) (x .recording)) ours
   unfolding searched treeIn placesIn
   ours-obeys =
       asked-obeys C k t _ _ _ (askLent (length (placesIn C k t)) (variablesOf C k (nodesIn t)) k (lengths before) ∷ []) _
