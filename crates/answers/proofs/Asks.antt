@@ -22,7 +22,7 @@ use Rattle.assignments.specs.Extension.{valueIn}
 use Rattle.assignments.specs.Calls.{askAssignment, askValues, askClauses, askPlaces, clausesIn, extensionQuestions, proposalQuestions}
 use Rattle.assignments.proofs.Gives.{assignment-gives, clauses-gives, places-gives}
 use Rattle.clause_file.specs.File.{sizesAt, variablesAt, marksAt}
-use Rattle.clause_file.specs.Questions.{askFileRoom as askFileBytes}
+use Rattle.clause_file.specs.Questions.{askFileRoom}
 use Rattle.clause_file.specs.Calls.{arrayQuestions, fileQuestions}
 use Rattle.clause_file.proofs.Gives.{file-gives, arrays-gives, entries-gives, closed-gives, bytes-gives}
 use Rattle.search.specs.Search.{askLent, searchQuestions}
@@ -66,7 +66,7 @@ module _ (C k : ℕ) (t : List ℕ) where
       )
 
 pub writer-asks : (s : Sizes) (variables marks file : List ℕ)
-    → Asks fileNumbers (arrayQuestions s variables marks ++ askFileBytes (s .literals) (length file) ∷ [])
+    → Asks fileNumbers (arrayQuestions s variables marks ++ askFileRoom (s .literals) (length file) ∷ [])
 writer-asks s variables marks file = (
   arrays-gives (s .literals) (length variables) (length marks),
   (entries-gives s variables marks, (closed-gives (s .clauses) marks, (bytes-gives (s .literals) (length file), tt))),

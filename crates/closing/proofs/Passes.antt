@@ -11,8 +11,9 @@ use lib.ListN.{length, drop-of-length-le}
 use borrow.Author.Tests.{eqb-true, eq-eqb}
 use Rattle.formula.proofs.Lists.{All}
 use Rattle.clauses.specs.Entries.{readBack}
-use Rattle.closure.specs.Closure.{opposite, membersOf, membersIn, closure}
-use Rattle.closure.specs.Tree.{clashes}
+use Rattle.closure.specs.Closure.{opposite, membersOf, membersIn}
+use Rattle.closure.specs.Runs.{clashes}
+use Rattle.closure.specs.Tree.{closure}
 use Rattle.closure.proofs.Sets.{In, Below, or-cases, or-right, added}
 use Rattle.closure.proofs.Closure.{Keeps, Closed, closed-parts, closed-whole, closure-contains, closure-closed, closed-same, closure-add}
 use Rattle.closure.proofs.Open.{both-clash}

@@ -6,8 +6,8 @@ use Prim.Native.Nat.{ℕ, _+_, _≤_, _<_}
 use lib.ListN.{length, getD}
 use Rattle.clauses.specs.Clauses.{Clause}
 use Rattle.clauses.specs.Entries.{Entry, entry, readBack}
-use Rattle.closure.specs.Closure.{closure}
-use Rattle.closure.specs.Tree.{clashes}
+use Rattle.closure.specs.Runs.{clashes}
+use Rattle.closure.specs.Tree.{closure}
 use Rattle.closing.specs.Values.{heldIn, Grown}
 use Rattle.closing.specs.declared.Closed.{Closed}
 

@@ -7,8 +7,9 @@ use Prim.Native.Nat.{ℕ, _≤_, _<_}
 use lib.ListN.{length, getD, drop}
 use Rattle.clauses.specs.Clauses.{Literal, Clause}
 use Rattle.clauses.specs.Entries.{entry, literalOf}
-use Rattle.closure.specs.Closure.{Literals, opposite, closure}
-use Rattle.closure.specs.Tree.{clashes}
+use Rattle.closure.specs.Closure.{Literals, opposite}
+use Rattle.closure.specs.Runs.{clashes}
+use Rattle.closure.specs.Tree.{closure}
 use Rattle.closing.specs.Values.{heldIn, Grown}
 use Rattle.closing.specs.Closing.{tableIn}
 use Rattle.closing.specs.declared.Closed.{Closed}

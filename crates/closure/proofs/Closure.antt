@@ -13,7 +13,8 @@ use Rattle.formula.proofs.Lists.{All, all-append, all-map}
 use Rattle.circuit.proofs.Lists.{all-split}
 use Rattle.meaning.specs.Meaning.{bit}
 use Rattle.clauses.specs.Clauses.{Literal, Clause}
-use Rattle.closure.specs.Closure.{Literals, add, allOpposed, Member, membersOf, membersIn, firstForced, forced, closure}
+use Rattle.closure.specs.Closure.{Literals, add, allOpposed, Member, membersOf, membersIn, ClosedUnder, ClosureOf}
+use Rattle.closure.specs.Tree.{firstForced, forced, closure}
 use Rattle.closure.proofs.Sets.{either-way, not-true, all-in, In, Below, same-set, added, kept, add-below, Opposed, opposed-all, all-opposed}
 
 -- "each literal of a clause whose fellows in that clause are all opposed in the set" is in it
@@ -129,7 +130,14 @@ closed (suc n) ms S h = go (λ m i e. closed n ms (add (m .self) S) (omega (arit
 
 -- ---- "the smallest set containing it and each literal of a clause whose fellows in that clause are all opposed in the set"
 
+all-of : {A : Type 0} (P : A → Type 0) (l : List A) → ((x : A) → List·Memᴰ x l → P x) → All P l
+all-of P [] h = tt
+all-of P (x ∷ l) h = (h x (List·Memᴰ.List·Memᴰ·head refl), all-of P l (λ y i. h y (List·Memᴰ.List·Memᴰ·tail i)))
+
 module _ (T : List Clause) (S : Literals) where
+  under-closed : (R : Literals) → ClosedUnder T R → Closed T (In R)
+  under-closed R h = all-of (Keeps (In R)) (membersIn T) (λ m i o. h m i (all-opposed R (m .fellows) o))
+
   pub closure-contains : Below S (In (closure T S))
   unfolding closure
   closure-contains = contains (length (membersIn T)) (membersIn T) S
@@ -141,6 +149,17 @@ module _ (T : List Clause) (S : Literals) where
   pub closure-least : (X : Literal → Type 0) → Closed T X → Below S X → Below (closure T S) X
   unfolding closure
   closure-least X c h = least (length (membersIn T)) (membersIn T) S X c h
+
+  pub closure-is : ClosureOf T S (closure T S)
+  closure-is = record {
+    contains = closure-contains;
+    closed = λ m i o. all-in (Keeps (In (closure T S))) (membersIn T) closure-closed i (opposed-all (closure T S) (m .fellows) o);
+    smallest = λ Q h c. closure-least (In Q) (under-closed Q c) h;
+  }
+
+  -- there is no other
+  pub closure-one : (R : Literals) → ClosureOf T S R → R ≡ closure T S
+  closure-one R w = same-set (w .smallest (closure T S) (closure-is .contains) (closure-is .closed)) (closure-least (In R) (under-closed R (w .closed)) (w .contains))
 
   -- a closed set is its own closure
   pub closed-same : Closed T (In S) → S ≡ closure T S

@@ -35,7 +35,8 @@ use Rattle.clause_table.proofs.Call.{variables-known, literals-known, arrays-wr
 use Rattle.clause_table.proofs.Laws.{places-named, last-mark, table-reads-back}
 use Rattle.assignments.specs.Extension.{recordingBy}
 use Rattle.assignments.proofs.Recordings.{recording-length}
-use Rattle.closure.specs.Tree.{dead, found, Trial, trial, tree, highIn}
+use Rattle.closure.specs.Runs.{dead, found, highIn}
+use Rattle.closure.specs.Tree.{Trial, trial, tree}
 use Rattle.closing.specs.Closing.{entriesIn, tableIn, Readable}
 use Rattle.search.specs.Search.{treeOf, Searched, unwritten, limited, lentOf, askLent}
 use Rattle.search.specs.Rows.{searchedBy}

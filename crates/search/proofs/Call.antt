@@ -23,7 +23,8 @@ use Rattle.circuit.specs.Circuit.{variablesOf}
 use Rattle.clauses.specs.Clauses.{clauseTable}
 use Rattle.clauses.specs.Entries.{flat}
 use Rattle.clause_table.specs.Table.{onTree, placesIn}
-use Rattle.closure.specs.Tree.{dead, Trial, trial}
+use Rattle.closure.specs.Runs.{dead}
+use Rattle.closure.specs.Tree.{Trial, trial}
 use Rattle.search.specs.Search.{treeOf, treeIn, Searched, unwritten, limited, askLent, searched}
 use Rattle.search.specs.Rows.{searchedBy}
 use Rattle.search.specs.declared.Answer.the-variants.{Refused}

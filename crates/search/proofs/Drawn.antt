@@ -12,7 +12,8 @@ use Rattle.clauses.specs.Clauses.{Clause, plain}
 use Rattle.clause_table.specs.Table.{over}
 use Rattle.assignments.specs.Extension.{valueIn, recordingBy, recordingOf}
 use Rattle.assignments.proofs.Recordings.{recording-length, recording-below, recording-channels, recording-only}
-use Rattle.closure.specs.Tree.{dead, found, Trial, trial, tree, highIn}
+use Rattle.closure.specs.Runs.{dead, found, highIn}
+use Rattle.closure.specs.Tree.{Trial, trial, tree}
 use Rattle.closing.specs.Values.{heldIn}
 use Rattle.tries.specs.Tries.{Result, Started}
 use Rattle.tries.specs.declared.Below.{Below}

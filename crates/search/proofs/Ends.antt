@@ -14,7 +14,8 @@ use Rattle.grammar.specs.declared.Sort.the-variants.{Formula}
 use Rattle.clause_table.specs.Table.{over}
 use Rattle.assignments.specs.Extension.{recordingBy}
 use Rattle.closure.specs.Closure.{Literals}
-use Rattle.closure.specs.Tree.{Outcome, dead, found, Trial, highIn}
+use Rattle.closure.specs.Runs.{Outcome, dead, found, highIn}
+use Rattle.closure.specs.Tree.{Trial}
 use Rattle.search.specs.Search.{earlier, treeOf, Searched, unwritten, ended, limited}
 use Rattle.search.specs.declared.Answer.{Answer}
 use Rattle.search.specs.declared.Answer.the-variants.{Found, None, Spent, Refused}

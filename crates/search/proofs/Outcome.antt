@@ -18,8 +18,9 @@ use Rattle.assignments.specs.Extension.{valueIn, extensionOf, recordingBy}
 use Rattle.assignments.proofs.Values.{EachBelow}
 use Rattle.assignments.proofs.Recordings.{recording-length, recording-below}
 use Rattle.assignments.proofs.Laws.{extension-channels, meets-holds, holds-meets}
-use Rattle.closure.specs.Closure.{Literals, nothing, closure}
-use Rattle.closure.specs.Tree.{dead, found, highIn}
+use Rattle.closure.specs.Closure.{Literals, nothing}
+use Rattle.closure.specs.Runs.{dead, found, highIn}
+use Rattle.closure.specs.Tree.{closure}
 use Rattle.closure.proofs.Runs.{tree-bound}
 use Rattle.closure.proofs.Gates.{none-left-open}
 use Rattle.closure.proofs.Means.{Drawn, dead-unmet, found-drawn, found-first, reading-meets}

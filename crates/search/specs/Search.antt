@@ -19,7 +19,8 @@ use Rattle.clauses.specs.Clauses.{clauseTable}
 use Rattle.clause_table.specs.Table.{placesIn, over}
 use Rattle.assignments.specs.Extension.{channelValues, recordingBy}
 use Rattle.closure.specs.Tree as tries
-use Rattle.closure.specs.Tree.{dead, found, Trial, trial, highIn}
+use Rattle.closure.specs.Runs.{dead, found, highIn}
+use Rattle.closure.specs.Tree.{Trial, trial}
 use Rattle.search.specs.declared.Answer.{Answer}
 use Rattle.search.specs.declared.Answer.the-variants.{Found, None, Spent, Refused}
 use Rattle.search.specs.declared.Lent.{Lent}

@@ -18,8 +18,9 @@ use Rattle.clause_table.specs.Table.{sizesOf, sizesIn, placesIn, askRoom, table
 use Rattle.clause_file.specs.File.{bytesOf, fileOf}
 use Rattle.evaluator.specs.Evaluation.{askRecording, notBelow, askBelow, evaluated}
 use Rattle.assignments.specs.Extension.{recordingBy}
-use Rattle.closure.specs.Closure.{add, allOpposed, membersOf, membersIn, firstForced, forced, closure}
-use Rattle.closure.specs.Tree.{clashes, isOpen, lowestOpen, treeBelow, tree}
+use Rattle.closure.specs.Closure.{add, allOpposed, membersOf, membersIn}
+use Rattle.closure.specs.Runs.{clashes, isOpen}
+use Rattle.closure.specs.Tree.{firstForced, forced, closure, lowestOpen, treeBelow, tree}
 use Rattle.search.specs.Search.{treeOf, treeIn, limited, askLent, searched}
 use Rattle.file_line.specs.Line.{digits, number, readLine}
 use Rattle.file_line.specs.Output.{outputFor, outputOf}

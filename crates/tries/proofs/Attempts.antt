@@ -9,9 +9,9 @@ use lib.Arith.{lt-of-le-ne}
 use lib.ListN.{length, take}
 use lib.Seq.{take-take}
 use Rattle.clauses.specs.Clauses.{Literal, Clause, literal}
-use Rattle.closure.specs.Closure.{Literals, add, closure}
-use Rattle.closure.specs.Tree.{clashes, isOpen, Outcome, dead, tried}
-use Rattle.closure.specs.Runs.{Run, clash}
+use Rattle.closure.specs.Closure.{Literals, add}
+use Rattle.closure.specs.Runs.{clashes, isOpen, Outcome, dead, Run, clash}
+use Rattle.closure.specs.Tree.{closure, tried}
 use Rattle.closure.proofs.Sets.{either-way, In, added}
 use Rattle.closure.proofs.Open.{shut-by}
 use Rattle.closing.specs.Values.{heldIn, undone, Ranged, Grown, Added}

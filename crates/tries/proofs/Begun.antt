@@ -6,8 +6,9 @@ use mathlib.Core.List.{List}
 use Prim.Native.Nat.{ℕ, _≤_}
 use native.Mathlib.Omega.{arith}
 use lib.ListN.{length, getD}
-use Rattle.closure.specs.Closure.{Literals, nothing, closure}
-use Rattle.closure.specs.Tree.{clashes}
+use Rattle.closure.specs.Closure.{Literals, nothing}
+use Rattle.closure.specs.Runs.{clashes}
+use Rattle.closure.specs.Tree.{closure}
 use Rattle.closing.specs.Values.{heldIn, Trailing}
 use Rattle.closing.specs.Closing.{Readable, tableIn, ClosedTo}
 use Rattle.closing.specs.declared.Closed.{Closed}

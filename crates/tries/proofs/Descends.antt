@@ -7,8 +7,8 @@ use native.Mathlib.Omega.{arith}
 use lib.ListN.{length}
 use Rattle.clauses.specs.Clauses.{plain, negated}
 use Rattle.closure.specs.Closure.{Literals}
-use Rattle.closure.specs.Tree.{dead, tried}
-use Rattle.closure.specs.Runs.{Lowest, Run, complete}
+use Rattle.closure.specs.Runs.{dead, Lowest, Run, complete}
+use Rattle.closure.specs.Tree.{tried}
 use Rattle.closing.specs.Values.{heldIn}
 use Rattle.closing.specs.Closing.{tableIn}
 use Rattle.tries.specs.Tries.{Openness, Ready, Overrun, CameTo, Came, Alive, triesIn, counting}

@@ -6,8 +6,8 @@ use Prim.Native.Nat.{ℕ, _+_, _≤_, _<_}
 use lib.ListN.{length, take}
 use Rattle.clauses.specs.Clauses.{Literal, Clause}
 use Rattle.closure.specs.Closure.{Literals}
-use Rattle.closure.specs.Tree.{clashes, Outcome, dead, found, trial, tried, tree}
-use Rattle.closure.specs.Runs.{NoneOpen, Lowest, Run}
+use Rattle.closure.specs.Runs.{clashes, Outcome, dead, found, NoneOpen, Lowest, Run}
+use Rattle.closure.specs.Tree.{trial, tried, tree}
 use Rattle.closing.specs.Values.{heldIn, Trailing, Grown}
 use Rattle.closing.specs.Closing.{Readable, tableIn}
 use Rattle.closing.specs.declared.Closed.{Closed}

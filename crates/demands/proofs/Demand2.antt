@@ -1,0 +1,106 @@
+-- DEMAND 2, of every text, C, k, recording, assignment, table and file: what our calls' answers say. Each line cites the theorem behind it.
+-- The calls are proved to answer by these definitions (`evaluated`, `tabled`, ..), so whatever is said of a definition holds of the call.
+use mathlib.Core.Path.{_≡_, refl}
+use mathlib.Core.Bool.{true, false}
+use mathlib.Core.List.{List, [], _∷_, _++_}
+use Prim.Native.Nat.{ℕ, _-_, _^_, _≤_}
+use lib.ListN.{length}
+use Rattle.refusal.specs.Asked.{asked, AllYes}
+use Rattle.refusal.specs.declared.Reply.{Reply}
+use Rattle.refusal.specs.declared.Reply.the-variants.{Yes, No}
+use Rattle.interval.specs.Limits.{askInterval}
+use Rattle.grammar.specs.Trees.{Tree}
+use Rattle.grammar.specs.declared.Sort.the-variants.{Formula}
+use Rattle.formula.specs.Nodes.{nodesOf}
+use Rattle.formula.specs.Questions.{acceptOf}
+use Rattle.meaning.specs.Meaning.{holds}
+use Rattle.circuit.specs.Circuit.{variablesOf}
+use Rattle.clauses.specs.Clauses.{clauseTable}
+use Rattle.clauses.specs.Entries.{flat, variablesIn, marksIn}
+use Rattle.clause_table.specs.Table.{sizesOf, sizesIn, placesIn, fiveOf, askRoom, over, After, refused, written, writtenTable, tabled}
+use Rattle.clause_table.specs.declared.Sizes.{Sizes}
+use Rattle.clause_table.specs.declared.Written.the-variants.{Done}
+use Rattle.evaluator.specs.Evaluation.{askRecording, askBytes, verdictOf, evaluated}
+use Rattle.assignments.specs.Extension.{valueIn, extensionOf, recordingOf}
+use Rattle.assignments.specs.Calls.{askPlaces, extended, notAccepted, proposed}
+use Rattle.assignments.specs.declared.Checked.the-variants.{Accepted}
+use Rattle.assignments.proofs.Values.{EachBelow}
+use Rattle.assignments.proofs.Laws.{meetsLast}
+use Rattle.clause_file.specs.File.{fileOf, fileLength, sizesBy, sizesAt, variablesAt, marksAt}
+use Rattle.clause_file.specs.Questions.{askFileRoom}
+use Rattle.clause_file.specs.Calls.{FileAfter, fileRefused, arrayQuestions, fileWritten, fileQuestions, fileRead}
+use Rattle.clause_file.proofs.Bytes.{Words, Octets}
+use Rattle.clause_file.proofs.Laws.{read-written, write-read}
+use Rattle.clause_file.proofs.Writable.{table-written}
+use Rattle.demands.specs.Calls.{IsText, formulaReplies}
+use Rattle.demands.specs.Demand2.{ExtensionOf}
+use Rattle.demands.proofs.Answers as answers
+use Rattle.demands.proofs.Answers.{evaluated-obeys, tabled-obeys, extended-obeys}
+use Rattle.demands.proofs.Checked as checked
+
+-- of a text that is the formula's
+module _ (C k : ℕ) (t : List ℕ) (f : Tree Formula) (is : IsText t f) where
+  -- evaluation is the meaning, on any [i, j]
+  pub evaluation-is-meaning : (i j : ℕ) (recording : List ℕ) → AllYes (formulaReplies C k t f ++ askInterval i j k ∷ askRecording k recording ∷ askBytes C recording ∷ [])
+      → evaluated C k i j t recording ≡ verdictOf (holds recording f (record { i = i; j = j }))
+  evaluation-is-meaning i j recording = evaluated-obeys C k i j t recording .of-formula f is .all-yes
+
+  -- the table is the rules'
+  pub table-is-rules : (sizes variables marks : List ℕ)
+      → AllYes (formulaReplies C k t f ++ askRoom (length (flat (clauseTable C k f))) (length sizes) (length variables) (length marks) ∷ [])
+      → tabled C k t sizes variables marks ≡ writtenTable (sizesOf C k f) (flat (clauseTable C k f)) sizes variables marks
+  table-is-rules sizes variables marks = tabled-obeys C k t sizes variables marks .of-formula f is .all-yes
+
+  module _ (yes-1-to-7 : AllYes (formulaReplies C k t f)) (recording : List ℕ) where
+    -- each recording extends to an assignment that meets all clauses but the last,
+    pub extension-exists : ExtensionOf C k f recording (extensionOf C k recording (nodesOf f 0))
+    extension-exists = answers.extension-is C k t recording [] f is yes-1-to-7
+
+    -- and to no other,
+    pub extension-unique : (A : List ℕ) → ExtensionOf C k f recording A → A ≡ extensionOf C k recording (nodesOf f 0)
+    extension-unique = answers.one-extension C k t recording [] f is yes-1-to-7
+
+    -- which meets the last exactly when evaluation on [0, k] says yes;
+    pub extension-meets-last : (A : List ℕ) → ExtensionOf C k f recording A → meetsLast C k f (valueIn A) ≡ holds recording f (record { i = 0; j = k })
+    extension-meets-last = checked.last-exactly C k t f is yes-1-to-7 recording
+
+    -- it is what the extension's call writes;
+    pub extension-written : (assignment : List ℕ)
+        → AllYes (formulaReplies C k t f ++ askRecording k recording ∷ askBytes C recording ∷ askPlaces (variablesOf C k (nodesOf f 0)) (length assignment) ∷ [])
+        → (A : List ℕ) × ExtensionOf C k f recording A × (extended C k t recording assignment ≡ record { answer = Done; assignment = over A assignment })
+    extension-written assignment = extended-obeys C k t recording assignment .of-formula f is .all-yes
+
+    module _ (A : List ℕ) (extension : ExtensionOf C k f recording A) (out : List ℕ) where
+      -- and the check accepts it and hands the recording back, where that satisfies the formula,
+      pub extension-accepted : length recording ≡ k → EachBelow (2 ^ C) recording → holds recording f (record { i = 0; j = k }) ≡ true → k ≤ length out
+          → proposed C k t A out ≡ record { answer = Accepted; recording = over recording out }
+      extension-accepted = checked.extension-accepted C k t f is yes-1-to-7 recording A extension out
+
+      -- or else refuses it at clause M − 1
+      pub extension-refused : holds recording f (record { i = 0; j = k }) ≡ false
+          → proposed C k t A out ≡ notAccepted out (record { number = 14; place = length (clauseTable C k f) - 1 })
+      extension-refused = checked.extension-refused C k t f is yes-1-to-7 recording A extension out
+
+  -- an accepted assignment is the extension of the recording handed out, which satisfies the formula
+  pub accepted-is-extension : AllYes (formulaReplies C k t f) → (A out : List ℕ) → proposed C k t A out .answer ≡ Accepted
+      → (A ≡ extensionOf C k (recordingOf C k A) (nodesOf f 0)) × (holds (recordingOf C k A) f (record { i = 0; j = k }) ≡ true)
+      × (proposed C k t A out .recording ≡ over (recordingOf C k A) out)
+  accepted-is-extension = checked.accepted-extends C k t f is
+
+-- a file written is read back equal, wherever there is room,
+pub written-read-back : (s : Sizes) (variables marks : List ℕ) → Words (fiveOf s) → Words variables → asked (arrayQuestions s variables marks) No Yes ≡ Yes
+    → (sizes′ variables′ marks′ : List ℕ) → fileRead (fileOf (fiveOf s) variables marks) sizes′ variables′ marks′
+    ≡ asked (askRoom (s .literals) (length sizes′) (length variables′) (length marks′) ∷ []) (refused sizes′ variables′ marks′) (written (fiveOf s) variables marks sizes′ variables′ marks′)
+written-read-back = read-written
+
+-- and a file that is read is written back equal
+pub read-written-back : (file : List ℕ) → Octets file → asked (fileQuestions file) No Yes ≡ Yes
+    → (file′ : List ℕ) → fileWritten (sizesAt file) (variablesAt file) (marksAt file) file′
+    ≡ asked (askFileRoom (sizesAt file .literals) (length file′) ∷ []) (fileRefused file′) (record { answer = Done; file = over file file′ })
+read-written-back = write-read
+
+-- a table that is written is one that the file's writer takes
+pub table-is-file : (C k : ℕ) (t : List ℕ) → acceptOf C k t ≡ Yes → (file : List ℕ) → fileLength (length (placesIn C k t)) ≤ length file
+    → fileWritten (sizesBy (sizesIn C k t)) (variablesIn (placesIn C k t)) (marksIn (placesIn C k t)) file
+    ≡ record { answer = Done; file = over (fileOf (sizesIn C k t) (variablesIn (placesIn C k t)) (marksIn (placesIn C k t))) file }
+table-is-file = table-written
