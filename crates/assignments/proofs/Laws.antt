@@ -2,8 +2,8 @@
 -- The extension's values stand where the gates look for them; the channels and the gates leave no other; the last clause asks for the root.
 use mathlib.Core.Path.{_≡_, sym, ap, _∙_, subst}
 use mathlib.Core.Logic.{_↔_}
-use mathlib.Core.Bool.{Bool, true, false, _||_, and-true, or-false, and-eq-true-iff}
-use mathlib.Core.List.{List, [], _∷_}
+use mathlib.Core.Bool.{true, false, _||_, and-true, or-false, and-eq-true-iff}
+use mathlib.Core.List.{List}
 use Prim.Native.Nat.{ℕ, _+_, _-_, _*_, _^_, _<_}
 use native.Mathlib.Omega.{arith}
 use lib.Dec.{eqb}
@@ -21,11 +21,11 @@ use Rattle.circuit.specs.Gates.{Assignment}
 use Rattle.circuit.specs.Circuit.{channelOf, variablesOf, truthOf, definitionsOf, rootOf}
 use Rattle.circuit.proofs.Lists.{all-rows, all-at}
 use Rattle.circuit.proofs.Blocks.{From}
-use Rattle.clauses.specs.Clauses.{plain, clausesBy, clauseTable, meetsClause, meetsAll}
+use Rattle.clauses.specs.Clauses.{clausesBy, clauseTable, meetsClause, meetsAll}
 use Rattle.clauses.proofs.Meets.{meets-append, meets-by}
 use Rattle.clause_table.proofs.Laws.{root-in-range}
-use Rattle.assignments.specs.Extension.{valueIn, channelValues, nodeValues, extensionOf, recordingBy, recordingOf}
-use Rattle.assignments.proofs.Values.{EachBelow, node-bits, channels-length, extension-length}
+use Rattle.assignments.specs.Extension.{valueIn, channelValues, nodeValues, extensionOf, recordingBy, recordingOf, EachBelow, MeetsButLast, meetsLast}
+use Rattle.assignments.proofs.Values.{node-bits, channels-length, extension-length}
 use Rattle.assignments.proofs.Meets.{Spells, spells-append, spells-row, spelled, on-intervals, part-true, nodes-meet}
 use Rattle.assignments.proofs.Only.{same-channels}
 use Rattle.assignments.proofs.Recordings.{recording-channels, recording-only}
@@ -64,16 +64,8 @@ module _ (C k : ℕ) (recording : List ℕ) (l : List Node) where
   recording-back e h = recording-only C k extension recording e h (λ t c o n. extension-channels t c o n)
 
 module _ (C k : ℕ) (f : Tree Formula) where
-  -- "meets all clauses but the last"
-  abbrev pub MeetsButLast : Assignment → Type 0
-  MeetsButLast a = meetsAll a (clausesBy (definitionsOf C k (nodesOf f 0))) ≡ true
-
-  -- "The last clause is the root on [0, k], alone."
-  abbrev pub meetsLast : Assignment → Bool
-  meetsLast a = meetsClause a (plain (rootOf C k f) ∷ [])
-
   -- the extension meets all clauses but the last
-  pub extension-meets : Letters C f → (recording : List ℕ) → MeetsButLast (valueIn (extensionOf C k recording (nodesOf f 0)))
+  pub extension-meets : Letters C f → (recording : List ℕ) → MeetsButLast C k f (valueIn (extensionOf C k recording (nodesOf f 0)))
   unfolding definitionsOf
   extension-meets L recording =
       let l = nodesOf f 0 in
@@ -81,7 +73,7 @@ module _ (C k : ℕ) (f : Tree Formula) where
       (nodes-meet (extension C k recording l) C k recording (extension-channels C k recording l) f (1 + k * C) L (both-spelled C k recording l .1))
 
   -- and the last exactly where the formula holds of the recording
-  pub extension-last : (recording : List ℕ) → meetsLast (valueIn (extensionOf C k recording (nodesOf f 0))) ≡ holds recording f (record { i = 0; j = k })
+  pub extension-last : (recording : List ℕ) → meetsLast C k f (valueIn (extensionOf C k recording (nodesOf f 0))) ≡ holds recording f (record { i = 0; j = k })
   unfolding meetsClause rootOf
   extension-last recording =
       let a = extension C k recording (nodesOf f 0) in
@@ -90,7 +82,7 @@ module _ (C k : ℕ) (f : Tree Formula) where
 
   module _ (L : Letters C f) (recording : List ℕ) where
     -- an assignment that extends the recording and meets all clauses but the last has the extension's values, from variable 1 to V
-    pub extension-agrees : (a : Assignment) → ((t c : ℕ) → t < k → c < C → a (channelOf C t c) ≡ channelAt recording c t) → MeetsButLast a
+    pub extension-agrees : (a : Assignment) → ((t c : ℕ) → t < k → c < C → a (channelOf C t c) ≡ channelAt recording c t) → MeetsButLast C k f a
         → (v : ℕ) → From 1 (variablesOf C k (nodesOf f 0)) v → a v ≡ valueIn (extensionOf C k recording (nodesOf f 0)) v
     extension-agrees a h m =
         let l = nodesOf f 0 in
@@ -99,7 +91,7 @@ module _ (C k : ℕ) (f : Tree Formula) where
 
     -- so of V bytes it is the extension
     pub extension-only : (A : List ℕ) → length A ≡ variablesOf C k (nodesOf f 0) → EachBelow 2 A
-        → ((t c : ℕ) → t < k → c < C → valueIn A (channelOf C t c) ≡ channelAt recording c t) → MeetsButLast (valueIn A)
+        → ((t c : ℕ) → t < k → c < C → valueIn A (channelOf C t c) ≡ channelAt recording c t) → MeetsButLast C k f (valueIn A)
         → A ≡ extensionOf C k recording (nodesOf f 0)
     extension-only A e b h m =
         let E = extensionOf C k recording (nodesOf f 0) in
@@ -109,7 +101,7 @@ module _ (C k : ℕ) (f : Tree Formula) where
         ∙ ap bit (sym (value-at A i) ∙ extension-agrees (valueIn A) h m (1 + i) (omega arith) ∙ value-at E i)
         ∙ sym (as-bit (getD E i 0) (all-at _ E 0 (extension-bits C k recording (nodesOf f 0)) i (omega arith))))
 
-  meets-table : (a : Assignment) → (meetsAll a (clauseTable C k f) ≡ true) ↔ (MeetsButLast a × (meetsLast a ≡ true))
+  meets-table : (a : Assignment) → (meetsAll a (clauseTable C k f) ≡ true) ↔ (MeetsButLast C k f a × (meetsLast C k f a ≡ true))
   unfolding clauseTable meetsAll
   meets-table a = rw (meets-append a (clausesBy (definitionsOf C k (nodesOf f 0))), and-true) (and-eq-true-iff _ _)
 

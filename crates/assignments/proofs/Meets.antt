@@ -9,7 +9,7 @@ use lib.Dec.{eqb}
 use lib.ListN.{length, getD, length-append, List·getD-append}
 use lib.Seq.{getD-append-add}
 use borrow.Author.Tests.{le-leb, eqb-true, eqb-false}
-use Rattle.interval.specs.Listing.{rows}
+use Rattle.interval.specs.Listing.{rows, All}
 use Rattle.interval.specs.Places.{countOf, placeOf, triplePlaceOf, intervalsOf, triplesOf}
 use Rattle.interval.specs.Limits.{IntervalOf, TripleOf}
 use Rattle.interval.specs.declared.Interval.{Interval}
@@ -21,7 +21,7 @@ use Rattle.grammar.specs.declared.Sort.{Sort}
 use Rattle.grammar.specs.declared.Sort.the-variants.{Formula}
 use Rattle.grammar.proofs.Bytes.{cond-elim}
 use Rattle.formula.specs.Nodes.{nodesOf}
-use Rattle.formula.proofs.Lists.{All, all-append}
+use Rattle.formula.proofs.Lists.{all-append}
 use Rattle.meaning.specs.Meaning.{bit, channelAt, highs, any, lasts, fills, chops, truth}
 use Rattle.word.proofs.Words.{high-bit}
 use Rattle.circuit.specs.Gates.{Assignment, valueOf}

@@ -4,11 +4,11 @@ use mathlib.Core.Path.{_≡_, sym, _∙_}
 use mathlib.Core.List.{List, [], _∷_}
 use Prim.Native.Nat.{ℕ, _-_, _*_, _<_}
 use native.Mathlib.Omega.{arith}
+use Rattle.interval.specs.Listing.{All}
 use Rattle.interval.proofs.Listing.{row-of}
 use Rattle.grammar.specs.Trees.{Tree, Letters}
 use Rattle.grammar.specs.declared.Sort.the-variants.{Formula}
 use Rattle.formula.specs.Nodes.{nodesOf}
-use Rattle.formula.proofs.Lists.{All}
 use Rattle.circuit.specs.Gates.{Assignment}
 use Rattle.circuit.specs.Circuit.{channelOf, variablesOf, Definition, definitionsOf}
 use Rattle.circuit.proofs.Blocks.{From}

@@ -18,8 +18,7 @@ use Rattle.word.proofs.Words.{digit, Packed, packed-add}
 use Rattle.circuit.specs.Gates.{Assignment}
 use Rattle.circuit.specs.Circuit.{channelOf}
 use Rattle.circuit.proofs.Lists.{all-rows, all-at}
-use Rattle.assignments.specs.Extension.{recordingBy}
-use Rattle.assignments.proofs.Values.{EachBelow}
+use Rattle.assignments.specs.Extension.{recordingBy, EachBelow}
 
 -- the number whose first n bits are f
 abbrev packed : (ℕ → Bool) → ℕ → ℕ

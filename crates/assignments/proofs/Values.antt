@@ -18,14 +18,14 @@ use Rattle.grammar.specs.Trees.{and, or, chop, Tree, constant, letter, negation
 use Rattle.grammar.specs.declared.Sort.{Sort}
 use Rattle.grammar.specs.declared.Sort.the-variants.{State, Formula}
 use Rattle.formula.specs.Nodes.{Node, nodesOf}
-use Rattle.formula.proofs.Lists.{All, all-append, flat-append}
+use Rattle.formula.proofs.Lists.{all-append, flat-append}
 use Rattle.meaning.specs.Meaning.{bit, channelAt, Point, truth}
 use Rattle.word.proofs.Words.{bit-lt}
 use Rattle.circuit.specs.Circuit.{pointsOf, widthOf, blocksOf, variablesOf, truthOf}
 use Rattle.circuit.proofs.Lists.{all-rows, all-mapped}
 use Rattle.circuit.proofs.Blocks.{partsOf, bare, by-parts, truth-fits}
 use Rattle.circuit.proofs.Inputs.{intervals-in, triples-in}
-use Rattle.assignments.specs.Extension.{channelValues, truthValues, cuts, cutValues, blockValues, nodeValues, extensionOf}
+use Rattle.assignments.specs.Extension.{channelValues, truthValues, cuts, cutValues, blockValues, nodeValues, extensionOf, EachBelow}
 
 -- ---- lists of things by their places, and rows of one width
 
@@ -75,10 +75,6 @@ truth-tab s k g x h =
     ext-getD 0 _ _ (n ∙ sym (truth-length s k g)) (λ e l.
     let m : e < pointsOf s k = omega (arith, n) in
     getD-tab (pointsOf s k) x e 0 m ∙ h e m ∙ sym (truth-at s k g e m))
-
--- each byte is below n, of an assignment 2: "one byte a variable, 0 or 1"
-abbrev pub EachBelow : ℕ → List ℕ → Type 0
-EachBelow n A = All (λ b. b < n) A
 
 truth-bits : (s : Sort) (k : ℕ) (f : Point s → Bool) → EachBelow 2 (truthValues s k f)
 truth-bits State k f = all-rows _ k _ (λ t h. (bit-lt (f t), tt))

@@ -1,20 +1,22 @@
 -- Document 01, "Variables": an assignment, the one that extends a recording, block by block, and the recording read from an assignment.
-use mathlib.Core.Bool.{Bool, _&&_}
-use mathlib.Core.List.{List, _++_, map, flatMap}
-use Prim.Native.Nat.{ℕ, suc, _-_, _*_, _^_}
+use mathlib.Core.Path.{_≡_}
+use mathlib.Core.Bool.{Bool, true, _&&_}
+use mathlib.Core.List.{List, [], _∷_, _++_, map, flatMap}
+use Prim.Native.Nat.{ℕ, suc, _-_, _*_, _^_, _<_}
 use lib.Dec.{eqb}
 use lib.ListN.{getD}
-use Rattle.interval.specs.Listing.{rows, tab, sum}
+use Rattle.interval.specs.Listing.{rows, tab, All, sum}
 use Rattle.interval.specs.Places.{intervalsOf, triplesOf}
 use Rattle.interval.specs.declared.Interval.{Interval}
 use Rattle.interval.specs.declared.Triple.{Triple}
 use Rattle.grammar.specs.Trees.{Tree, duration}
 use Rattle.grammar.specs.declared.Sort.{Sort}
 use Rattle.grammar.specs.declared.Sort.the-variants.{State, Formula}
-use Rattle.formula.specs.Nodes.{Node, aLetter, aDuration, aChop, another, viewOf}
+use Rattle.formula.specs.Nodes.{Node, nodesOf, aLetter, aDuration, aChop, another, viewOf}
 use Rattle.meaning.specs.Meaning.{bit, channelAt, Point, truth}
 use Rattle.circuit.specs.Gates.{Assignment}
-use Rattle.circuit.specs.Circuit.{channelOf}
+use Rattle.circuit.specs.Circuit.{channelOf, definitionsOf, rootOf}
+use Rattle.clauses.specs.Clauses.{plain, clausesBy, meetsClause, meetsAll}
 
 -- "one byte a variable, 0 or 1": variable v is byte v − 1
 unfoldable pub valueIn : List ℕ → Assignment
@@ -63,3 +65,14 @@ recordingBy C k a = tab k (λ t. sum (λ c. bit (a (channelOf C t c)) * 2 ^ c) C
 
 abbrev pub recordingOf : ℕ → ℕ → List ℕ → List ℕ
 recordingOf C k A = recordingBy C k (valueIn A)
+
+-- each byte is below n, of an assignment 2: "one byte a variable, 0 or 1"
+abbrev pub EachBelow : ℕ → List ℕ → Type 0
+EachBelow n A = All (λ b. b < n) A
+
+-- "meets all clauses but the last"; "The last clause is the root on [0, k], alone."
+abbrev pub MeetsButLast : ℕ → ℕ → Tree Formula → Assignment → Type 0
+MeetsButLast C k f a = meetsAll a (clausesBy (definitionsOf C k (nodesOf f 0))) ≡ true
+
+abbrev pub meetsLast : ℕ → ℕ → Tree Formula → Assignment → Bool
+meetsLast C k f a = meetsClause a (plain (rootOf C k f) ∷ [])

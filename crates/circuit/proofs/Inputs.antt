@@ -9,7 +9,7 @@ use native.Mathlib.Nat.{suc-mul, mul-le-mul-right}
 use native.Mathlib.Omega.{arith}
 use lib.Dec.{eqb}
 use borrow.Author.Tests.{eqb-false}
-use Rattle.interval.specs.Listing.{rows, tab}
+use Rattle.interval.specs.Listing.{rows, tab, All}
 use Rattle.interval.specs.Places.{countOf, tripleCountOf, placeOf, triplePlaceOf, intervalsOf, triplesOf}
 use Rattle.interval.specs.Limits.{IntervalOf, TripleOf}
 use Rattle.interval.specs.declared.Interval.{Interval}
@@ -20,7 +20,7 @@ use Rattle.grammar.specs.declared.Sort.{Sort}
 use Rattle.grammar.specs.declared.Sort.the-variants.{State, Formula}
 use Rattle.grammar.proofs.Bytes.{cond-elim}
 use Rattle.formula.specs.Nodes.{nodesOf}
-use Rattle.formula.proofs.Lists.{All, all-append}
+use Rattle.formula.proofs.Lists.{all-append}
 use Rattle.circuit.specs.Gates.{inputsOf}
 use Rattle.circuit.specs.Circuit.{Definition, define, pointsOf, shorter, levelOf, widthOf, blocksOf, truthOf, throughoutGate, levelGate, tripleGate, chopGate, ownBy, ownOf}
 use Rattle.circuit.specs.declared.Gate.{Gate}

@@ -11,7 +11,8 @@ use Rattle.grammar.specs.Trees.{Tree, constant, letter, negation, pair, duratio
 use Rattle.grammar.specs.declared.Sort.{Sort}
 use Rattle.grammar.specs.declared.Sort.the-variants.{Formula}
 use Rattle.formula.specs.Nodes.{Node, node, nodesOf}
-use Rattle.formula.proofs.Lists.{All, all-append, all-map}
+use Rattle.interval.specs.Listing.{All}
+use Rattle.formula.proofs.Lists.{all-append, all-map}
 use Rattle.circuit.specs.Gates.{inputsOf}
 use Rattle.circuit.specs.Circuit.{Definition, widthOf, blocksOf, variablesOf, ownOf, definedFrom, definitionsOf}
 use Rattle.circuit.proofs.Lists.{all-split}

@@ -4,8 +4,8 @@ use mathlib.Core.List.{List, [], _∷_, _++_, map}
 use Prim.Native.Nat.{ℕ, zero, suc, _<_}
 use native.Mathlib.Omega.{arith}
 use lib.ListN.{length, getD}
-use Rattle.interval.specs.Listing.{rows}
-use Rattle.formula.proofs.Lists.{All, all-append}
+use Rattle.interval.specs.Listing.{rows, All}
+use Rattle.formula.proofs.Lists.{all-append}
 
 module _ {A : Type 0} (P : A → Type 0) where
   pub all-split : (l m : List A) → All P (l ++ m) → All P l × All P m

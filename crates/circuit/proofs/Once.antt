@@ -8,7 +8,7 @@ use native.Mathlib.Nat.{add-assoc, suc-mul, zero-mul}
 use native.Mathlib.Omega.{arith}
 use lib.Dec.{eqb}
 use borrow.Author.Tests.{eqb-true, eqb-false}
-use Rattle.interval.specs.Listing.{rows, tab}
+use Rattle.interval.specs.Listing.{rows, tab, All}
 use Rattle.interval.specs.Places.{countOf, tripleCountOf}
 use Rattle.interval.proofs.Listing.{map-rows}
 use Rattle.interval.proofs.Shape.{Numbered}
@@ -17,7 +17,6 @@ use Rattle.grammar.specs.Trees.{and, or, chop, Tree, constant, letter, negation
 use Rattle.grammar.specs.declared.Sort.{Sort}
 use Rattle.grammar.proofs.Bytes.{cond-elim}
 use Rattle.formula.specs.Nodes.{Node}
-use Rattle.formula.proofs.Lists.{All}
 use Rattle.circuit.specs.Circuit.{Definition, define, alike, pointsOf, widthOf, blocksOf, variablesOf, levelGate, tripleGate, chopGate, throughoutGate, Seats, ownBy, ownOf, definedFrom, definitionsOf}
 use Rattle.circuit.specs.declared.Gate.{Gate}
 use Rattle.circuit.proofs.Blocks.{From}

@@ -4,8 +4,7 @@ use mathlib.Core.Path.{_≡_, refl, ap, ap₂}
 use mathlib.Core.Bool.{not, _&&_, _||_}
 use mathlib.Core.List.{[], _∷_}
 use Prim.Native.Nat.{ℕ, zero, suc, _+_}
-use Rattle.interval.specs.Listing.{rows, tab}
-use Rattle.formula.proofs.Lists.{All}
+use Rattle.interval.specs.Listing.{rows, tab, All}
 use Rattle.meaning.specs.Meaning.{any}
 use Rattle.circuit.specs.Gates.{Assignment, valueOf, inputsOf}
 use Rattle.circuit.specs.declared.Gate.{Gate}

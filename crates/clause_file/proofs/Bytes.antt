@@ -7,16 +7,9 @@ use native.Mathlib.Omega.{arith}
 use lib.ListN.{length, getD, take, drop}
 use lib.Seq.{drop-cons, drop-drop, take-add, getD-append-add}
 use Rattle.interval.specs.Listing.{rows, tab}
-use Rattle.formula.proofs.Lists.{All, flat-append}
-use Rattle.clause_file.specs.File.{bytesOf, numberOf, numberAt}
+use Rattle.formula.proofs.Lists.{flat-append}
+use Rattle.clause_file.specs.File.{bytesOf, numberOf, numberAt, Words, Octets}
 use Rattle.clause_file.proofs.Stored.{four}
-
--- numbers of 32 bits, and bytes
-abbrev pub Words : List ℕ → Type 0
-Words l = All (λ n. n < 2 ^ 32) l
-
-abbrev pub Octets : List ℕ → Type 0
-Octets l = (i : ℕ) → getD l i 0 < 256
 
 -- ---- numbers from their bytes
 

@@ -19,13 +19,14 @@ use Rattle.grammar.specs.Reader.{Read}
 use Rattle.grammar.specs.declared.Sort.the-variants.{Formula}
 use Rattle.formula.specs.Nodes.{nodesOf}
 use Rattle.formula.specs.Questions.{askChannels, formulaQuestions, acceptOf}
-use Rattle.formula.proofs.Lists.{All, all-map}
+use Rattle.interval.specs.Listing.{All}
+use Rattle.formula.proofs.Lists.{all-map}
 use Rattle.formula.proofs.Laws.{all-yes, accepted}
 use Rattle.meaning.specs.Meaning.{bit, every, highs}
 use Rattle.circuit.specs.Circuit.{variablesOf}
 use Rattle.circuit.proofs.Lists.{all-at}
 use Rattle.circuit.proofs.Blocks.{From}
-use Rattle.clauses.specs.Clauses.{Literal, Clause, plain, clauseTable}
+use Rattle.clauses.specs.Clauses.{Literal, Clause, clauseTable}
 use Rattle.clauses.specs.Entries.{Entry, entriesOf, flat, variablesIn, marksIn}
 use Rattle.clauses.proofs.Good.{Full, full-table}
 use Rattle.clause_table.specs.Table.{fiveOf, sizesOf, onTree, sizesIn, placesIn, over}

@@ -1,8 +1,8 @@
 -- Document 01, "Clause file": the bytes of a table, and the table that bytes hold.
 use mathlib.Core.List.{List, [], _∷_, _++_, flatMap}
-use Prim.Native.Nat.{ℕ, _+_, _*_, _/_, _%_}
+use Prim.Native.Nat.{ℕ, _+_, _*_, _/_, _%_, _^_, _<_}
 use lib.ListN.{getD, drop}
-use Rattle.interval.specs.Listing.{tab}
+use Rattle.interval.specs.Listing.{tab, All}
 use Rattle.clause_table.specs.declared.Sizes.{Sizes}
 
 -- a number's byte of a weight; a number of 32 bits, "low byte first"
@@ -53,3 +53,10 @@ variablesAt file = tab (sizesAt file .literals) (λ e. numberAt file (20 + 4 * e
 
 unfoldable pub marksAt : List ℕ → List ℕ
 marksAt file = drop (20 + 4 * (sizesAt file .literals)) file
+
+-- numbers of 32 bits, and bytes
+abbrev pub Words : List ℕ → Type 0
+Words l = All (λ n. n < 2 ^ 32) l
+
+abbrev pub Octets : List ℕ → Type 0
+Octets l = (i : ℕ) → getD l i 0 < 256

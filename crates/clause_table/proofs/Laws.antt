@@ -19,7 +19,8 @@ use Rattle.grammar.specs.declared.Sort.the-variants.{Formula}
 use Rattle.grammar.proofs.Bytes.{cond-elim}
 use Rattle.formula.specs.Nodes.{Node, nodesOf}
 use Rattle.formula.specs.Questions.{acceptOf}
-use Rattle.formula.proofs.Lists.{All, all-append, all-map}
+use Rattle.interval.specs.Listing.{All}
+use Rattle.formula.proofs.Lists.{all-append, all-map}
 use Rattle.formula.proofs.Laws.{accepted}
 use Rattle.rows.specs.Table.{headOf}
 use Rattle.rows.proofs.Found.{state-numbers}

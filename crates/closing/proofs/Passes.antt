@@ -3,13 +3,13 @@
 use mathlib.Core.Path.{_≡_, refl, sym, ap, ap₂, _∙_}
 use mathlib.Core.Logic.{⊎-elim}
 use mathlib.Core.Bool.{true, false, _||_, true≢false, false≢true}
-use mathlib.Core.List.{List, [], flatMap}
+use mathlib.Core.List.{List, flatMap}
 use Prim.Native.Nat.{ℕ, _-_, _≤_, _<_}
 use native.Mathlib.Omega.{arith}
 use lib.Dec.{eqb}
 use lib.ListN.{length, drop-of-length-le}
 use borrow.Author.Tests.{eqb-true, eq-eqb}
-use Rattle.formula.proofs.Lists.{All}
+use Rattle.interval.specs.Listing.{All}
 use Rattle.clauses.specs.Entries.{readBack}
 use Rattle.closure.specs.Closure.{opposite, membersOf, membersIn}
 use Rattle.closure.specs.Runs.{clashes}

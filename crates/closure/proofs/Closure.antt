@@ -9,7 +9,8 @@ use Prim.Native.Nat.{ℕ, zero, suc, _+_, _≤_, _<_}
 use native.Mathlib.Omega.{arith}
 use lib.ListN.{length}
 use Rattle.grammar.proofs.Bytes.{both}
-use Rattle.formula.proofs.Lists.{All, all-append, all-map}
+use Rattle.interval.specs.Listing.{All}
+use Rattle.formula.proofs.Lists.{all-append, all-map}
 use Rattle.circuit.proofs.Lists.{all-split}
 use Rattle.meaning.specs.Meaning.{bit}
 use Rattle.clauses.specs.Clauses.{Literal, Clause}

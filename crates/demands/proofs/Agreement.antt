@@ -4,15 +4,13 @@
 use mathlib.Core.Path.{_≡_, sym, _∙_}
 use mathlib.Core.List.{List}
 use Prim.Native.Nat.{ℕ}
+use Rattle.clause_file.specs.File.{Octets}
 use Rattle.nodes.specs.Calls.{nodePlaceOf}
-use Rattle.nodes.specs.declared.Located.{Located}
 use Rattle.evaluator.specs.Evaluation.{evaluated}
-use Rattle.evaluator.specs.declared.Verdict.{Verdict}
-use Rattle.clause_table.specs.Table.{After, tabled}
+use Rattle.clause_table.specs.Table.{tabled}
 use Rattle.clause_table.specs.declared.Sizes.{Sizes}
-use Rattle.assignments.specs.Calls.{Extended, extended, Proposed, proposed}
-use Rattle.clause_file.specs.Calls.{FileAfter, fileWritten, fileRead}
-use Rattle.clause_file.proofs.Bytes.{Octets}
+use Rattle.assignments.specs.Calls.{extended, proposed}
+use Rattle.clause_file.specs.Calls.{fileWritten, fileRead}
 use Rattle.file_line.specs.Output.{outputOf}
 use Rattle.demands.specs.Demand2.{Evaluates, Locates, Tables, Extends, Checks, Writes, Reads, Outputs}
 use Rattle.demands.specs.Demand3.{Arrays, Search, Searches}

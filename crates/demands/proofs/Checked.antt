@@ -2,9 +2,9 @@
 -- clause, and that one turns on the formula; and what the check accepts is the extension of the recording that it hands out.
 use mathlib.Core.Path.{_≡_, refl, sym, ap, _∙_, subst}
 use mathlib.Core.Logic.{_↔_, ⊎-elim}
-use mathlib.Core.Bool.{Bool, true, false, cond, _&&_, _||_, false≢true}
+use mathlib.Core.Bool.{Bool, true, false, cond, _&&_, false≢true}
 use mathlib.Core.List.{List, [], _∷_, _++_}
-use Prim.Native.Nat.{ℕ, suc, _+_, _-_, _^_, _<_, _≤_}
+use Prim.Native.Nat.{ℕ, suc, _+_, _-_, _^_, _≤_}
 use native.Mathlib.Omega.{arith}
 use lib.Dec.{ltb}
 use lib.ListN.{length, length-append}
@@ -26,14 +26,13 @@ use Rattle.circuit.specs.Circuit.{variablesOf, definitionsOf, rootOf}
 use Rattle.clauses.specs.Clauses.{Clause, plain, clausesBy, clauseTable, meetsClause, meetsAll}
 use Rattle.clause_table.specs.Table.{over}
 use Rattle.evaluator.specs.Evaluation.{notBelow, askBelow}
-use Rattle.assignments.specs.Extension.{valueIn, extensionOf, recordingOf}
+use Rattle.assignments.specs.Extension.{valueIn, extensionOf, recordingOf, EachBelow, meetsLast}
 use Rattle.assignments.specs.Calls.{askAssignment, askValues, askClauses, askPlaces, Proposed, notAccepted, proposed}
-use Rattle.assignments.specs.declared.Checked.the-variants.{Accepted, Refused}
-use Rattle.assignments.proofs.Values.{EachBelow}
-use Rattle.assignments.proofs.Laws.{meetsLast, extension-last, extension-only, holds-meets, accepted-exactly}
+use Rattle.assignments.specs.declared.Checked.the-variants.{Accepted}
+use Rattle.assignments.proofs.Laws.{extension-last, extension-only, holds-meets, accepted-exactly}
 use Rattle.demands.specs.Calls.{IsText, formulaReplies}
-use Rattle.demands.specs.Demand2.{ExtensionOf, RecordingOf}
-use Rattle.demands.proofs.Obeyed.{yes-both, letters-in}
+use Rattle.demands.specs.Demand2.{ExtensionOf}
+use Rattle.demands.proofs.Obeyed.{yes-both, one-yes, letters-in}
 use Rattle.demands.proofs.Answers.{one-recording, proposed-obeys}
 
 -- ---- replies
@@ -54,9 +53,6 @@ no-next {q} {Q} {r} e h = subst (λ (q : Reply). FirstNo (q ∷ Q) r) (sym e) (l
 
 no-here : {q : Reply} {Q : List Reply} {r : Refusal} → q ≡ No r → FirstNo (q ∷ Q) r
 no-here {q} {Q} {r} e = subst (λ (q : Reply). FirstNo (q ∷ Q) r) (sym e) here
-
-one-yes : {q : Reply} {Q : List Reply} → AllYes (q ∷ Q) → (q ≡ Yes) × AllYes Q
-one-yes (yes-then h) = (refl, h)
 
 -- ---- questions 13 and 14
 

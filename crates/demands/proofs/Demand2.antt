@@ -1,12 +1,11 @@
 -- DEMAND 2, of every text, C, k, recording, assignment, table and file: what our calls' answers say. Each line cites the theorem behind it.
 -- The calls are proved to answer by these definitions (`evaluated`, `tabled`, ..), so whatever is said of a definition holds of the call.
-use mathlib.Core.Path.{_≡_, refl}
+use mathlib.Core.Path.{_≡_}
 use mathlib.Core.Bool.{true, false}
 use mathlib.Core.List.{List, [], _∷_, _++_}
 use Prim.Native.Nat.{ℕ, _-_, _^_, _≤_}
 use lib.ListN.{length}
 use Rattle.refusal.specs.Asked.{asked, AllYes}
-use Rattle.refusal.specs.declared.Reply.{Reply}
 use Rattle.refusal.specs.declared.Reply.the-variants.{Yes, No}
 use Rattle.interval.specs.Limits.{askInterval}
 use Rattle.grammar.specs.Trees.{Tree}
@@ -17,19 +16,16 @@ use Rattle.meaning.specs.Meaning.{holds}
 use Rattle.circuit.specs.Circuit.{variablesOf}
 use Rattle.clauses.specs.Clauses.{clauseTable}
 use Rattle.clauses.specs.Entries.{flat, variablesIn, marksIn}
-use Rattle.clause_table.specs.Table.{sizesOf, sizesIn, placesIn, fiveOf, askRoom, over, After, refused, written, writtenTable, tabled}
+use Rattle.clause_table.specs.Table.{sizesOf, sizesIn, placesIn, fiveOf, askRoom, over, refused, written, writtenTable, tabled}
 use Rattle.clause_table.specs.declared.Sizes.{Sizes}
 use Rattle.clause_table.specs.declared.Written.the-variants.{Done}
 use Rattle.evaluator.specs.Evaluation.{askRecording, askBytes, verdictOf, evaluated}
-use Rattle.assignments.specs.Extension.{valueIn, extensionOf, recordingOf}
+use Rattle.assignments.specs.Extension.{valueIn, extensionOf, recordingOf, EachBelow, meetsLast}
 use Rattle.assignments.specs.Calls.{askPlaces, extended, notAccepted, proposed}
 use Rattle.assignments.specs.declared.Checked.the-variants.{Accepted}
-use Rattle.assignments.proofs.Values.{EachBelow}
-use Rattle.assignments.proofs.Laws.{meetsLast}
-use Rattle.clause_file.specs.File.{fileOf, fileLength, sizesBy, sizesAt, variablesAt, marksAt}
+use Rattle.clause_file.specs.File.{fileOf, fileLength, sizesBy, sizesAt, variablesAt, marksAt, Words, Octets}
 use Rattle.clause_file.specs.Questions.{askFileRoom}
-use Rattle.clause_file.specs.Calls.{FileAfter, fileRefused, arrayQuestions, fileWritten, fileQuestions, fileRead}
-use Rattle.clause_file.proofs.Bytes.{Words, Octets}
+use Rattle.clause_file.specs.Calls.{fileRefused, arrayQuestions, fileWritten, fileQuestions, fileRead}
 use Rattle.clause_file.proofs.Laws.{read-written, write-read}
 use Rattle.clause_file.proofs.Writable.{table-written}
 use Rattle.demands.specs.Calls.{IsText, formulaReplies}

@@ -1,12 +1,13 @@
 -- DEMAND 3, of every accepted formula, C, k and B: what the search's answer says. Each line cites the theorem behind it; the sentences are
 -- the fields of `Draws` (specs/Demand3.antt). The call is proved to answer by `searched`, so what is said of it holds of the call.
-use mathlib.Core.Path.{_≡_, ap, _∙_, sym}
+use mathlib.Core.Path.{_≡_, _∙_, sym}
 use mathlib.Core.Logic.{_⊎_, _≢_}
 use mathlib.Core.Bool.{true, false}
-use mathlib.Core.List.{List, [], _∷_, _++_}
+use mathlib.Core.List.{List, _++_}
 use Prim.Native.Nat.{ℕ, _+_, _-_, _*_, _^_, _≤_}
 use native.Mathlib.Omega.{arith}
 use lib.ListN.{length}
+use Rattle.assignments.specs.Extension.{EachBelow}
 use Rattle.refusal.specs.Asked.{AllYes, FirstNo}
 use Rattle.refusal.specs.declared.Refusal.{Refusal}
 use Rattle.grammar.specs.Trees.{Tree}
@@ -15,10 +16,10 @@ use Rattle.search.specs.Search.{earlier, treeOf, unwritten, searched}
 use Rattle.search.specs.declared.Answer.the-variants.{Refused}
 use Rattle.search.proofs.Order.{order-one-way, order-either}
 use Rattle.search.proofs.Outcome.{trials-bound}
-use Rattle.assignments.proofs.Values.{EachBelow}
-use Rattle.demands.specs.Calls.{IsText, Ungrammatical, formulaReplies, otherReplies}
-use Rattle.demands.specs.Demand3.{Trials, Draws, Arrays, lengths}
-use Rattle.demands.proofs.Search.{own, ours-obeys, trials-are, trials-one}
+use Rattle.demands.specs.Calls.{IsText, Ungrammatical, formulaReplies}
+use Rattle.demands.specs.Demand3.{Trials, Draws, Arrays}
+use Rattle.demands.proofs.Obeyed.{otherReplies}
+use Rattle.demands.proofs.Search.{lengths, own, ours-obeys, trials-are, trials-one}
 
 -- "Of two different recordings of equal C and k" one "comes earlier in the order", and not both
 pub one-earlier : (C k : ℕ) (r s : List ℕ) → length r ≡ k → EachBelow (2 ^ C) r → length s ≡ k → EachBelow (2 ^ C) s → r ≢ s

@@ -21,20 +21,20 @@ use Rattle.clauses.specs.Entries.{flat, variablesIn, marksIn}
 use Rattle.clause_table.specs.Table.{onTree, sizesOf, sizesIn, placesIn, fiveOf, askRoom, After, refused, written}
 use Rattle.clause_table.specs.declared.Sizes.{Sizes}
 use Rattle.clause_table.specs.declared.Written.the-variants.{Done, Refused}
-use Rattle.clause_file.specs.File.{bytesOf, fileOf, numberAt, sizesAt, variablesAt, marksAt}
+use Rattle.clause_file.specs.File.{bytesOf, fileOf, numberAt, sizesAt, variablesAt, marksAt, Words, Octets}
 use Rattle.clause_file.specs.Questions.{askArrays, entryQuestions}
 use Rattle.clause_file.specs.Held.{Held}
 use Rattle.clause_file.specs.Calls.{FileAfter, fileWritten, fileQuestions, fileRead}
 use Rattle.clause_file.proofs.Stored.{variables-count, marks-count}
 use Rattle.clause_file.proofs.Asking.{file-held}
-use Rattle.clause_file.proofs.Bytes.{Words, Octets, all-bytes-back}
+use Rattle.clause_file.proofs.Bytes.{all-bytes-back}
 use Rattle.clause_file.proofs.Laws.{read-written}
 use Rattle.demands.specs.Calls.{Obeys}
 use Rattle.file_line.specs.Line.{Line, line, other, lineOf, readLine}
 use Rattle.file_line.specs.Output.{askLiterals, outputFor, outputOf}
 use Rattle.file_line.proofs.Laws.{line-reads-back, line-is}
 use Rattle.demands.specs.Demand2.{Writes, FileOf, Reads, Outputs}
-use Rattle.demands.proofs.Obeyed.{yes-both, asked-follows, follows-two, reads-as, asked-obeys, obeys-same}
+use Rattle.demands.proofs.Obeyed.{yes-both, one-yes, asked-follows, follows-two, reads-as, asked-obeys, obeys-same}
 
 -- ---- the file's writer
 
@@ -56,11 +56,8 @@ module _ (file : List ℕ) (o : Octets file) (y : AllYes (fileQuestions file)) w
   abbrev S : Sizes
   S = sizesAt file
 
-  one-yes : {q : Reply} (Q : List Reply) → AllYes (q ∷ Q) → (q ≡ Yes) × AllYes Q
-  one-yes Q (yes-then h) = (refl, h)
-
   held : Held file S
-  held = file-held file (one-yes _ y .0) refl
+  held = file-held file (one-yes y .0) refl
 
   arrays-yes : askArrays (S .literals) (length (variablesAt file)) (length (marksAt file)) ≡ Yes
   unfolding askArrays
@@ -86,7 +83,7 @@ module _ (file : List ℕ) (o : Octets file) (y : AllYes (fileQuestions file)) w
   file-of = record {
     sizes = five-small;
     numbers = numbers-small;
-    taken = subst (λ (q : Reply). AllYes (q ∷ entryQuestions S (variablesAt file) (marksAt file))) (sym arrays-yes) (yes-then (one-yes _ y .1));
+    taken = subst (λ (q : Reply). AllYes (q ∷ entryQuestions S (variablesAt file) (marksAt file))) (sym arrays-yes) (yes-then (one-yes y .1));
     is = bytes-back;
   }
 

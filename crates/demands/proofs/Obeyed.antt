@@ -20,13 +20,16 @@ use Rattle.grammar.proofs.Laws.{prints-as-text, stops-at-place}
 use Rattle.formula.specs.Nodes.{Node, nodesIn}
 use Rattle.formula.specs.Questions.{askChannels, askLength, askGrammar, askLetters, askNumbers, askNodes, formulaQuestions, acceptOf, onRead}
 use Rattle.formula.proofs.Laws.{Accepted, accepted, nodes-read}
-use Rattle.demands.specs.Calls.{IsText, Ungrammatical, Follows, formulaReplies, otherReplies, Obeys}
+use Rattle.demands.specs.Calls.{IsText, Ungrammatical, Follows, formulaReplies, Obeys}
 
 -- ---- questions one after another
 
 pub yes-both : (p q : List Reply) → AllYes (p ++ q) → AllYes p × AllYes q
 yes-both [] q h = (none-left, h)
 yes-both (Yes ∷ p) q (yes-then h) = let w = yes-both p q h in (yes-then (w .0), w .1)
+
+pub one-yes : {q : Reply} {Q : List Reply} → AllYes (q ∷ Q) → (q ≡ Yes) × AllYes Q
+one-yes (yes-then h) = (refl, h)
 
 first-front : {p : List Reply} (q : List Reply) {r : Refusal} → FirstNo p r → FirstNo (p ++ q) r
 first-front q here = here
@@ -88,6 +91,10 @@ stops-there t p u = go (read t) refl
     go (stopped q) e = ap stopped (one-place t q p (stops-at-place t q e) (u .place))
 
 -- ---- the formula's questions
+
+-- the replies to 1 to 4 where the text is no formula's
+abbrev pub otherReplies : ℕ → ℕ → List ℕ → ℕ → List Reply
+otherReplies C k t p = askChannels C ∷ askSteps k ∷ askLength t ∷ No (record { number = 4; place = p }) ∷ []
 
 module _ (C k : ℕ) (t : List ℕ) where
   pub formula-asked : (f : Tree Formula) → IsText t f → formulaQuestions C k t ≡ formulaReplies C k t f

@@ -25,14 +25,15 @@ use Rattle.closure.specs.Runs.{dead, Run, highIn}
 use Rattle.closure.specs.Tree.{closure, Trial, trial}
 use Rattle.closure.proofs.Closure.{closure-is, closure-one}
 use Rattle.closure.proofs.Runs.{tree-runs, tree-run}
-use Rattle.search.specs.Search.{askLent, treeOf, treeIn, Searched, unwritten, limited, searched, Unchanged}
+use Rattle.search.specs.Search.{lentOf, askLent, treeOf, treeIn, Searched, unwritten, limited, searched, Unchanged, countIn}
+use Rattle.search.specs.declared.Lent.{Lent}
 use Rattle.search.specs.declared.Answer.{Answer}
 use Rattle.search.specs.declared.Answer.the-variants.{Found, None, Spent, Refused}
 use Rattle.search.proofs.Order.{order-one-way}
 use Rattle.search.proofs.Outcome.{dead-none, found-satisfies, found-earliest}
-use Rattle.search.proofs.Ends.{countIn, End, finds, lacks, spends, end, found-first, found-within, none-within, spent-beyond, count-least, only-found-writes}
+use Rattle.search.proofs.Ends.{End, finds, lacks, spends, end, found-first, found-within, none-within, spent-beyond, count-least, only-found-writes}
 use Rattle.demands.specs.Calls.{IsText, formulaReplies, Obeys}
-use Rattle.demands.specs.Demand3.{Trials, Earliest, Draws, Arrays, Search, lengths, Searches}
+use Rattle.demands.specs.Demand3.{Trials, Earliest, Draws, Arrays, Search, Searches}
 use Rattle.demands.proofs.Obeyed.{yes-both, reads-as, letters-in, asked-obeys, obeys-two, obeys-through}
 
 -- ---- N
@@ -102,12 +103,16 @@ module _ (C k B : ℕ) (before : List ℕ) (f : Tree Formula) (L : Letters C f) 
       let m : p .0 ≡ B = sym (ap countIn (p .1)) ∙ d .count ∙ min-eq-right g in
       (p .1 ∙ ap Spent m, d .kept (λ n q. let z : _≡_ {A = ℕ} 0 1 = cc (p .1, q) in absurd (omega arith)))
 
-never-refused : {C k B : ℕ} {before : List ℕ} {t : Trial} {x : Searched} → End C k B before t x → (r : Refusal) → x .answer ≡ Refused r → ⊥
+pub never-refused : {C k B : ℕ} {before : List ℕ} {t : Trial} {x : Searched} → End C k B before t x → (r : Refusal) → x .answer ≡ Refused r → ⊥
 never-refused (finds S e l) r q = let z : _≡_ {A = ℕ} 0 1 = cc in omega arith
 never-refused (lacks e l) r q = let z : _≡_ {A = ℕ} 0 1 = cc in omega arith
 never-refused (spends l) r q = let z : _≡_ {A = ℕ} 0 1 = cc in omega arith
 
 -- ---- the call
+
+-- the lengths of the lent arrays
+abbrev pub lengths : Arrays → Lent
+lengths x = lentOf (x .variables) (x .marks) (x .values) (x .trail) (x .recording)
 
 -- two searches: one answer, one recording, and where it is refused every array
 pub record Alike (x y : Search) : Type 0 where

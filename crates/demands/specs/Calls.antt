@@ -27,15 +27,13 @@ pub record Follows {A : Type 0} (questions : List Reply) (refused : Refusal → 
   pub first-no : (r : Refusal) → FirstNo questions r → x ≡ refused r
   pub all-yes : AllYes questions → Right x
 
--- the replies to 1 to 7, where the text is a formula's and where it is none's
+-- the replies to 1 to 7 where the text is a formula's
 abbrev pub formulaReplies : ℕ → ℕ → List ℕ → Tree Formula → List Reply
 formulaReplies C k t f =
     let l = nodesOf f 0 in askChannels C ∷ askSteps k ∷ askLength t ∷ Yes ∷ askLetters C l ∷ askNumbers l ∷ askNodes l ∷ []
 
-abbrev pub otherReplies : ℕ → ℕ → List ℕ → ℕ → List Reply
-otherReplies C k t p = askChannels C ∷ askSteps k ∷ askLength t ∷ No (record { number = 4; place = p }) ∷ []
-
--- a call on a text: 1 to 7 and then its own, which may turn on the formula
+-- a call on a text: 1 to 7 and then its own, which may turn on the formula; where the text is none's, 4 is the last that it asks
 pub record Obeys {A : Type 0} (C k : ℕ) (t : List ℕ) (own : Tree Formula → List Reply) (refused : Refusal → A) (Right : Tree Formula → A → Type 0) (x : A) : Type 0 where
   pub of-formula : (f : Tree Formula) → IsText t f → Follows (formulaReplies C k t f ++ own f) refused (Right f) x
-  pub of-other : (p : ℕ) → Ungrammatical t p → Follows (otherReplies C k t p) refused (λ y. ⊥) x
+  pub of-other : (p : ℕ) → Ungrammatical t p
+      → Follows (askChannels C ∷ askSteps k ∷ askLength t ∷ No (record { number = 4; place = p }) ∷ []) refused (λ y. ⊥) x

@@ -17,21 +17,18 @@ use Rattle.meaning.specs.Meaning.{channelAt, holds}
 use Rattle.circuit.specs.Circuit.{channelOf, variablesOf}
 use Rattle.clauses.specs.Clauses.{clauseTable}
 use Rattle.clauses.specs.Entries.{flat, variablesIn, marksIn}
-use Rattle.clause_table.specs.Table.{sizesOf, fiveOf, askRoom, over, After, refused, written, writtenTable}
+use Rattle.clause_table.specs.Table.{sizesOf, fiveOf, askRoom, over, After, refused, written}
 use Rattle.clause_table.specs.declared.Sizes.{Sizes}
 use Rattle.clause_table.specs.declared.Written.the-variants.{Done}
 use Rattle.evaluator.specs.Evaluation.{askRecording, askBytes, verdictOf}
 use Rattle.evaluator.specs.declared.Verdict.{Verdict}
 use Rattle.evaluator.specs.declared.Verdict.the-variants as verdict
-use Rattle.assignments.specs.Extension.{valueIn}
+use Rattle.assignments.specs.Extension.{valueIn, EachBelow, MeetsButLast}
 use Rattle.assignments.specs.Calls.{askAssignment, askValues, askClauses, askPlaces, Extended, notExtended, Proposed, notAccepted}
 use Rattle.assignments.specs.declared.Checked.the-variants as checked
-use Rattle.assignments.proofs.Values.{EachBelow}
-use Rattle.assignments.proofs.Laws.{MeetsButLast}
-use Rattle.clause_file.specs.File.{fileOf, sizesAt}
+use Rattle.clause_file.specs.File.{fileOf, sizesAt, Words}
 use Rattle.clause_file.specs.Questions.{askFileRoom}
 use Rattle.clause_file.specs.Calls.{FileAfter, fileRefused, arrayQuestions, fileQuestions}
-use Rattle.clause_file.proofs.Bytes.{Words}
 use Rattle.file_line.specs.Line.{lineOf}
 use Rattle.file_line.specs.Output.{askLiterals}
 use Rattle.demands.specs.Calls.{Follows, Obeys}
@@ -57,7 +54,7 @@ Locates C k x t = Obeys C k t (λ f. question 8 0 (leb 1 x && leb x (length (nod
 abbrev pub Tables : ℕ → ℕ → List ℕ → List ℕ → List ℕ → List ℕ → After → Type 0
 Tables C k t sizes variables marks =
     Obeys C k t (λ f. askRoom (length (flat (clauseTable C k f))) (length sizes) (length variables) (length marks) ∷ []) (refused sizes variables marks)
-    (λ f x. x ≡ writtenTable (sizesOf C k f) (flat (clauseTable C k f)) sizes variables marks)
+    (λ f x. let F = flat (clauseTable C k f) in x ≡ written (sizesOf C k f) (variablesIn F) (marksIn F) sizes variables marks)
 
 -- "the one assignment that extends a recording and meets all clauses but the last", V bytes, each 0 or 1
 pub record ExtensionOf (C k : ℕ) (f : Tree Formula) (recording A : List ℕ) : Type 0 where

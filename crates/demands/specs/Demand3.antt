@@ -14,12 +14,9 @@ use Rattle.clauses.specs.Entries.{flat}
 use Rattle.clause_table.specs.Table.{over}
 use Rattle.closure.specs.Closure.{Literals, nothing, ClosureOf}
 use Rattle.closure.specs.Runs.{Outcome, Run}
-use Rattle.search.specs.Search.{earlier, lentOf, askLent}
+use Rattle.search.specs.Search.{earlier, lentOf, askLent, Satisfies, countIn}
 use Rattle.search.specs.declared.Answer.{Answer}
 use Rattle.search.specs.declared.Answer.the-variants.{Found, None, Spent, Refused}
-use Rattle.search.specs.declared.Lent.{Lent}
-use Rattle.search.proofs.Outcome.{Satisfies}
-use Rattle.search.proofs.Ends.{countIn}
 use Rattle.demands.specs.Calls.{Obeys}
 
 -- N, "the number of tries until found, or until the whole tree is dead": "start from the closure of nothing"
@@ -61,12 +58,10 @@ pub record Search : Type 0 where
   pub answer : Answer
   pub arrays : Arrays
 
-abbrev pub lengths : Arrays → Lent
-lengths x = lentOf (x .variables) (x .marks) (x .values) (x .trail) (x .recording)
-
 -- the call: refused, every array is as it was; else "What the first four hold after a search is free"
 abbrev pub Searches : ℕ → ℕ → List ℕ → ℕ → Arrays → Search → Type 0
 Searches C k t B before =
-    Obeys C k t (λ f. askLent (length (flat (clauseTable C k f))) (variablesOf C k (nodesOf f 0)) k (lengths before) ∷ [])
+    let lent = lentOf (before .variables) (before .marks) (before .values) (before .trail) (before .recording) in
+    Obeys C k t (λ f. askLent (length (flat (clauseTable C k f))) (variablesOf C k (nodesOf f 0)) k lent ∷ [])
     (λ r. record { answer = Refused r; arrays = before })
     (λ f x. (N : ℕ) → Trials C k f N → Draws C k f B N (before .recording) (x .answer) (x .arrays .recording))

@@ -10,7 +10,7 @@ use lib.Dec.{leb}
 use lib.ListN.{length}
 use lib.Seq.{sets}
 use borrow.Rule.Slice.PartMut.{putMid}
-use Rattle.interval.specs.Listing.{tab}
+use Rattle.interval.specs.Listing.{tab, All}
 use Rattle.interval.specs.Places.{countOf, placeOf, intervalsOf, triplesOf}
 use Rattle.interval.specs.Limits.{maxSteps, maxCount, IntervalOf, TripleOf}
 use Rattle.interval.specs.declared.Interval.{Interval}
@@ -25,7 +25,6 @@ use Rattle.meaning.specs.Meaning.{bit, Point, truth, any, lasts, fills, chops, 
 use Rattle.meaning.proofs.Laws.{highs-agree, every-highs}
 use Rattle.circuit.specs.Circuit.{pointsOf, widthOf}
 use Rattle.circuit.proofs.Inputs.{intervals-in, triples-in}
-use Rattle.formula.proofs.Lists.{All}
 use Rattle.blocks.specs.Blocks.{ruleOf}
 use Rattle.blocks.specs.declared.Block.{Block}
 use Rattle.blocks.specs.declared.Rule.{Rule}

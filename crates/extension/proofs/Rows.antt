@@ -9,7 +9,7 @@ use native.Mathlib.Omega.{arith}
 use lib.Dec.{eqb}
 use lib.ListN.{length, getD, drop, length-append, length-map, length-drop, drop-of-length-le}
 use lib.Seq.{sets, getD-append-add}
-use Rattle.interval.specs.Listing.{sum}
+use Rattle.interval.specs.Listing.{sum, All}
 use Rattle.interval.specs.Places.{countOf}
 use Rattle.interval.specs.Limits.{maxSteps, maxCount}
 use Rattle.grammar.specs.Limits.{maxChannels}
@@ -18,7 +18,7 @@ use Rattle.grammar.specs.declared.Sort.{Sort}
 use Rattle.grammar.specs.declared.Sort.the-variants.{State, Formula}
 use Rattle.grammar.proofs.Written.{drop-front}
 use Rattle.formula.specs.Nodes.{Node, node, nodesOf}
-use Rattle.formula.proofs.Lists.{All, all-append}
+use Rattle.formula.proofs.Lists.{all-append}
 use Rattle.rows.specs.Table.{sortCode, headOf, rowOf, tableOf}
 use Rattle.nodes.proofs.Standing.{nodes-count, stands, Begins, node-at}
 use Rattle.meaning.specs.Meaning.{truth}

@@ -35,18 +35,18 @@ grammar-gives : (t : List ℕ) → Gives 4 (askGrammar t)
 unfolding askGrammar
 grammar-gives t = read-gives (read t)
 
-letters-gives : (C : ℕ) (t : List ℕ) → Gives 5 (askLetters C t)
+letters-gives : (C : ℕ) (l : List Node) → Gives 5 (askLetters C l)
 unfolding askLetters
-letters-gives C t = first-gives 5 (flatMap (λ (w : Node). outside C (w .part) (w .first)) (nodesIn t))
+letters-gives C l = first-gives 5 (flatMap (λ (w : Node). outside C (w .part) (w .first)) l)
 
-numbers-gives : (t : List ℕ) → Gives 6 (askNumbers t)
+numbers-gives : (l : List Node) → Gives 6 (askNumbers l)
 unfolding askNumbers
-numbers-gives t = first-gives 6 (flatMap (λ (w : Node). tooLarge (w .part) (w .first)) (nodesIn t))
+numbers-gives l = first-gives 6 (flatMap (λ (w : Node). tooLarge (w .part) (w .first)) l)
 
-nodes-gives : (t : List ℕ) → Gives 7 (askNodes t)
+nodes-gives : (l : List Node) → Gives 7 (askNodes l)
 unfolding askNodes
-nodes-gives t = first-gives 7 (drop maxNodes (map (λ (w : Node). w .first) (nodesIn t)))
+nodes-gives l = first-gives 7 (drop maxNodes (map (λ (w : Node). w .first) l))
 
 pub formula-asks : (C k : ℕ) (t : List ℕ) → Asks (1 ∷ 2 ∷ 3 ∷ 4 ∷ 5 ∷ 6 ∷ 7 ∷ []) (formulaQuestions C k t)
 formula-asks C k t =
-    (channels-gives C, (steps-gives k, (length-gives t, (grammar-gives t, (letters-gives C t, (numbers-gives t, (nodes-gives t, tt)))))))
+    (channels-gives C, (steps-gives k, (length-gives t, (grammar-gives t, (letters-gives C (nodesIn t), (numbers-gives (nodesIn t), (nodes-gives (nodesIn t), tt)))))))

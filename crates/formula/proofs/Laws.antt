@@ -22,7 +22,8 @@ use Rattle.scan.specs.Scans.{scan, startAt, foundIn}
 use Rattle.scan.specs.declared.Ask.the-variants.{Nodes}
 use Rattle.formula.specs.Nodes.{Node, nodesOf, nodesRead, nodesIn}
 use Rattle.formula.specs.Questions.{atFirst, askChannels, askLength, askGrammar, outside, tooLarge, askLetters, askNumbers, askNodes, formulaQuestions, acceptOf}
-use Rattle.formula.proofs.Lists.{All, flat-append, flat-map}
+use Rattle.interval.specs.Listing.{All}
+use Rattle.formula.proofs.Lists.{flat-append, flat-map}
 use Rattle.formula.proofs.Found.{read-tree, found-in}
 use Rattle.formula.proofs.Asked.{test-yes}
 

@@ -23,7 +23,8 @@ use Rattle.reader.proofs.Parts.{rest-whole, in-place}
 use Rattle.formula.specs.Nodes.{Node, nodesOf}
 use Rattle.grammar.specs.Limits.{maxNumber}
 use Rattle.scan.specs.Scans.{capped, numberFrom, digitOf, numberOf}
-use Rattle.formula.proofs.Lists.{All, all-append}
+use Rattle.interval.specs.Listing.{All}
+use Rattle.formula.proofs.Lists.{all-append}
 use Rattle.formula.proofs.InOrder.{firstByte}
 
 -- a part stands at a place of a text

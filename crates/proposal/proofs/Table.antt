@@ -12,12 +12,11 @@ use lib.ListN.{length, length-map}
 use Rattle.refusal.specs.declared.Refusal.{Refusal}
 use Rattle.refusal.specs.declared.Reply.{Reply}
 use Rattle.refusal.specs.declared.Reply.the-variants.{Yes, No}
-use Rattle.interval.specs.Listing.{rows, tab}
+use Rattle.interval.specs.Listing.{rows, tab, All}
 use Rattle.interval.proofs.Listing.{length-tab, getD-tab}
 use Rattle.grammar.specs.Trees.{Tree, Letters}
 use Rattle.grammar.specs.declared.Sort.the-variants.{Formula}
 use Rattle.formula.specs.Nodes.{Node, nodesOf}
-use Rattle.formula.proofs.Lists.{All}
 use Rattle.rows.specs.Table.{rowOf, tableOf}
 use Rattle.rows.specs.declared.NodeTable.{NodeTable}
 use Rattle.circuit.specs.Gates.{Assignment, inputsOf}

@@ -16,17 +16,9 @@ use Rattle.assignments.specs.Extension.{recordingBy}
 use Rattle.closure.specs.Closure.{Literals}
 use Rattle.closure.specs.Runs.{Outcome, dead, found, highIn}
 use Rattle.closure.specs.Tree.{Trial}
-use Rattle.search.specs.Search.{earlier, treeOf, Searched, unwritten, ended, limited}
-use Rattle.search.specs.declared.Answer.{Answer}
-use Rattle.search.specs.declared.Answer.the-variants.{Found, None, Spent, Refused}
-use Rattle.search.proofs.Outcome.{Satisfies, dead-none, found-satisfies, found-earliest}
-
--- the count that an answer comes with
-abbrev pub countIn : Answer → ℕ
-countIn (Found n) = n
-countIn (None n) = n
-countIn (Spent n) = n
-countIn (Refused r) = 0
+use Rattle.search.specs.Search.{earlier, treeOf, Searched, unwritten, ended, limited, Satisfies, countIn}
+use Rattle.search.specs.declared.Answer.the-variants.{Found, None, Spent}
+use Rattle.search.proofs.Outcome.{dead-none, found-satisfies, found-earliest}
 
 none≢found : {n m : ℕ} → None n ≢ Found m
 none≢found e = let z : _≡_ {A = ℕ} 0 1 = cc in absurd (omega arith)

@@ -2,7 +2,6 @@ pub mod Order
 pub mod Outcome
 pub mod Ends
 pub mod Call
-pub mod Demand
 pub mod Drawn
 pub mod Arrays
 pub mod Gives

@@ -18,8 +18,8 @@ use Rattle.meaning.specs.Meaning.{bit, channelAt}
 use Rattle.circuit.specs.Gates.{Assignment}
 use Rattle.circuit.specs.Circuit.{channelOf}
 use Rattle.circuit.proofs.Blocks.{From}
-use Rattle.assignments.specs.Extension.{valueIn, channelValues, recordingBy}
-use Rattle.assignments.proofs.Values.{EachBelow, alike-at, channels-length}
+use Rattle.assignments.specs.Extension.{valueIn, channelValues, recordingBy, EachBelow}
+use Rattle.assignments.proofs.Values.{alike-at, channels-length}
 use Rattle.assignments.proofs.Only.{each-channel}
 use Rattle.assignments.proofs.Recordings.{recording-channels, recording-only}
 use Rattle.closure.proofs.Means.{Order, same, earlier}

@@ -6,16 +6,13 @@ use mathlib.Core.Bool.{true}
 use mathlib.Core.List.{List}
 use Prim.Native.Nat.{ℕ, suc, _+_, _-_, _*_, _^_, _≤_}
 use native.Mathlib.Omega.{arith}
-use lib.ListN.{length}
 use Rattle.grammar.specs.Trees.{Tree, Letters}
 use Rattle.grammar.specs.declared.Sort.the-variants.{Formula}
 use Rattle.formula.specs.Nodes.{nodesOf}
-use Rattle.meaning.specs.Meaning.{holds}
 use Rattle.circuit.specs.Circuit.{variablesOf}
 use Rattle.clauses.specs.Clauses.{clauseTable}
 use Rattle.clause_table.proofs.Laws.{table-sound}
 use Rattle.assignments.specs.Extension.{valueIn, extensionOf, recordingBy}
-use Rattle.assignments.proofs.Values.{EachBelow}
 use Rattle.assignments.proofs.Recordings.{recording-length, recording-below}
 use Rattle.assignments.proofs.Laws.{extension-channels, meets-holds, holds-meets}
 use Rattle.closure.specs.Closure.{Literals, nothing}
@@ -24,14 +21,8 @@ use Rattle.closure.specs.Tree.{closure}
 use Rattle.closure.proofs.Runs.{tree-bound}
 use Rattle.closure.proofs.Gates.{none-left-open}
 use Rattle.closure.proofs.Means.{Drawn, dead-unmet, found-drawn, found-first, reading-meets}
-use Rattle.search.specs.Search.{earlier, treeOf}
+use Rattle.search.specs.Search.{earlier, treeOf, Satisfies}
 use Rattle.search.proofs.Order.{first-comes}
-
--- a recording of C channels and k steps that satisfies the formula on [0, k]
-pub record Satisfies (C k : ℕ) (f : Tree Formula) (r : List ℕ) : Type 0 where
-  pub bytes : length r ≡ k
-  pub below : EachBelow (2 ^ C) r
-  pub true-on : holds r f (record { i = 0; j = k }) ≡ true
 
 module _ (C k : ℕ) (f : Tree Formula) where
   abbrev variables : ℕ

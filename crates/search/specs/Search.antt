@@ -3,7 +3,7 @@
 use mathlib.Core.Path.{_≡_}
 use mathlib.Core.Bool.{Bool, true, false, cond, _&&_}
 use mathlib.Core.List.{List, [], _∷_, _++_}
-use Prim.Native.Nat.{ℕ, _*_}
+use Prim.Native.Nat.{ℕ, _*_, _^_}
 use lib.Dec.{eqb, leb, ltb}
 use lib.ListN.{length}
 use Rattle.refusal.specs.Asked.{question, asked}
@@ -14,10 +14,11 @@ use Rattle.grammar.specs.Reader.{parsed, stopped, read}
 use Rattle.grammar.specs.declared.Sort.the-variants.{Formula}
 use Rattle.formula.specs.Nodes.{nodesOf, nodesIn}
 use Rattle.formula.specs.Questions.{formulaQuestions}
+use Rattle.meaning.specs.Meaning.{holds}
 use Rattle.circuit.specs.Circuit.{variablesOf}
 use Rattle.clauses.specs.Clauses.{clauseTable}
 use Rattle.clause_table.specs.Table.{placesIn, over}
-use Rattle.assignments.specs.Extension.{channelValues, recordingBy}
+use Rattle.assignments.specs.Extension.{channelValues, recordingBy, EachBelow}
 use Rattle.closure.specs.Tree as tries
 use Rattle.closure.specs.Runs.{dead, found, highIn}
 use Rattle.closure.specs.Tree.{Trial, trial}
@@ -34,6 +35,19 @@ lowFirst (x ∷ xs) (y ∷ ys) = elim (eqb x y) [ true ↦ lowFirst xs ys | fals
 
 unfoldable pub earlier : ℕ → ℕ → List ℕ → List ℕ → Bool
 earlier C k r s = lowFirst (channelValues C k r) (channelValues C k s)
+
+-- a recording of C channels and k steps that satisfies the formula on [0, k]
+pub record Satisfies (C k : ℕ) (f : Tree Formula) (r : List ℕ) : Type 0 where
+  pub bytes : length r ≡ k
+  pub below : EachBelow (2 ^ C) r
+  pub true-on : holds r f (record { i = 0; j = k }) ≡ true
+
+-- "found, none, spent, each with its count"
+abbrev pub countIn : Answer → ℕ
+countIn (Found n) = n
+countIn (None n) = n
+countIn (Spent n) = n
+countIn (Refused r) = 0
 
 -- the tree of a formula: k·C channel variables. Its number of tries (decisions) is N: "the limit plays no part in it".
 unfoldable pub treeOf : ℕ → ℕ → Tree Formula → Trial

@@ -3,13 +3,12 @@
 use mathlib.Core.Path.{refl}
 use mathlib.Core.List.{flatMap}
 use Rattle.interval.specs.Limits.{askSteps, askInterval}
-use Rattle.interval.specs.Listing.{rows, sum}
+use Rattle.interval.specs.Listing.{rows, placeIn, sum, All}
 use Rattle.interval.specs.Places.{countOf, intervalsOf, placeOf, triplesOf, triplePlaceOf, tripleCountOf}
 use Rattle.grammar.specs.Ascii.{ascii}
 use Rattle.grammar.specs.Reader.{follow, endAfter, run, read}
 use Rattle.formula.specs.Nodes.{nodesOf, nodesIn}
 use Rattle.formula.specs.Questions.{askChannels, askLength, askGrammar, askLetters, askNumbers, askNodes}
-use Rattle.formula.proofs.Lists.{All}
 use Rattle.meaning.specs.Meaning.{bitAt, channelAt, highs, every, any, lasts, fills, chops, truth}
 use Rattle.circuit.specs.Circuit.{widthOf, blocksOf, variablesOf, truthOf, ownBy, ownOf, definedFrom, definitionsOf, rootOf}
 use Rattle.clauses.specs.Clauses.{clausesOf, clausesBy, clauseTable}
@@ -36,7 +35,7 @@ pub edges-hold : All Holds edges
 unfolding ascii edges evaluated askChannels askSteps askLength askGrammar askLetters askNumbers askNodes askInterval askRecording notBelow askBelow
     follow endAfter run read nodesOf nodesIn flatMap truth bitAt channelAt highs every any lasts fills chops tabled askRoom sizesIn placesIn sizesOf
     rows countOf intervalsOf placeOf widthOf blocksOf variablesOf truthOf ownBy ownOf definedFrom definitionsOf rootOf clausesOf clausesBy clauseTable
-    entriesOf flat searched askLent sum triplesOf triplePlaceOf tripleCountOf recordingBy add allOpposed membersOf membersIn firstForced forced
+    entriesOf flat searched askLent sum triplesOf triplePlaceOf placeIn tripleCountOf recordingBy add allOpposed membersOf membersIn firstForced forced
     closure clashes isOpen lowestOpen treeBelow tree treeOf treeIn limited digits number readLine outputFor outputOf bytesOf fileOf
 edges-hold =
     (refl, refl) and refl
