@@ -106,9 +106,12 @@ pub gate-by : (C k : ℕ) (b : Block) (x a i d : ℕ) {q : Rule} → b .rule ≡
 unfolding gateOf
 gate-by C k b x a i d e = ap (gateBy C k (b .first) (b .left) (b .right) x a i d) (sym e)
 
--- 1 + x·C + c is a number of 32 bits
-pub channel-fits : {r : Rule} {c : ℕ} (x C : ℕ) → r ≡ Letter c → numberOf r ≤ 255 → x < 2 ^ 24 → C ≤ 8 → (x * C ≤ 2 ^ 24 * 8) × (c ≤ 255)
-channel-fits x C e n h l = (mul-le-mul {n₁ = x} {m₁ = C} {n₂ = 2 ^ 24} {m₂ = 8} (omega arith) l, subst (λ (r : Rule). numberOf r ≤ 255) e n)
+-- 1 + t·C + c is a number of 32 bits, of a letter's c too
+pub channel-fits : (t C : ℕ) → t < 2 ^ 24 → C ≤ 32 → t * C ≤ 2 ^ 24 * 32
+channel-fits t C h l = mul-le-mul {n₁ = t} {m₁ = C} {n₂ = 2 ^ 24} {m₂ = 32} (omega arith) l
+
+pub letter-fits : {r : Rule} {c : ℕ} → r ≡ Letter c → numberOf r ≤ 255 → c ≤ 255
+letter-fits e n = subst (λ (r : Rule). numberOf r ≤ 255) e n
 
 -- ---- the first position, and the next
 

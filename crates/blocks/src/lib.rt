@@ -5,6 +5,7 @@ ghost use mathlib.Core.Path.{_≡_};
 ghost use Prim.Native.Nat.{_+_, _-_, _^_, _≤_, _<_};
 ghost use Rattle.interval.specs.Places.{countOf, placeOf};
 ghost use Rattle.interval.specs.Limits.{maxSteps};
+ghost use Rattle.circuit.specs.Circuit.{channelOf};
 ghost use Rattle.blocks.specs.Blocks.{ruleBy, isChop, formOf, linesOf, cellsOf, nextOf, bound, Placed, Before, Bounded, levelBy, throughoutBy, tripleBy, gateOf};
 
 // What the gates of a block go by. A chop has two blocks: its intervals, and its triples, which cut an interval in two.
@@ -206,6 +207,14 @@ fn triple_gate(k: u32, all: u32, l: u32, r: u32, a: u32, i: u32, d: u32) -> Gate
     Gate::Both(l + place(a, d, k, all), r + place(a + d, i - d, k, all))
 }
 
+// The variable of a channel at instant t.
+fn channel_variable(c: u32, t: u32, channel: u32) -> u32
+    requires { ⌜ (c ≤ maxSteps) × (t < 2 ^ 24) × (channel < 2 ^ 24) ⌝ }
+    ensures { λ r. ⌜ r ≡ channelOf c t channel ⌝ }
+{
+    1 + t * c + channel
+}
+
 // The gate in place x of a block, at position p; k steps have I intervals in all.
 pub fn gate_at(c: u32, k: u32, all: u32, block: Block, x: u32, p: Position) -> Gate
     requires { ⌜ Bounded c k block × (x < 2 ^ 24) × (all ≡ countOf k) ⌝ }
@@ -218,7 +227,7 @@ pub fn gate_at(c: u32, k: u32, all: u32, block: Block, x: u32, p: Position) -> G
     let right = block.right;
     match rule {
         Rule::Fixed(v) => Gate::Constant(v),
-        Rule::Letter(channel) => Gate::Copy(1 + x * c + channel),
+        Rule::Letter(channel) => Gate::Copy(channel_variable(c, x, channel)),
         Rule::Negation => Gate::Inverse(left + x),
         Rule::And => Gate::Both(left + x, right + x),
         Rule::Or => Gate::Either(left + x, right + x),

@@ -1,8 +1,8 @@
 -- Evaluation ends as its questions say: where one of 1 to 7, or of 9 to 11, says no, by that refusal; otherwise by the truth of
 -- the tree that the text reads as, which stands in the node table from its first row on.
-use mathlib.Core.Path.{_≡_, sym, ap, _∙_, subst}
+use mathlib.Core.Path.{_≡_, sym, ap, ap₂, _∙_, subst}
 use mathlib.Core.Bool.{Bool}
-use mathlib.Core.List.{List, [], append-nil}
+use mathlib.Core.List.{List, [], _∷_, append-nil}
 use Prim.Native.Nat.{ℕ, _≤_}
 use lib.ListN.{length}
 use borrow.Author.Tests.{eqb-true}
@@ -10,7 +10,7 @@ use Rattle.refusal.specs.Asked.{asked}
 use Rattle.refusal.specs.declared.Refusal.{Refusal}
 use Rattle.refusal.specs.declared.Reply.{Reply}
 use Rattle.refusal.specs.declared.Reply.the-variants.{Yes, No}
-use Rattle.refusal.proofs.Laws.{asked-append, replied-yes, replied-no}
+use Rattle.refusal.proofs.Laws.{asked-append, replied-yes, replied-no, earlier-no}
 use Rattle.interval.specs.Limits.{askInterval}
 use Rattle.grammar.specs.Limits.{maxChannels}
 use Rattle.grammar.specs.Trees.{Tree, Letters}
@@ -20,7 +20,7 @@ use Rattle.grammar.proofs.Bytes.{ranged}
 use Rattle.grammar.proofs.Laws.{prints-as-text}
 use Rattle.formula.specs.Nodes.{nodesOf, nodesIn}
 use Rattle.formula.specs.Questions.{formulaQuestions, acceptOf}
-use Rattle.formula.proofs.Asked.{test-yes}
+use Rattle.formula.proofs.Asked.{asked-one, test-yes}
 use Rattle.formula.proofs.Laws.{all-yes, accepted, nodes-read}
 use Rattle.rows.specs.Table.{tableOf}
 use Rattle.rows.specs.declared.NodeTable.{NodeTable}
@@ -30,7 +30,7 @@ use Rattle.nodes.specs.declared.Tabled.{Tabled}
 use Rattle.nodes.proofs.Laws.{reply-is, accepts, table-is}
 use Rattle.nodes.proofs.Standing.{stands}
 use Rattle.meaning.specs.Meaning.{holds}
-use Rattle.evaluator.specs.Evaluation.{askRecording, recordingQuestions, readHolds, verdictOf, evaluated}
+use Rattle.evaluator.specs.Evaluation.{askRecording, askBytes, recordingQuestions, readHolds, verdictOf, evaluated}
 use Rattle.evaluator.specs.declared.Verdict.{Verdict}
 use Rattle.evaluator.specs.declared.Verdict.the-variants.{Refused}
 
@@ -46,6 +46,24 @@ in-order C k i j recording h =
     let q = all-yes (recordingQuestions C k i j recording) h in
     let o = ranged i k j (test-yes 9 0 _ (q .0)) in
     (o .0, o .1, recording-length k recording (q .1 .0))
+
+-- 9 and 10, answered by a and b, and then 11
+module _ (C k i j : ℕ) (recording : List ℕ) (a b : Reply) (e : a ≡ askInterval i j k) (f : b ≡ askRecording k recording) where
+  abbrev two : List Reply
+  two = askInterval i j k ∷ askRecording k recording ∷ []
+
+  replied : (r : Reply) → asked (a ∷ b ∷ []) No Yes ≡ r → asked two No Yes ≡ r
+  replied r h = ap₂ (λ (x y : Reply). asked (x ∷ y ∷ []) No Yes) (sym e) (sym f) ∙ h
+
+  pub two-no : (r : Refusal) → asked (a ∷ b ∷ []) No Yes ≡ No r → No r ≡ asked (recordingQuestions C k i j recording) No Yes
+  two-no r h = earlier-no No Yes two (askBytes C recording) (replied (No r) h)
+
+  module _ (h : asked (a ∷ b ∷ []) No Yes ≡ Yes) where
+    pub two-length : length recording ≡ k
+    two-length = recording-length k recording (all-yes two (replied Yes h) .1 .0)
+
+    pub two-yes : askBytes C recording ≡ asked (recordingQuestions C k i j recording) No Yes
+    two-yes = sym (asked-append No Yes two (askBytes C recording ∷ []) ∙ replied-yes No _ two (replied Yes h) ∙ asked-one (askBytes C recording))
 
 module _ (C k : ℕ) (t : List ℕ) (T : Tabled) (e : T ≡ tabledOf C k t) where
   root-stands : T .reply ≡ Yes → (f : Tree Formula) → nodesIn t ≡ nodesOf f 0 → Stands (T .table .kinds) (T .table .numbers) (T .table .sizes) 0 f

@@ -6,6 +6,7 @@ use refusal::Refusal;
 use refusal::Reply;
 use rows::NodeTable;
 ghost use mathlib.Core.Path.{_≡_};
+ghost use mathlib.Core.List.{[], _∷_};
 ghost use Prim.Native.Nat.{_+_, _^_, _≤_, _<_};
 ghost use lib.ListN.{length};
 ghost use Rattle.interval.specs.Limits.{maxSteps};
@@ -131,15 +132,24 @@ pub fn ask_bytes(c: u32, recording: &[u8]) -> Reply
     ask_below(11, 1usize << c, recording)
 }
 
-// Questions 9 to 11.
+// The reply to two questions: the first no answers.
+fn first_no(first: Reply, second: Reply) -> Reply
+    ensures { λ r. ⌜ r ≡ asked (first ∷ second ∷ []) Reply.No Reply.Yes ⌝ }
+{
+    if let Reply::No(r) = first {
+        return Reply::No(r);
+    }
+    second
+}
+
+// Questions 9 to 11. Only a recording of k bytes is asked the last.
 fn ask_recorded(c: u32, k: u32, i: u32, j: u32, recording: &[u8]) -> Reply
     requires { ⌜ (c ≤ maxChannels) × (k ≤ maxSteps) ⌝ }
     ensures { λ r. ⌜ r ≡ asked (recordingQuestions c k i j (now (recording .entry))) Reply.No Reply.Yes ⌝ }
 {
-    if let Reply::No(r) = Interval::ask_interval(i as usize, j as usize, k as usize) {
-        return Reply::No(r);
-    }
-    if let Reply::No(r) = ask_recording(k, recording) {
+    let interval = Interval::ask_interval(i as usize, j as usize, k as usize);
+    let length = ask_recording(k, recording);
+    if let Reply::No(r) = first_no(interval, length) {
         return Reply::No(r);
     }
     ask_bytes(c, recording)

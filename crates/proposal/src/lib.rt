@@ -107,7 +107,9 @@ fn ask_proposal(table: NodeTable, c: u32, k: u32, assignment: &[u8], places: usi
 {
     let mut firsts = [0; MAX_NODES];
     let s = clause_table::sizes_of(&table.kinds, &table.numbers, table.count, c, k, &mut firsts);
-    if let Reply::No(r) = refusal::ask(12, assignment.len() == s.variables as usize) {
+    let whole = assignment.len() == s.variables as usize;
+    let room = k as usize <= places;
+    if let Reply::No(r) = refusal::ask(12, whole) {
         return Reply::No(r);
     }
     if let Reply::No(r) = evaluator::ask_below(13, 2, assignment) {
@@ -125,7 +127,7 @@ fn ask_proposal(table: NodeTable, c: u32, k: u32, assignment: &[u8], places: usi
     ) {
         return Reply::No(r);
     }
-    refusal::ask(18, k as usize <= places)
+    refusal::ask(18, room)
 }
 
 // The byte of instant t: bit b where channel b is high.

@@ -1,9 +1,9 @@
 -- Each rule's gate is its definition's; a position inside the block is an interval or a triple of k steps,
 -- so the gates of intervals and triples may be asked for (Positions.antt).
-use Rattle.blocks.proofs.Positions.{chop-position, chop-before, throughout-position, level-position, triple-position, gate-by, channel-fits}
+use Rattle.blocks.proofs.Positions.{chop-position, chop-before, throughout-position, level-position, triple-position, gate-by, letter-fits}
 use native.Mathlib.Omega.{arith}
-use mathlib.Core.Path.{ap₂, _∙_}
-use Rattle.circuit.specs.declared.Gate.the-variants.{AnyOf}
+use mathlib.Core.Path.{ap, ap₂, _∙_}
+use Rattle.circuit.specs.declared.Gate.the-variants.{Copy, AnyOf}
 use borrow.Author.Needs.{needs}
 use Rattle.blocks.proofs.gate_at.Statement.{statement}
 use Rattle.blocks.proofs.gate_at.Tie as tie
@@ -14,23 +14,27 @@ enum-known-rule c = search needs
 enum-known-rule-2 : tie.Need-enum-known-rule-2
 enum-known-rule-2 c = search needs
 
-mul-t14 : tie.Need-mul-t14
-mul-t14 c = let s = c .before .before .before in omega (arith, channel-fits (s .args .x) (s .args .c) (c .before .rule2 .given .1) (s .pre .0 .0 .number) (s .pre .0 .1) (s .pre .0 .0 .channels))
-
-add-t15 : tie.Need-add-t15
-add-t15 c = let s = c .before .before .before in omega (arith, channel-fits (s .args .x) (s .args .c) (c .before .rule2 .given .1) (s .pre .0 .0 .number) (s .pre .0 .1) (s .pre .0 .0 .channels))
-
-add-t16 : tie.Need-add-t16
-add-t16 c = let s = c .before .before .before in omega (arith, channel-fits (s .args .x) (s .args .c) (c .before .rule2 .given .1) (s .pre .0 .0 .number) (s .pre .0 .1) (s .pre .0 .0 .channels))
+channel-variable-requires : tie.Need-channel-variable-requires
+channel-variable-requires c κs = let s = c .before .before .before in
+    omega (arith, letter-fits (c .before .rule2 .given .1) (s .pre .0 .0 .number), s .pre .0 .0 .channels, s .pre .0 .1)
 
 enum-told : tie.Need-enum-told
 enum-told c = search needs
 
-add-t17 : tie.Need-add-t17
-add-t17 c = search needs
+add-t15 : tie.Need-add-t15
+add-t15 c = search needs
 
 enum-told-2 : tie.Need-enum-told-2
 enum-told-2 c = search needs
+
+add-t16 : tie.Need-add-t16
+add-t16 c = search needs
+
+add-t17 : tie.Need-add-t17
+add-t17 c = search needs
+
+enum-told-3 : tie.Need-enum-told-3
+enum-told-3 c = search needs
 
 add-t18 : tie.Need-add-t18
 add-t18 c = search needs
@@ -38,23 +42,14 @@ add-t18 c = search needs
 add-t19 : tie.Need-add-t19
 add-t19 c = search needs
 
-enum-told-3 : tie.Need-enum-told-3
-enum-told-3 c = search needs
-
-add-t20 : tie.Need-add-t20
-add-t20 c = search needs
-
-add-t21 : tie.Need-add-t21
-add-t21 c = search needs
-
 enum-told-4 : tie.Need-enum-told-4
 enum-told-4 c = search needs
 
-add-t22 : tie.Need-add-t22
-add-t22 c = let s = c .before .before .before in omega (arith, chop-before (s .args .p) (s .pre .1 .0) (s .pre .1 .1) (c .before .enum-told4 .given .1) (s .pre .0 .0 .steps), s .pre .0 .0 .left)
+add-t20 : tie.Need-add-t20
+add-t20 c = let s = c .before .before .before in omega (arith, chop-before (s .args .p) (s .pre .1 .0) (s .pre .1 .1) (c .before .enum-told4 .given .1) (s .pre .0 .0 .steps), s .pre .0 .0 .left)
 
-add-t23 : tie.Need-add-t23
-add-t23 c = let s = c .before .before .before .before in omega (arith, chop-position (s .pre .1 .0) (c .before .before .enum-told4 .given .1), s .pre .0 .0 .steps)
+add-t21 : tie.Need-add-t21
+add-t21 c = let s = c .before .before .before .before in omega (arith, chop-position (s .pre .1 .0) (c .before .before .enum-told4 .given .1), s .pre .0 .0 .steps)
 
 enum-told-5 : tie.Need-enum-told-5
 enum-told-5 c = search needs
@@ -80,7 +75,7 @@ returns : tie.Need-returns
 returns c = gate-by _ _ _ _ _ _ _ (c .before .rule .given .1)
 
 returns-2 : tie.Need-returns-2
-returns-2 c = gate-by _ _ _ _ _ _ _ (c .before .rule2 .given .1)
+returns-2 c = ap Copy (c .channel-variable .ensures) ∙ gate-by _ _ _ _ _ _ _ (c .before .before .rule2 .given .1)
 
 returns-3 : tie.Need-returns-3
 returns-3 c = gate-by _ _ _ _ _ _ _ (c .enum-told .given .1)
@@ -111,20 +106,18 @@ gate-at-spec =
     (tie.spec
     enum-known-rule
     enum-known-rule-2
-    mul-t14
-    add-t15
-    add-t16
+    channel-variable-requires
     enum-told
-    add-t17
+    add-t15
     enum-told-2
+    add-t16
+    add-t17
+    enum-told-3
     add-t18
     add-t19
-    enum-told-3
+    enum-told-4
     add-t20
     add-t21
-    enum-told-4
-    add-t22
-    add-t23
     enum-told-5
     level-gate-requires
     enum-told-6

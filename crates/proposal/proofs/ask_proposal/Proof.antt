@@ -12,8 +12,8 @@ use Rattle.proposal.proofs.ask_proposal.Tie as tie
 sizes-of-requires : tie.Need-sizes-of-requires
 sizes-of-requires c κs = let p = c .before .before .before .before .before .pre in (p .0, p .1, p .2, refl, zeros-low)
 
-cast-ask : tie.Need-cast-ask
-cast-ask c = search needs
+cast-whole : tie.Need-cast-whole
+cast-whole c = search needs
 
 ask-requires : tie.Need-ask-requires
 ask-requires c κs = search needs
@@ -67,7 +67,7 @@ ask-proposal-spec =
     tie.close
     (tie.spec
     sizes-of-requires
-    cast-ask
+    cast-whole
     ask-requires
     enum-known-r
     returns
