@@ -48,22 +48,22 @@ in-order C k i j recording h =
     (o .0, o .1, recording-length k recording (q .1 .0))
 
 -- 9 and 10, answered by a and b, and then 11
-module _ (C k i j : ℕ) (recording : List ℕ) (a b : Reply) (e : a ≡ askInterval i j k) (f : b ≡ askRecording k recording) where
+module _ (k i j : ℕ) (recording : List ℕ) (a b : Reply) (e : a ≡ askInterval i j k) (f : b ≡ askRecording k recording) where
   abbrev two : List Reply
   two = askInterval i j k ∷ askRecording k recording ∷ []
 
   replied : (r : Reply) → asked (a ∷ b ∷ []) No Yes ≡ r → asked two No Yes ≡ r
   replied r h = ap₂ (λ (x y : Reply). asked (x ∷ y ∷ []) No Yes) (sym e) (sym f) ∙ h
 
-  pub two-no : (r : Refusal) → asked (a ∷ b ∷ []) No Yes ≡ No r → No r ≡ asked (recordingQuestions C k i j recording) No Yes
-  two-no r h = earlier-no No Yes two (askBytes C recording) (replied (No r) h)
+  pub two-no : (C : ℕ) (r : Refusal) → asked (a ∷ b ∷ []) No Yes ≡ No r → No r ≡ asked (recordingQuestions C k i j recording) No Yes
+  two-no C r h = earlier-no No Yes two (askBytes C recording) (replied (No r) h)
 
   module _ (h : asked (a ∷ b ∷ []) No Yes ≡ Yes) where
     pub two-length : length recording ≡ k
     two-length = recording-length k recording (all-yes two (replied Yes h) .1 .0)
 
-    pub two-yes : askBytes C recording ≡ asked (recordingQuestions C k i j recording) No Yes
-    two-yes = sym (asked-append No Yes two (askBytes C recording ∷ []) ∙ replied-yes No _ two (replied Yes h) ∙ asked-one (askBytes C recording))
+    pub two-yes : (C : ℕ) → askBytes C recording ≡ asked (recordingQuestions C k i j recording) No Yes
+    two-yes C = sym (asked-append No Yes two (askBytes C recording ∷ []) ∙ replied-yes No _ two (replied Yes h) ∙ asked-one (askBytes C recording))
 
 module _ (C k : ℕ) (t : List ℕ) (T : Tabled) (e : T ≡ tabledOf C k t) where
   root-stands : T .reply ≡ Yes → (f : Tree Formula) → nodesIn t ≡ nodesOf f 0 → Stands (T .table .kinds) (T .table .numbers) (T .table .sizes) 0 f

@@ -21,7 +21,8 @@ enum-known-r c = search needs
 
 returns : tie.Need-returns
 returns c = let p = c .before .before .before in
-    two-no _ _ _ _ _ _ _ (p .before .before .ask-interval .ensures) (p .before .ask-recording .ensures) _ (sym (p .first-no .ensures) ∙ c .before .r .given .1)
+    two-no _ _ _ _ _ _ (p .before .before .ask-interval .ensures) (p .before .ask-recording .ensures) _ _
+    (sym (p .first-no .ensures) ∙ c .before .r .given .1)
 
 enum-told : tie.Need-enum-told
 enum-told c = search needs
@@ -29,11 +30,11 @@ enum-told c = search needs
 ask-bytes-requires : tie.Need-ask-bytes-requires
 ask-bytes-requires c κs = let p = c .before .before in
     let o = p .before .before .before .before .pre in
-    (o .0, omega (arith, o .1, two-length 0 _ _ _ _ _ _ (p .before .before .ask-interval .ensures) (p .before .ask-recording .ensures) (sym (p .first-no .ensures) ∙ c .enum-told .given .1)))
+    (o .0, omega (arith, o .1, two-length _ _ _ _ _ _ (p .before .before .ask-interval .ensures) (p .before .ask-recording .ensures) (sym (p .first-no .ensures) ∙ c .enum-told .given .1)))
 
 returns-2 : tie.Need-returns-2
 returns-2 c = let p = c .before .before .before in
-    c .ask-bytes .ensures ∙ two-yes _ _ _ _ _ _ _ (p .before .before .ask-interval .ensures) (p .before .ask-recording .ensures) (sym (p .first-no .ensures) ∙ c .before .enum-told .given .1)
+    c .ask-bytes .ensures ∙ two-yes _ _ _ _ _ _ (p .before .before .ask-interval .ensures) (p .before .ask-recording .ensures) (sym (p .first-no .ensures) ∙ c .before .enum-told .given .1) _
 
 pub ask-recorded-spec : {M : Type 1} → statement M
 ask-recorded-spec =
