@@ -12,11 +12,11 @@ use lib.ListN.{length, drop, length-map}
 use Rattle.refusal.specs.declared.Refusal.{Refusal}
 use Rattle.refusal.specs.declared.Reply.{Reply}
 use Rattle.refusal.specs.declared.Reply.the-variants.{Yes, No}
-use Rattle.refusal.proofs.Laws.{all-yes-answers}
+use Rattle.refusal.proofs.Laws.{all-yes-answers, first-no-answers}
 use Rattle.grammar.specs.Reader.{read}
 use Rattle.formula.specs.Nodes.{Node, nodesIn}
 use Rattle.formula.specs.Questions.{formulaQuestions, acceptOf}
-use Rattle.nodes.specs.Calls.{nodeQuestions, partPlace, partOf, nodePlaceOf, nodeTextOf}
+use Rattle.nodes.specs.Calls.{nodeQuestions, partPlace, partOf, nodePlaceOf, nodeTextOf, nodeRefusalOf}
 use Rattle.nodes.specs.declared.Located.the-variants as located
 use Rattle.circuit.specs.Circuit.{variablesOf}
 use Rattle.clauses.specs.Entries.{Entry, variablesIn, marksIn}
@@ -62,11 +62,13 @@ module _ (C k : ℕ) (t : List ℕ) where
       never true r q = absurd (false≢true cc)
       never false r q = absurd (false≢true cc)
 
-  -- a node's text: where it is refused it is the empty part
-  pub node-refused : (x : ℕ) {r : Refusal} → nodePlaceOf C k x t ≡ located.Refused r → RefusedBy nodeNumbers (nodeQuestions C k x t) r × (nodeTextOf C k x t ≡ [])
-  unfolding nodePlaceOf nodeTextOf
+  -- a node's text: where it is refused it is the empty part, and "a second call on the same values gives the number and place"
+  pub node-refused : (x : ℕ) {r : Refusal} → nodePlaceOf C k x t ≡ located.Refused r
+      → RefusedBy nodeNumbers (nodeQuestions C k x t) r × (nodeTextOf C k x t ≡ []) × (nodeRefusalOf C k x t ≡ No r)
+  unfolding nodePlaceOf nodeTextOf nodeRefusalOf
   node-refused x {r} e =
-      (refused-by (λ l. l) located.Refused (λ s r q. cc) _ (λ r. refl) nodeNumbers (nodeQuestions C k x t) (node-asks C k t x) (λ r. never (drop (x - 1) (nodesIn t)) r) e .0, ap (partOf t) e)
+      let w = refused-by (λ l. l) located.Refused (λ s r q. cc) _ (λ r. refl) nodeNumbers (nodeQuestions C k x t) (node-asks C k t x) (λ r. never (drop (x - 1) (nodesIn t)) r) e in
+      (w .0, ap (partOf t) e, first-no-answers No Yes (w .0 .first))
     where
       never : (l : List Node) (r : Refusal) → partPlace l ≢ located.Refused r
       never [] r q = absurd (false≢true cc)

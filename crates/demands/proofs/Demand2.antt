@@ -1,17 +1,20 @@
 -- DEMAND 2, of every text, C, k, recording, assignment, table and file: what our calls' answers say. Each line cites the theorem behind it.
 -- The calls are proved to answer by these definitions (`evaluated`, `tabled`, ..), so whatever is said of a definition holds of the call.
-use mathlib.Core.Path.{_≡_}
-use mathlib.Core.Bool.{true, false}
+use mathlib.Core.Path.{_≡_, refl}
+use mathlib.Core.Bool.{true, false, _&&_}
 use mathlib.Core.List.{List, [], _∷_, _++_}
 use Prim.Native.Nat.{ℕ, _-_, _^_, _≤_}
+use lib.Dec.{leb}
 use lib.ListN.{length}
-use Rattle.refusal.specs.Asked.{asked, AllYes}
+use Rattle.refusal.specs.Asked.{question, asked, AllYes, FirstNo}
+use Rattle.refusal.specs.declared.Refusal.{Refusal}
 use Rattle.refusal.specs.declared.Reply.the-variants.{Yes, No}
 use Rattle.interval.specs.Limits.{askInterval}
 use Rattle.grammar.specs.Trees.{Tree}
 use Rattle.grammar.specs.declared.Sort.the-variants.{Formula}
 use Rattle.formula.specs.Nodes.{nodesOf}
 use Rattle.formula.specs.Questions.{acceptOf}
+use Rattle.nodes.specs.Calls.{nodePlaceOf}
 use Rattle.meaning.specs.Meaning.{holds}
 use Rattle.circuit.specs.Circuit.{variablesOf}
 use Rattle.clauses.specs.Clauses.{clauseTable}
@@ -28,10 +31,13 @@ use Rattle.clause_file.specs.Questions.{askFileRoom}
 use Rattle.clause_file.specs.Calls.{fileRefused, arrayQuestions, fileWritten, fileQuestions, fileRead}
 use Rattle.clause_file.proofs.Laws.{read-written, write-read}
 use Rattle.clause_file.proofs.Writable.{table-written}
+use Rattle.file_line.specs.Line.{lineOf}
+use Rattle.file_line.specs.Output.{askLiterals, outputOf}
 use Rattle.demands.specs.Calls.{IsText, formulaReplies}
-use Rattle.demands.specs.Demand2.{ExtensionOf}
+use Rattle.demands.specs.Demand2.{NodeText, ExtensionOf}
 use Rattle.demands.proofs.Answers as answers
-use Rattle.demands.proofs.Answers.{evaluated-obeys, tabled-obeys, extended-obeys}
+use Rattle.demands.proofs.Answers.{evaluated-obeys, located-obeys, tabled-obeys, extended-obeys}
+use Rattle.demands.proofs.Files.{output-obeys}
 use Rattle.demands.proofs.Checked as checked
 
 -- of a text that is the formula's
@@ -40,6 +46,10 @@ module _ (C k : ℕ) (t : List ℕ) (f : Tree Formula) (is : IsText t f) where
   pub evaluation-is-meaning : (i j : ℕ) (recording : List ℕ) → AllYes (formulaReplies C k t f ++ askInterval i j k ∷ askRecording k recording ∷ askBytes C recording ∷ [])
       → evaluated C k i j t recording ≡ verdictOf (holds recording f (record { i = i; j = j }))
   evaluation-is-meaning i j recording = evaluated-obeys C k i j t recording .of-formula f is .all-yes
+
+  -- a node's text is that part of the lent text which the node prints
+  pub node-text-is-own : (x : ℕ) → AllYes (formulaReplies C k t f ++ question 8 0 (leb 1 x && leb x (length (nodesOf f 0))) ∷ []) → NodeText t x f (nodePlaceOf C k x t)
+  node-text-is-own x = located-obeys C k x t .of-formula f is .all-yes
 
   -- the table is the rules'
   pub table-is-rules : (sizes variables marks : List ℕ)
@@ -100,3 +110,16 @@ pub table-is-file : (C k : ℕ) (t : List ℕ) → acceptOf C k t ≡ Yes → (f
     → fileWritten (sizesBy (sizesIn C k t)) (variablesIn (placesIn C k t)) (marksIn (placesIn C k t)) file
     ≡ record { answer = Done; file = over (fileOf (sizesIn C k t) (variablesIn (placesIn C k t)) (marksIn (placesIn C k t))) file }
 table-is-file = table-written
+
+-- the file program writes the file of the line's table, and no bytes for a line that is refused or any other input
+pub program-writes-file : (C k : ℕ) (t : List ℕ) (f : Tree Formula) → IsText t f
+    → AllYes (formulaReplies C k t f ++ askLiterals (length (flat (clauseTable C k f))) ∷ [])
+    → outputOf (lineOf C k t) ≡ (let F = flat (clauseTable C k f) in fileOf (sizesOf C k f) (variablesIn F) (marksIn F))
+program-writes-file C k t f is = output-obeys (lineOf C k t) .of-line C k t refl .of-formula f is .all-yes
+
+pub program-refused : (C k : ℕ) (t : List ℕ) (f : Tree Formula) → IsText t f
+    → (r : Refusal) → FirstNo (formulaReplies C k t f ++ askLiterals (length (flat (clauseTable C k f))) ∷ []) r → outputOf (lineOf C k t) ≡ []
+program-refused C k t f is = output-obeys (lineOf C k t) .of-line C k t refl .of-formula f is .first-no
+
+pub program-other : (input : List ℕ) → ((C k : ℕ) (t : List ℕ) → lineOf C k t ≡ input → ⊥) → outputOf input ≡ []
+program-other input = output-obeys input .of-other

@@ -33,7 +33,8 @@ formulaReplies C k t f =
     let l = nodesOf f 0 in askChannels C ∷ askSteps k ∷ askLength t ∷ Yes ∷ askLetters C l ∷ askNumbers l ∷ askNodes l ∷ []
 
 -- a call on a text: 1 to 7 and then its own, which may turn on the formula; where the text is none's, 4 is the last that it asks
-pub record Obeys {A : Type 0} (C k : ℕ) (t : List ℕ) (own : Tree Formula → List Reply) (refused : Refusal → A) (Right : Tree Formula → A → Type 0) (x : A) : Type 0 where
+pub record Obeys {A : Type 0} (C k : ℕ) (t : List ℕ) (own : Tree Formula → List Reply)
+    (refused : Refusal → A) (Right : Tree Formula → A → Type 0) (x : A) : Type 0 where
   pub of-formula : (f : Tree Formula) → IsText t f → Follows (formulaReplies C k t f ++ own f) refused (Right f) x
   pub of-other : (p : ℕ) → Ungrammatical t p
       → Follows (askChannels C ∷ askSteps k ∷ askLength t ∷ No (record { number = 4; place = p }) ∷ []) refused (λ y. ⊥) x

@@ -77,7 +77,8 @@ pub record RecordingOf (C k : ℕ) (A r : List ℕ) : Type 0 where
 -- "A proposed assignment, from anyone, is accepted exactly when it meets every clause" (question 14)
 abbrev pub Checks : ℕ → ℕ → List ℕ → List ℕ → List ℕ → Proposed → Type 0
 Checks C k t A recording =
-    Obeys C k t (λ f. askAssignment (variablesOf C k (nodesOf f 0)) A ∷ askValues A ∷ askClauses (valueIn A) 0 (clauseTable C k f) ∷ askPlaces k (length recording) ∷ [])
+    Obeys C k t
+    (λ f. askAssignment (variablesOf C k (nodesOf f 0)) A ∷ askValues A ∷ askClauses (valueIn A) 0 (clauseTable C k f) ∷ askPlaces k (length recording) ∷ [])
     (notAccepted recording) (λ f x. (r : List ℕ) × RecordingOf C k A r × (x ≡ record { answer = checked.Accepted; recording = over r recording }))
 
 -- the file's writer
