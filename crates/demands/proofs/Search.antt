@@ -25,7 +25,7 @@ use Rattle.closure.specs.Runs.{dead, Run, highIn}
 use Rattle.closure.specs.Tree.{closure, Trial, trial}
 use Rattle.closure.proofs.Closure.{closure-is, closure-one}
 use Rattle.closure.proofs.Runs.{tree-runs, tree-run}
-use Rattle.search.specs.Search.{lentOf, askLent, treeOf, treeIn, Searched, unwritten, limited, searched, Unchanged, countIn}
+use Rattle.search.specs.Search.{lentOf, askLent, treeOf, treeIn, Searched, unwritten, limited, searched, Unchanged, Earliest, countIn}
 use Rattle.search.specs.declared.Lent.{Lent}
 use Rattle.search.specs.declared.Answer.{Answer}
 use Rattle.search.specs.declared.Answer.the-variants.{Found, None, Spent, Refused}
@@ -33,7 +33,7 @@ use Rattle.search.proofs.Order.{order-one-way}
 use Rattle.search.proofs.Outcome.{dead-none, found-satisfies, found-earliest}
 use Rattle.search.proofs.Ends.{End, finds, lacks, spends, end, found-first, found-within, none-within, spent-beyond, count-least, only-found-writes}
 use Rattle.demands.specs.Calls.{IsText, formulaReplies, Obeys}
-use Rattle.demands.specs.Demand3.{Trials, Earliest, Draws, Arrays, Search, Searches}
+use Rattle.demands.specs.Demand3.{Trials, Draws, Arrays, Search, Searches}
 use Rattle.demands.proofs.Obeyed.{yes-both, reads-as, letters-in, asked-obeys, obeys-two, obeys-through}
 
 -- ---- N
@@ -77,7 +77,7 @@ module _ (C k B : ℕ) (before : List ℕ) (f : Tree Formula) (L : Letters C f) 
   pub ended-draws : {x : Searched} → End C k B before (treeOf C k f) x → Draws C k f B N before (x .answer) (x .recording)
   ended-draws w = record {
     found-exactly = found-within C k B before f L w;
-    drawn = λ n e. let p = found-first C k B before f L w e in (p .0, p .1 .written, record { satisfies = p .1 .satisfies; others-later = p .1 .earliest });
+    drawn = λ n e. found-first C k B before f L w e;
     none-exactly = none-within C k B before f L w;
     spent-exactly = spent-beyond C k B before f L w;
     count = count-least C k B before f L w;

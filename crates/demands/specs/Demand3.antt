@@ -1,7 +1,6 @@
 -- DEMAND 3, of any engine: what the search answers and leaves in the recording's array.
 use mathlib.Core.Path.{_≡_}
 use mathlib.Core.Logic.{_↔_, _≢_}
-use mathlib.Core.Bool.{true}
 use mathlib.Core.List.{List, [], _∷_}
 use Prim.Native.Nat.{ℕ, _*_, _≤_, _<_, min}
 use lib.ListN.{length}
@@ -14,7 +13,7 @@ use Rattle.clauses.specs.Entries.{flat}
 use Rattle.clause_table.specs.Table.{over}
 use Rattle.closure.specs.Closure.{Literals, nothing, ClosureOf}
 use Rattle.closure.specs.Runs.{Outcome, Run}
-use Rattle.search.specs.Search.{earlier, lentOf, askLent, Satisfies, countIn}
+use Rattle.search.specs.Search.{lentOf, askLent, Satisfies, Earliest, countIn}
 use Rattle.search.specs.declared.Answer.{Answer}
 use Rattle.search.specs.declared.Answer.the-variants.{Found, None, Spent, Refused}
 use Rattle.demands.specs.Calls.{Obeys}
@@ -25,11 +24,6 @@ pub record Trials (C k : ℕ) (f : Tree Formula) (N : ℕ) : Type 0 where
   pub closed : ClosureOf (clauseTable C k f) nothing start
   pub outcome : Outcome
   pub run : Run (clauseTable C k f) (variablesOf C k (nodesOf f 0)) (k * C) start outcome N
-
--- r satisfies the formula, "and every other such recording that satisfies it comes later in the order"
-pub record Earliest (C k : ℕ) (f : Tree Formula) (r : List ℕ) : Type 0 where
-  pub satisfies : Satisfies C k f r
-  pub others-later : (s : List ℕ) → Satisfies C k f s → s ≢ r → earlier C k r s ≡ true
 
 -- the answer, and the recording's array before and after
 pub record Draws (C k : ℕ) (f : Tree Formula) (B N : ℕ) (before : List ℕ) (a : Answer) (after : List ℕ) : Type 0 where

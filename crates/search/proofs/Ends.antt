@@ -16,7 +16,7 @@ use Rattle.assignments.specs.Extension.{recordingBy}
 use Rattle.closure.specs.Closure.{Literals}
 use Rattle.closure.specs.Runs.{Outcome, dead, found, highIn}
 use Rattle.closure.specs.Tree.{Trial}
-use Rattle.search.specs.Search.{earlier, treeOf, Searched, unwritten, ended, limited, Satisfies, countIn}
+use Rattle.search.specs.Search.{treeOf, Searched, unwritten, ended, limited, Satisfies, Earliest, countIn}
 use Rattle.search.specs.declared.Answer.the-variants.{Found, None, Spent}
 use Rattle.search.proofs.Outcome.{dead-none, found-satisfies, found-earliest}
 
@@ -57,16 +57,9 @@ module _ (C k B : ℕ) (recording : List ℕ) (f : Tree Formula) (L : Letters C 
   abbrev Ends : Searched → Type 0
   Ends = End C k B recording (treeOf C k f)
 
-  -- r is written, satisfies the formula, and comes before every other that does
-  pub record First (x : Searched) (r : List ℕ) : Type 0 where
-    pub written : x .recording ≡ over r recording
-    pub satisfies : Satisfies C k f r
-    pub earliest : (s : List ℕ) → Satisfies C k f s → s ≢ r → earlier C k r s ≡ true
-
   -- found: the recording drawn
-  pub found-first : {x : Searched} → Ends x → {n : ℕ} → x .answer ≡ Found n → (r : List ℕ) × First x r
-  found-first (finds S e l) a =
-      (recordingBy C k (highIn S), record { written = refl; satisfies = found-satisfies C k f L S e; earliest = found-earliest C k f L S e })
+  pub found-first : {x : Searched} → Ends x → {n : ℕ} → x .answer ≡ Found n → (r : List ℕ) × (x .recording ≡ over r recording) × Earliest C k f r
+  found-first (finds S e l) a = (recordingBy C k (highIn S), refl, record { satisfies = found-satisfies C k f L S e; others-later = found-earliest C k f L S e })
   found-first (lacks e l) a = absurd (none≢found a)
   found-first (spends l) a = absurd (spent≢found a)
 

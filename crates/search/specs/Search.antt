@@ -1,6 +1,7 @@
 -- Document 01, "First recording" and "Questions in order", 18: the order of recordings, the tree of a formula, and what the search answers
 -- and leaves in the recording's array.
 use mathlib.Core.Path.{_≡_}
+use mathlib.Core.Logic.{_≢_}
 use mathlib.Core.Bool.{Bool, true, false, cond, _&&_}
 use mathlib.Core.List.{List, [], _∷_, _++_}
 use Prim.Native.Nat.{ℕ, _*_, _^_}
@@ -41,6 +42,11 @@ pub record Satisfies (C k : ℕ) (f : Tree Formula) (r : List ℕ) : Type 0 wher
   pub bytes : length r ≡ k
   pub below : EachBelow (2 ^ C) r
   pub true-on : holds r f (record { i = 0; j = k }) ≡ true
+
+-- r satisfies the formula, and every other recording that does comes later in the order
+pub record Earliest (C k : ℕ) (f : Tree Formula) (r : List ℕ) : Type 0 where
+  pub satisfies : Satisfies C k f r
+  pub others-later : (s : List ℕ) → Satisfies C k f s → s ≢ r → earlier C k r s ≡ true
 
 -- "found, none, spent, each with its count"
 abbrev pub countIn : Answer → ℕ
