@@ -41,8 +41,10 @@ use Rattle.clause_file.specs.Calls.{FileAfter, fileRefused, arrayQuestions, fil
 use Rattle.clause_file.proofs.Asking.{length-written, room-written, file-held}
 use Rattle.clause_file.proofs.Stored.{variables-count, marks-count}
 use Rattle.clause_file.proofs.Writable.{five-sizes}
+use Rattle.answers.specs.Answers.{Told, packVerdict, verdictBy, packWritten, writtenBy, packChecked, checkedBy, packAnswer, answerBy, packLocated, locatedBy}
 use Rattle.answers.specs.Numbers.{nodeNumbers, evaluationNumbers, tableNumbers, searchNumbers, extensionNumbers, proposalNumbers, fileNumbers}
 use Rattle.answers.proofs.Asks.{node-asks, evaluation-asks, table-asks, search-asks, extension-asks, proposal-asks, writer-asks, reader-asks}
+use Rattle.answers.proofs.Calls.{evaluated-told, located-told, tabled-told, extended-told, proposed-told, searched-told, file-written-told, file-read-told}
 use Rattle.demands.specs.Demand1.{RefusedBy, Kept}
 use Rattle.demands.proofs.Obeyed.{yes-both, one-yes}
 use Rattle.demands.proofs.Refused.{refused-by, all-answered, over-keeps, room-yes, places-yes, lent-yes, ended-keeps}
@@ -204,3 +206,29 @@ module _ (file sizes variables marks : List ℕ) where
         subst (Kept L variables) (sym (ap (λ (x : After). x .variables) e)) (over-keeps L (variablesAt file) variables (sym (variables-count held)) (h .1)),
         subst (Kept L marks) (sym (ap (λ (x : After). x .marks) e)) (over-keeps L (marksAt file) marks (marks-count held) (h .2)),
       )
+
+-- ---- the numbers that C gets: what is decoded from a call's number is its answer, so no two answers of a call have one number
+
+pub evaluation-number : (C k i j : ℕ) (t recording : List ℕ) → Told packVerdict verdictBy (evaluated C k i j t recording)
+evaluation-number C k i j t recording = evaluated-told C k t i j recording
+
+pub node-number : (C k x : ℕ) (t : List ℕ) → Told packLocated locatedBy (nodePlaceOf C k x t)
+node-number C k x t = located-told C k t x
+
+pub table-number : (C k : ℕ) (t sizes variables marks : List ℕ) → Told packWritten writtenBy (tabled C k t sizes variables marks .answer)
+table-number = tabled-told
+
+pub extension-number : (C k : ℕ) (t recording assignment : List ℕ) → Told packWritten writtenBy (extended C k t recording assignment .answer)
+extension-number = extended-told
+
+pub check-number : (C k : ℕ) (t A recording : List ℕ) → Told packChecked checkedBy (proposed C k t A recording .answer)
+check-number = proposed-told
+
+pub search-number : (C k : ℕ) (t : List ℕ) (B : ℕ) (n : Lent) (recording : List ℕ) → Told packAnswer answerBy (searched C k t B n recording .answer)
+search-number = searched-told
+
+pub writer-number : (s : Sizes) (variables marks file : List ℕ) → Told packWritten writtenBy (fileWritten s variables marks file .answer)
+writer-number = file-written-told
+
+pub reader-number : (file sizes variables marks : List ℕ) → Told packWritten writtenBy (fileRead file sizes variables marks .answer)
+reader-number = file-read-told

@@ -8,7 +8,7 @@ use Rattle.refusal.specs.declared.Refusal.{Refusal}
 use Rattle.refusal.specs.declared.Reply.{Reply}
 use Rattle.refusal.specs.declared.Reply.the-variants.{Yes, No}
 use Rattle.refusal.specs.Asked.{asked}
-use Rattle.refusal.proofs.Laws.{asked-append, replied-yes, earlier-no, last-no, last-yes}
+use Rattle.refusal.proofs.Laws.{asked-append, replied-yes, earlier-no}
 use Rattle.grammar.specs.Trees.{Tree}
 use Rattle.grammar.specs.Reader.{Read, parsed, stopped, read}
 use Rattle.grammar.specs.declared.Sort.the-variants.{Formula}
@@ -47,14 +47,6 @@ module _ (C k : ℕ) (t : List ℕ) (B : ℕ) (n : Lent) (recording : List ℕ) 
   pub first-refused : {r : Refusal} → acceptOf C k t ≡ No r → refused r ≡ searched C k t B n recording
   unfolding searched acceptOf
   first-refused e = earlier-no refused answer (formulaQuestions C k t) lent e
-
-  pub last-refused : acceptOf C k t ≡ Yes → {r : Refusal} → lent ≡ No r → refused r ≡ searched C k t B n recording
-  unfolding searched acceptOf
-  last-refused e l = last-no refused answer (formulaQuestions C k t) lent e l
-
-  pub answered : acceptOf C k t ≡ Yes → lent ≡ Yes → (f : Tree Formula) → read t ≡ parsed f → limited C k B recording (treeOf C k f) ≡ searched C k t B n recording
-  unfolding searched acceptOf treeIn
-  answered e l f q = ap (λ (r : Read Formula). limited C k B recording (onRead r)) (sym q) ∙ last-yes refused answer (formulaQuestions C k t) lent e l
 
   -- once the formula is accepted, the call is what it does with the node table of the tree that the text reads as
   of-tree : acceptOf C k t ≡ Yes → (f : Tree Formula) → read t ≡ parsed f → searchedBy C k f B n recording ≡ searched C k t B n recording
