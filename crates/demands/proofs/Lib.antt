@@ -1,9 +1,9 @@
 pub mod Obeyed
-pub mod Refused
 pub mod Answers
 pub mod Files
 pub mod Search
 pub mod Checked
+pub mod Orderly
 pub mod Demand1
 pub mod Demand2
 pub mod Demand3

@@ -1,5 +1,6 @@
--- DEMAND 1: what a refusal is, and which places of a lent array a call that answers may write.
+-- DEMAND 1: what a refusal gives, and which places of a lent array a call that is not refused may write.
 use mathlib.Core.Path.{_≡_}
+use mathlib.Core.Logic.{_≢_}
 use mathlib.Core.List.{List, List·Memᴰ}
 use Prim.Native.Nat.{ℕ}
 use lib.ListN.{length, drop}
@@ -7,13 +8,17 @@ use Rattle.refusal.specs.Asked.{FirstNo, Asks}
 use Rattle.refusal.specs.declared.Refusal.{Refusal}
 use Rattle.refusal.specs.declared.Reply.{Reply}
 
--- the questions have these numbers, in this order, and r is the first no: so its number is one of them
-pub record RefusedBy (numbers : List ℕ) (questions : List Reply) (r : Refusal) : Type 0 where
-  pub asks : Asks numbers questions
-  pub first : FirstNo questions r
-  pub among : List·Memᴰ (r .number) numbers
-
 -- "places beyond those written are untouched": the array is as long as it was, and from place n on as it was
 pub record Kept (n : ℕ) (before after : List ℕ) : Type 0 where
   pub long : length after ≡ length before
   pub beyond : drop n after ≡ drop n before
+
+-- a call that leaves x, an answer (`tell x`, a refusal's by `refusal`) and the lent arrays
+pub record Orderly {A B : Type 0} (tell : A → B) (refusal : Refusal → B) (numbers : List ℕ) (questions : List Reply)
+    (refused : Refusal → A) (Left : A → Type 0) (x : A) : Type 0 where
+  -- its questions have document 01's numbers for the call, in document 01's order
+  pub asks : Asks numbers questions
+  -- refused: by the first no, so by one of these numbers, and every lent array is as it was
+  pub refusals : (r : Refusal) → tell x ≡ refusal r → FirstNo questions r × List·Memᴰ (r .number) numbers × (x ≡ refused r)
+  -- not refused: only these places are written
+  pub writes : ((r : Refusal) → tell x ≢ refusal r) → Left x
