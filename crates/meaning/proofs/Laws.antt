@@ -9,7 +9,7 @@ use lib.Dec.{leb, ltb}
 use borrow.Author.Tests.{le-leb, lt-leb, leb-true, leb-false, ltb-true, ltb-false}
 use Rattle.grammar.proofs.Bytes.{both}
 use Rattle.interval.specs.declared.Interval.{Interval}
-use Rattle.meaning.specs.Meaning.{bit, highs, every, any, chops}
+use Rattle.meaning.specs.Meaning.{bit, highs, every, any, lasts, fills, chops}
 
 module _ (f : ℕ → Bool) (i : ℕ) where
   pub highs-le : (n : ℕ) → highs f i n ≤ n
@@ -60,6 +60,19 @@ module _ (f : ℕ → Bool) (i : ℕ) where
   some-one zero = (λ e. absurd (false≢true e), λ w. absurd (omega (arith, w .1, w .2)))
   some-one (suc n) = or-one n (any f i n) (some-one n) (f (i + n)) refl
 
+-- what is true at every one of n instants is true at each
+every-each : (f : ℕ → Bool) (i n : ℕ) → (every f i n ≡ true) ↔ ((t : ℕ) → i ≤ t → t < i + n → f t ≡ true)
+unfolding every
+every-each f i zero = (λ e t l m. absurd (omega arith), λ h. refl)
+every-each f i (suc n) = (there (every-each f i n .0), λ h. rw (every-each f i n .1 (λ t l m. h t l (omega arith)), h (i + n) (omega arith) (omega arith)) refl)
+  where
+    there : (every f i n ≡ true → (t : ℕ) → i ≤ t → t < i + n → f t ≡ true) → (every f i n && f (i + n)) ≡ true → (t : ℕ) → i ≤ t → t < i + suc n → f t ≡ true
+    there ih e t l m = let w = both (every f i n) (f (i + n)) e in go (ih (w .0) t l) (w .1) (ltb t (i + n)) refl
+      where
+        go : (t < i + n → f t ≡ true) → f (i + n) ≡ true → (b : Bool) → ltb t (i + n) ≡ b → f t ≡ true
+        go before last true c = before (ltb-true t (i + n) c)
+        go before last false c = let z : t ≡ i + n = omega (arith, ltb-false t (i + n) c) in ap f z ∙ last
+
 -- only the instants counted matter
 pub highs-agree : (f g : ℕ → Bool) (i n : ℕ) → ((t : ℕ) → i ≤ t → t < i + n → f t ≡ g t) → highs f i n ≡ highs g i n
 unfolding highs
@@ -77,3 +90,14 @@ chop-some f g v h =
       λ e. let o = w .0 e in let t = both (f (record { i = v .i; j = o .0 })) (g (record { i = o .0; j = v .j })) (o .3) in (o .0, o .1, omega (arith, o .2), t .0, t .1),
       λ o. w .1 (o .0, o .1, omega (arith, o .2), ap₂ _&&_ (o .3) (o .4)),
     )
+
+-- `[S]` is every t with i ≤ t < j
+pub throughout-each : (f : ℕ → Bool) (v : Interval) → v .i ≤ v .j → (fills f v ≡ true) ↔ ((t : ℕ) → v .i ≤ t → t < v .j → f t ≡ true)
+unfolding fills
+throughout-each f v h =
+    let w = every-each f (v .i) (v .j - v .i) in (λ e t l m. w .0 e t l (omega arith), λ g. w .1 (λ t l m. g t l (omega arith)))
+
+-- a duration turns on the t with i ≤ t < j alone
+pub duration-within : (n : ℕ) (f g : ℕ → Bool) (v : Interval) → v .i ≤ v .j → ((t : ℕ) → v .i ≤ t → t < v .j → f t ≡ g t) → lasts n f v ≡ lasts n g v
+unfolding lasts
+duration-within n f g v h e = ap (leb n) (highs-agree f g (v .i) (v .j - v .i) (λ t l m. e t l (omega arith)))
