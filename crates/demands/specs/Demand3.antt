@@ -40,7 +40,7 @@ pub record Draws (C k : ℕ) (f : Tree Formula) (B N : ℕ) (before : List ℕ) 
   -- "The recording array is written only on found."
   pub kept : ((n : ℕ) → a ≢ Found n) → after ≡ before
 
--- an answer, and the five lent arrays after it
+-- the five lent arrays
 pub record Arrays : Type 0 where
   pub variables : List ℕ
   pub marks : List ℕ
@@ -48,6 +48,7 @@ pub record Arrays : Type 0 where
   pub trail : List ℕ
   pub recording : List ℕ
 
+-- an answer, and the arrays after it
 pub record Search : Type 0 where
   pub answer : Answer
   pub arrays : Arrays
