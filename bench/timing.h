@@ -5,7 +5,7 @@
 #include <stdbool.h>
 #include <stdint.h>
 
-enum { ENGINE, PLAIN, MOST_CONTESTANTS = 4 };
+enum { ENGINE, PLAIN, MOST_CONTESTANTS = 5 };
 
 /* Asks one contestant, once, all that a line of the table asks. */
 typedef uint64_t asked(const void *line, uint32_t contestant);
@@ -26,7 +26,7 @@ struct goal {
     const char *name;
     double most, worst;
     const char *line;
-    uint32_t k;
+    uint32_t k, lines, missed;
 };
 
 /* Whether a line misses its goal. */

@@ -175,12 +175,14 @@ uint64_t tuv_check(const uint8_t *text, size_t text_length, uint32_t c, uint32_t
  * then follows from the clauses is no try. Their number depends on the formula, c and k alone. It grows fast with channels that
  * the formula does not speak of, since each sample of theirs may be tried both ways in vain; the limit keeps a student from
  * waiting.
- * Lent:    the text; the limit, how many tries are allowed, 0 to 4,294,967,295; to work in, variables and marks, a place each for
- *          every literal of the table, values and trail, a place each for every variable; the recording, k places.
- *          What tuv_table writes says how many that are, TUV_L and TUV_V; TUV_MOST_LITERALS and TUV_MOST_VARIABLES places are
+ * Lent:    the text; the limit, how many tries are allowed, 0 to 4,294,967,295; to work in, values and trail, a place each for
+ *          every variable; variables and marks, a place each for every literal of the table: room that every engine asks for
+ *          (TUV_ROOM), though this one makes no table and leaves both untouched; the recording, k places.
+ *          What tuv_table writes says how many that are, TUV_V and TUV_L; TUV_MOST_VARIABLES and TUV_MOST_LITERALS places are
  *          enough for any formula. A call for which there are too few does not say how many it needs.
- * Written: on TUV_FOUND the k bytes of the recording, as for tuv_evaluate; otherwise nothing of it. The other four arrays hold
- *          anything after TUV_FOUND, TUV_NONE and TUV_SPENT; in a refused call all five stay as they were.
+ * Written: on TUV_FOUND the k bytes of the recording, as for tuv_evaluate; otherwise nothing of it. What the other four arrays
+ *          hold after TUV_FOUND, TUV_NONE and TUV_SPENT is free: count on nothing there. In a refused call all five stay as they
+ *          were.
  *          For `(#a>=1|#b>=1)`, c 2, k 1: TUV_FOUND after 1 try, a low, and recording 2; with limit 0 TUV_SPENT.
  * Answers: TUV_FOUND, TUV_NONE, TUV_SPENT, a refusal 1 to 7 or 18. TUV_NONE is certain, whatever the limit was; with a higher
  *          limit the same tries are made, and more only after TUV_SPENT.

@@ -137,7 +137,7 @@ static void refused_table(const char *text, uint32_t c, uint32_t k, size_t sizes
 /* A recording or an assignment. */
 struct bytes {
     size_t length;
-    uint8_t bytes[12];
+    uint8_t bytes[32];
 };
 
 /* Of `#a>=1`, c 1, k 1: channel a at its one instant; level 0 on the three intervals; level 1 on them; the node `a`. */
@@ -372,6 +372,16 @@ static void searches(void)
     for (size_t x = 0; x < sizeof too_short / sizeof *too_short; x++)
         refused_search("(#a>=1|#b>=1)", 2, 1, &too_short[x], TUV_ROOM, 0);
     refused_search("F", 1, 0, &(struct room){2, 2, 1, 0, 0}, TUV_ROOM, 0);
+}
+
+/* As many tries one below another as there can be. `!F` has two blocks of 561, five literals a place. */
+static void deepest_search(void)
+{
+    static const struct room room = {5 * 561 + 1, 5 * 561 + 1, 256 + 2 * 561, 256 + 2 * 561, 32};
+    static const struct bytes all_low = {32, {0}};
+
+    search("!F", 8, 32, 256, &room, TUV_FOUND, 256, &all_low);
+    search("!F", 8, 32, 255, &room, TUV_SPENT, 255, &no_bytes);
 }
 
 /* Tries that are dead: what they set is gone, and they count. */
@@ -670,6 +680,7 @@ int main(void)
     checks();
     recording_to_assignment_to_recording();
     searches();
+    deepest_search();
     dead_tries();
     searches_in_turn();
     largest_table();

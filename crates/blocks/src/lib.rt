@@ -6,6 +6,7 @@ ghost use Prim.Native.Nat.{_+_, _-_, _^_, _≤_, _<_};
 ghost use Rattle.interval.specs.Places.{countOf, placeOf};
 ghost use Rattle.interval.specs.Limits.{maxSteps};
 ghost use Rattle.circuit.specs.Circuit.{channelOf};
+ghost use Rattle.blocks.specs.declared.Rule.the-variants.{Chop};
 ghost use Rattle.blocks.specs.Blocks.{ruleBy, isChop, formOf, linesOf, cellsOf, nextOf, bound, Placed, Before, Bounded, levelBy, throughoutBy, tripleBy, gateOf};
 
 // What the gates of a block go by. A chop has two blocks: its intervals, and its triples, which cut an interval in two.
@@ -82,7 +83,7 @@ pub fn is_chop(rule: Rule) -> bool
 }
 
 // How the cells of a block of this rule stand.
-fn form_of(rule: Rule) -> Form
+pub fn form_of(rule: Rule) -> Form
     ensures { λ r. ⌜ r ≡ formOf rule ⌝ }
 {
     match rule {
@@ -165,7 +166,7 @@ pub fn next(rule: Rule, points: u32, k: u32, p: Position) -> Position
 
 // The place of the interval of so many steps from i on among the intervals of k steps, I in all: those that start before i are all but
 // those of k - i steps.
-fn place(i: u32, steps: u32, k: u32, all: u32) -> u32
+pub fn place(i: u32, steps: u32, k: u32, all: u32) -> u32
     requires { ⌜ (i + steps ≤ k) × (k ≤ maxSteps) × (all ≡ countOf k) ⌝ }
     ensures { λ r. ⌜ (r ≡ placeOf k (record { i = i; j = i + steps })) × (r < bound) ⌝ }
 {
@@ -218,7 +219,7 @@ fn channel_variable(c: u32, t: u32, channel: u32) -> u32
 // The gate in place x of a block, at position p; k steps have I intervals in all.
 pub fn gate_at(c: u32, k: u32, all: u32, block: Block, x: u32, p: Position) -> Gate
     requires { ⌜ Bounded c k block × (x < 2 ^ 24) × (all ≡ countOf k) ⌝ }
-    requires { ⌜ Placed (block .points) k (block .rule) x (p .row) (p .line) (p .cell) × Before (block .points) k (block .rule) p ⌝ }
+    requires { ⌜ Placed (block .points) k (block .rule) x (p .row) (p .line) (p .cell) × (block .rule ≡ Chop → Before (block .points) k (block .rule) p) ⌝ }
     ensures { λ r. ⌜ r ≡ gateOf c k block x (p .row) (p .line) (p .cell) ⌝ }
 {
     let rule = block.rule;

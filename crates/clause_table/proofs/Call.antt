@@ -179,7 +179,7 @@ module _ (C k : ℕ) (f : Tree Formula) where
         ∙ table-places C k f F (known .first)
 
     -- the table, once its places are written
-    pub arrays-written : {variables marks variables′ marks′ : List ℕ} {at : ℕ} → s .literals ≤ length variables → s .literals ≤ length marks
+    arrays-written : {variables marks variables′ marks′ : List ℕ} {at : ℕ} → s .literals ≤ length variables → s .literals ≤ length marks
         → Wrote variables marks 0 (tablePlaces C k (T .kinds) (T .numbers) (T .sizes) F (T .count)) variables′ marks′ at
         → (variables′ ≡ over (variablesIn places) variables) × (marks′ ≡ over (marksIn places) marks)
     arrays-written {variables} {marks} g h t = (

@@ -113,7 +113,7 @@ fn put_nodes<'a>(
 }
 
 // The whole table: the nodes' clauses, then the root alone.
-pub fn put_table<'a>(
+fn put_table<'a>(
     variables: &mut [u32],
     marks: &mut [u8],
     kinds: &'a [u8; MAX_NODES],

@@ -1,4 +1,4 @@
-// A set of literals as values and a trail: a literal put in, what was put in undone, and the set closed under a table.
+// A set of literals as values and a trail: a literal put in, what was put in undone, and how closing the set ends.
 ghost use mathlib.Core.Path.{_≡_};
 ghost use mathlib.Core.Bool.{false};
 ghost use Prim.Native.Nat.{_+_, _-_, _^_, _≤_, _<_};
@@ -6,8 +6,6 @@ ghost use lib.ListN.{length, set};
 ghost use Rattle.clauses.specs.Entries.{entry, literalOf};
 ghost use Rattle.closure.specs.Closure.{opposite};
 ghost use Rattle.closing.specs.Values.{heldIn, Trailing, Ranged, undone, Added};
-ghost use Rattle.closing.specs.Closing.{Readable, ClosedTo};
-ghost use Rattle.closing.specs.Passes.{Scanned, PassedTo};
 
 // The place of a variable's value.
 fn place(variable: u32) -> usize
@@ -41,7 +39,7 @@ pub fn undo(values: &mut [u8], trail: &[u32], from: usize, to: usize)
 }
 
 // Whether the literal of a variable and a mark is opposed.
-fn opposed(values: &[u8], variable: u32, mark: u8) -> bool
+pub fn opposed(values: &[u8], variable: u32, mark: u8) -> bool
     requires { ⌜ (1 ≤ variable) × (variable ≤ length (now values)) ⌝ }
     ensures { λ r. ⌜ r ≡ heldIn (now (values .entry)) (opposite (literalOf (entry variable mark))) ⌝ }
 {
@@ -61,88 +59,8 @@ pub fn add(values: &mut [u8], trail: &mut [u32], top: usize, variable: u32, mark
     top + 1
 }
 
-// What a clause comes to: the place after it, how many of its literals are not opposed (2 for more), the place of the last of them.
-struct Tallied {
-    next: usize,
-    free: usize,
-    last: usize,
-}
-
-// The clause that starts at a place.
-fn scan(variables: &[u32], marks: &[u8], values: &[u8], p: usize) -> Tallied
-    requires { ⌜ Readable (now variables) (now marks) (length (now values)) × (p < length (now variables)) ⌝ }
-    ensures { λ r. ⌜ Scanned (now (variables .entry)) (now (marks .entry)) (now (values .entry)) p r ⌝ }
-{
-    let mut i = p;
-    let mut free = 0;
-    let mut last = p;
-    loop {
-        let mark = marks[i];
-        if !opposed(values, variables[i], mark) {
-            free = if free == 0 { 1 } else { 2 };
-            last = i;
-        }
-        i += 1;
-        if mark >= 2 {
-            return Tallied {
-                next: i,
-                free: free,
-                last: last,
-            };
-        }
-    }
-}
-
 // How closing ended, and how many places of the trail are used.
 pub struct Closed {
     pub clash: bool,
     pub top: usize,
-}
-
-// One pass over the table: a clause with all literals opposed ends it, one with all but one gives that one.
-fn pass(variables: &[u32], marks: &[u8], values: &mut [u8], trail: &mut [u32], top: usize) -> Closed
-    requires { ⌜ Readable (now variables) (now marks) (length (now values)) × Trailing (now values) (now trail) top ⌝ }
-    ensures { λ r. ⌜ PassedTo (now (variables .entry)) (now (marks .entry)) (now (values .entry)) (now (trail .entry)) top (now (values .exit)) (now (trail .exit)) r ⌝ }
-{
-    let mut p = 0;
-    let mut t = top;
-    while p < variables.len() {
-        let s = scan(variables, marks, values, p);
-        if s.free == 0 {
-            return Closed {
-                clash: true,
-                top: t,
-            };
-        }
-        if s.free == 1 {
-            let k = s.last;
-            t = add(values, trail, t, variables[k], marks[k]);
-        }
-        p = s.next;
-    }
-    Closed {
-        clash: false,
-        top: t,
-    }
-}
-
-// Passes until one adds nothing or meets a clash.
-pub fn close(
-    variables: &[u32],
-    marks: &[u8],
-    values: &mut [u8],
-    trail: &mut [u32],
-    top: usize,
-) -> Closed
-    requires { ⌜ Readable (now variables) (now marks) (length (now values)) × Trailing (now values) (now trail) top ⌝ }
-    ensures { λ r. ⌜ ClosedTo (now (variables .entry)) (now (marks .entry)) (now (values .entry)) (now (trail .entry)) top (now (values .exit)) (now (trail .exit)) r ⌝ }
-{
-    let mut t = top;
-    loop {
-        let r = pass(variables, marks, values, trail, t);
-        if r.clash | (r.top == t) {
-            return r;
-        }
-        t = r.top;
-    }
 }

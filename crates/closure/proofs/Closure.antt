@@ -61,6 +61,28 @@ next (m ∷ ms) S = go (not (S (m .self)) && allOpposed S (m .fellows)) refl (ne
         more m (List·Memᴰ.List·Memᴰ·head refl) (opposed-all S (m .fellows) (w .1)) (not-true (S (m .self)) (w .0))
     go false e n = longer (idle S m e) n
 
+-- nothing is forced: all is kept; something is: every closed set that has the set has it
+pub none-forced : (ms : List Member) (S : Literals) → firstForced ms S ≡ none → All (Keeps (In S)) ms
+none-forced ms S e = go (next ms S) e
+  where
+    go : {o : Option Literal} → Next ms S o → o ≡ none → All (Keeps (In S)) ms
+    go (still a) e = a
+    go (more m i o n) e = absurd (let z : _≡_ {A = ℕ} 0 1 = cc in omega arith)
+
+pub some-forced : (ms : List Member) (S : Literals) {l : Literal} → firstForced ms S ≡ some l → (X : Literal → Type 0) → All (Keeps X) ms → Below S X → X l
+some-forced ms S {l} e X a h = go (next ms S) e
+  where
+    go : {o : Option Literal} → Next ms S o → o ≡ some l → X l
+    go (still a) e = absurd (let z : _≡_ {A = ℕ} 0 1 = cc in omega arith)
+    go (more m i o n) e = let s : m .self ≡ l = cc in rw (← s) (all-in (Keeps X) ms a i (all-map _ _ (λ l p. h _ p) (m .fellows) o))
+
+pub some-outside : (ms : List Member) (S : Literals) {l : Literal} → firstForced ms S ≡ some l → S l ≡ false
+some-outside ms S {l} e = go (next ms S) e
+  where
+    go : {o : Option Literal} → Next ms S o → o ≡ some l → S l ≡ false
+    go (still a) e = absurd (let z : _≡_ {A = ℕ} 0 1 = cc in omega arith)
+    go (more m i o n) e = let s : m .self ≡ l = cc in rw (← s) n
+
 -- ---- members outside the set
 
 abbrev outside : List Member → Literals → ℕ

@@ -73,14 +73,14 @@ module _ (C k : ℕ) (block : Block) where
       before = subst (Before (block .points) k (block .rule)) (sym e) (next-before (block .points) k (block .rule) p (w .here h) (w .before));
     }
 
-    pub definition-here : {gate : Gate} → gate ≡ gateOf C k block x (p .row) (p .line) (p .cell) → definitionIn D x ≡ define (block .first + x) gate
-    unfolding definedBy
-    definition-here g =
-        let s = shapeOf (block .points) k (block .rule) in
-        let at = w .here h .at in
-        ap (definitionIn D) at
-        ∙ getD-per s (λ e. define (block .first + place s e) (gateOf C k block (place s e) (e .0) (e .1 .0) (e .1 .1))) (p .row, (p .line, p .cell)) (define 0 (Constant false)) (w .here h .inside)
-        ∙ ap₂ (λ (y : ℕ) (g : Gate). define (block .first + y) g) (sym at) (ap (λ (y : ℕ). gateOf C k block y (p .row) (p .line) (p .cell)) (sym at) ∙ sym g)
+  pub definition-here : {x a i d : ℕ} → Placed (block .points) k (block .rule) x a i d → {gate : Gate} → gate ≡ gateOf C k block x a i d → definitionIn D x ≡ define (block .first + x) gate
+  unfolding definedBy
+  definition-here {x} {a} {i} {d} p g =
+      let s = shapeOf (block .points) k (block .rule) in
+      let at = p .at in
+      ap (definitionIn D) at
+      ∙ getD-per s (λ e. define (block .first + place s e) (gateOf C k block (place s e) (e .0) (e .1 .0) (e .1 .1))) (a, (i, d)) (define 0 (Constant false)) (p .inside)
+      ∙ ap₂ (λ (y : ℕ) (g : Gate). define (block .first + y) g) (sym at) (ap (λ (y : ℕ). gateOf C k block y a i d) (sym at) ∙ sym g)
 
   -- the writing loop's laws
   module _ {v m : List ℕ} {at n : ℕ} where
@@ -96,7 +96,7 @@ module _ (C k : ℕ) (block : Block) where
 
       module _ (h : x < n) {gate : Gate} (g : gate ≡ gateOf C k block x (p .row) (p .line) (p .cell)) where
         places : placesAt D x ≡ flat (clausesOf (block .first + x) gate)
-        places = ap (λ (e : Definition). flat (clausesOf (e .variable) (e .gate))) (definition-here (w .walks) h g)
+        places = ap (λ (e : Definition). flat (clausesOf (e .variable) (e .gate))) (definition-here (w .walks .here h) g)
 
         pub walk-room : Room v m at (flat (clausesBy D)) → Room v′ m′ b (flat (clausesOf (block .first + x) gate))
         walk-room r = room (w .sofar) h places (subst (Room v m at) (sym all) r)
@@ -142,9 +142,8 @@ module _ {C k : ℕ} {block : Block} (s : Bounded C k block × (block .points �
   pub light : {w v : Weight} → w ≡ v → v .copy ≤ 4 → v .each ≤ 3 → v .step ≤ 11 → Light w k (block .points) (block .rule)
   light e a b c = record { small = small e a b c (s .0 .steps); points = s .1; number = s .0 .number }
 
-  module _ {n x : ℕ} {p : Position} (w : Walks C k block n p x) (h : x < n) where
-    pub within-here : {gate : Gate} → gate ≡ gateOf C k block x (p .row) (p .line) (p .cell) → Within gate
-    within-here g = subst Within (sym g) (gate-within C k block (s .0) x (p .row) (p .line) (p .cell) (w .here h))
+  pub within-here : {x a i d : ℕ} → Placed (block .points) k (block .rule) x a i d → {gate : Gate} → gate ≡ gateOf C k block x a i d → Within gate
+  within-here {x} {a} {i} {d} p g = subst Within (sym g) (gate-within C k block (s .0) x a i d p)
 
-    pub small-here : (k ≤ maxSteps) × (p .row < bound) × (p .line < bound) × (p .cell < bound) × (p .before < bound)
-    small-here = omega (arith, s .0 .steps, position-small (w .here h) (s .0 .number) (s .0 .steps) (s .1), before-small p (w .here h) (w .before) (s .0 .steps) (s .1))
+  pub small-here : {n x : ℕ} {p : Position} → Walks C k block n p x → x < n → (k ≤ maxSteps) × (p .row < bound) × (p .line < bound) × (p .cell < bound) × (p .before < bound)
+  small-here {p = p} w h = omega (arith, s .0 .steps, position-small (w .here h) (s .0 .number) (s .0 .steps) (s .1), before-small p (w .here h) (w .before) (s .0 .steps) (s .1))

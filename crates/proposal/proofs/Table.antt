@@ -1,5 +1,5 @@
 -- The rows of a formula's node table give its definitions, and then the root; so the clauses that the code asks about, row after row, are
--- those of the formula's table, and every variable that it looks up is one of the V.
+-- those of the formula's table.
 use mathlib.Core.Path.{_≡_, refl, sym, ap, ap₂, _∙_, subst}
 use mathlib.Core.Logic.{⊎-elim}
 use mathlib.Core.Bool.{Bool, true, false, cond, _||_}
@@ -8,24 +8,18 @@ use Prim.Native.Nat.{ℕ, zero, suc, _+_, _≤_, _<_}
 use native.Mathlib.Nat.{eq-or-lt-of-le}
 use native.Mathlib.Numerals.{add-one}
 use native.Mathlib.Omega.{arith}
-use lib.ListN.{length, length-map}
+use lib.ListN.{length}
 use Rattle.refusal.specs.declared.Refusal.{Refusal}
 use Rattle.refusal.specs.declared.Reply.{Reply}
 use Rattle.refusal.specs.declared.Reply.the-variants.{Yes, No}
-use Rattle.interval.specs.Listing.{rows, tab, All}
-use Rattle.interval.proofs.Listing.{length-tab, getD-tab}
-use Rattle.grammar.specs.Trees.{Tree, Letters}
+use Rattle.interval.specs.Listing.{rows}
+use Rattle.grammar.specs.Trees.{Tree}
 use Rattle.grammar.specs.declared.Sort.the-variants.{Formula}
-use Rattle.formula.specs.Nodes.{Node, nodesOf}
+use Rattle.formula.specs.Nodes.{nodesOf}
 use Rattle.rows.specs.Table.{rowOf, tableOf}
 use Rattle.rows.specs.declared.NodeTable.{NodeTable}
-use Rattle.circuit.specs.Gates.{Assignment, inputsOf}
-use Rattle.circuit.specs.Circuit.{Definition, define, variablesOf, definitionsOf, rootOf}
-use Rattle.circuit.specs.declared.Gate.{Gate}
-use Rattle.circuit.specs.declared.Gate.the-variants.{Constant, Copy, Inverse, Both, Either, AnyOf, Step}
-use Rattle.circuit.proofs.Blocks.{From}
-use Rattle.circuit.proofs.Lists.{all-at}
-use Rattle.circuit.proofs.Laws.{Mentions, definitions-mention}
+use Rattle.circuit.specs.Gates.{Assignment}
+use Rattle.circuit.specs.Circuit.{Definition}
 use Rattle.blocks.specs.Blocks.{isChop}
 use Rattle.blocks.specs.declared.Block.{Block}
 use Rattle.weights.specs.Weights.{clauseWeight, weightTo}
@@ -34,13 +28,12 @@ use Rattle.clauses.proofs.Sizes.{clauses-by}
 use Rattle.node_clauses.specs.Nodes.{nodeBy}
 use Rattle.clause_table.specs.Rows.{rowDefinitions, Measured}
 use Rattle.clause_table.specs.declared.Sizes.{Sizes}
-use Rattle.clause_table.proofs.Places.{kinds, numbers, sizes, rows-defined, root-at}
-use Rattle.clause_table.proofs.Call.{known, variables-known, rows-weigh}
-use Rattle.clause_table.proofs.Laws.{root-in-range}
+use Rattle.clause_table.proofs.Mentioned.{defined-known, root-known}
+use Rattle.clause_table.proofs.Call.{rows-weigh}
 use Rattle.assignments.specs.Calls.{askClauses}
-use Rattle.unmet.specs.Mentioned.{Variable, InputsIn, AllMentioned}
-use Rattle.unmet.proofs.Walk.{either, ask-append, first-no, then-asked, first-mentioned, then-mentioned}
-use Rattle.proposal.specs.Rows.{definedIn, rootIn, clausesFor}
+use Rattle.gates.specs.Mentioned.{AllMentioned}
+use Rattle.unmet.proofs.Walk.{either, ask-append, first-no, then-asked}
+use Rattle.proposal.specs.Rows.{clausesFor}
 
 -- ---- one row after another
 
@@ -61,9 +54,6 @@ module _ (D : ℕ → List Definition) {n x : ℕ} (h : x < n) where
   -- row x is among all
   abbrev after : (R : List Definition) × (rows (x + 1) D ++ R ≡ rows n D)
   after = rows-rest D n (x + 1) (omega arith)
-
-  pub row-mentioned : {l : ℕ} → AllMentioned l (rows n D) → AllMentioned l (D x)
-  row-mentioned a = then-mentioned (rows x D) (D x) (row-more D x) (first-mentioned (rows (x + 1) D) (after .0) (after .1) a)
 
   -- the rows before x are met, and row x is asked about, its first clause having the number m
   module _ (a : Assignment) {m : ℕ} (w : m ≡ 0 + length (clausesBy (rows x D))) (y : Yes ≡ askClauses a 0 (clausesBy (rows x D))) {q : Reply} (o : q ≡ askClauses a m (clausesBy (D x))) where
@@ -126,47 +116,9 @@ module _ (a : Assignment) (T : List Clause) (v : ℕ) {q : Reply} (f : q ≡ ask
     pub root-unmet : h ≡ false → {m : ℕ} → m ≡ 0 + length T → No (record { number = 14; place = m }) ≡ askClauses a 0 whole
     root-unmet e n = ap (λ (m : ℕ). No (record { number = 14; place = m })) n ∙ root-next false e
 
--- ---- what the definitions mention is among the V variables
+-- ---- a formula's table
 
-inputs-in : (n : ℕ) (g : Gate) → All (From 1 n) (inputsOf g) → InputsIn n g
-unfolding inputsOf
-inputs-in n (Constant b) a = tt
-inputs-in n (Copy u) a = omega (arith, a .0)
-inputs-in n (Inverse x) a = omega (arith, a .0)
-inputs-in n (Both x y) a = (omega (arith, a .0), omega (arith, a .1 .0))
-inputs-in n (Either x y) a = (omega (arith, a .0), omega (arith, a .1 .0))
-inputs-in n (AnyOf w m) a = λ e h.
-    let f = subst (From 1 n) (getD-tab m (λ e. w + e) e 0 h) (all-at (From 1 n) (tab m (λ e. w + e)) 0 a e (omega (arith, length-tab m (λ e. w + e)))) in omega arith
-inputs-in n (Step p q s) a = (omega (arith, a .0), omega (arith, a .1 .0), omega (arith, a .1 .1 .0))
-
-module _ (C k : ℕ) (f : Tree Formula) where
-  abbrev nodes : List Node
-  nodes = nodesOf f 0
-
-  all-mentioned : Letters C f → AllMentioned (variablesOf C k nodes) (definitionsOf C k nodes)
-  unfolding variablesOf
-  all-mentioned L x h =
-      let m = all-at (Mentions C k nodes) (definitionsOf C k nodes) (define 0 (Constant false)) (definitions-mention C k f L) x h in
-      record { variable = omega (arith, m .defines); inputs = inputs-in _ _ (m .inputs) }
-
-  module _ {T : NodeTable} (e : T ≡ tableOf (map rowOf nodes)) {F : List ℕ} {s : Sizes} (w : Measured C k (T .kinds) (T .numbers) (T .count) F s) where
-    defined-known : definedIn C k (T .kinds) (T .numbers) (T .sizes) F (T .count) ≡ definitionsOf C k nodes
-    unfolding tableOf
-    defined-known =
-        ap (λ (T : NodeTable). definedIn C k (T .kinds) (T .numbers) (T .sizes) F (T .count)) e
-        ∙ ap (definedIn C k (kinds nodes) (numbers nodes) (sizes nodes) F) (length-map nodes rowOf)
-        ∙ rows-defined C k f F (known C k f e w .first)
-
-    root-known : rootIn (T .kinds) (T .numbers) F k ≡ rootOf C k f
-    unfolding tableOf
-    root-known = ap (λ (T : NodeTable). rootIn (T .kinds) (T .numbers) F k) e ∙ root-at C k f F (known C k f e w .first)
-
-    pub table-mentioned : Letters C f → (A : List ℕ) → length A ≡ s .variables
-        → AllMentioned (length A) (definedIn C k (T .kinds) (T .numbers) (T .sizes) F (T .count)) × Variable (length A) (rootIn (T .kinds) (T .numbers) F k)
-    table-mentioned L A h =
-        let n = sym (h ∙ variables-known C k f e w) in
-        (subst (λ (D : List Definition). AllMentioned (length A) D) (sym defined-known) (subst (λ (n : ℕ). AllMentioned n (definitionsOf C k nodes)) n (all-mentioned L)), omega (arith, n, root-known, root-in-range C k f))
-
-    pub clauses-known : clausesFor C k (T .kinds) (T .numbers) (T .sizes) F (T .count) ≡ clauseTable C k f
-    unfolding clauseTable
-    clauses-known = ap₂ (λ (D : List Definition) (v : ℕ). clausesBy D ++ (plain v ∷ []) ∷ []) defined-known root-known
+module _ (C k : ℕ) (f : Tree Formula) {T : NodeTable} (e : T ≡ tableOf (map rowOf (nodesOf f 0))) {F : List ℕ} {s : Sizes} (w : Measured C k (T .kinds) (T .numbers) (T .count) F s) where
+  pub clauses-known : clausesFor C k (T .kinds) (T .numbers) (T .sizes) F (T .count) ≡ clauseTable C k f
+  unfolding clauseTable
+  clauses-known = ap₂ (λ (D : List Definition) (v : ℕ). clausesBy D ++ (plain v ∷ []) ∷ []) (defined-known C k f e w) (root-known C k f e w)

@@ -23,7 +23,7 @@ ghost use Rattle.clauses.specs.Clauses.{clausesBy};
 ghost use Rattle.clause_table.specs.Rows.{Low};
 ghost use Rattle.assignments.specs.Extension.{valueIn, recordingOf};
 ghost use Rattle.assignments.specs.Calls.{askClauses, proposed};
-ghost use Rattle.unmet.specs.Mentioned.{Variable, AllMentioned};
+ghost use Rattle.gates.specs.Mentioned.{Variable, AllMentioned};
 ghost use Rattle.proposal.specs.Rows.{definedIn, rootIn, clausesFor, TableFor, checkQuestions};
 
 // Question 14 of the clauses of all nodes, in number order; `numbered` has the number of each node's first clause.

@@ -1,20 +1,20 @@
--- The two arrays hold the formula's table, which reads back as its clauses, so the tree of what they hold is the formula's; and what the
--- search does with the first k bytes of the recording's array it does with the array, since it leaves the rest.
-use mathlib.Core.Path.{_≡_, refl, sym, ap, ap₂, _∙_, subst}
+-- The node table's clauses are the formula's, so the tree that the code goes through is the formula's; and what the search does with the
+-- first k bytes of the recording's array it does with the array, since it leaves the rest.
+use mathlib.Core.Path.{_≡_, sym, ap, ap₂, _∙_, subst}
 use mathlib.Core.Logic.{_≢_}
-use mathlib.Core.List.{List, [], _∷_, _++_, map}
-use Prim.Native.Nat.{ℕ, _+_, _-_, _*_, _≤_}
+use mathlib.Core.List.{List, [], _∷_, _++_, append-nil, map}
+use Prim.Native.Nat.{ℕ, _*_, _≤_, _<_}
 use native.Mathlib.Omega.{arith}
 use lib.Dec.{leb}
-use lib.ListN.{length, getD, take, drop, length-map, length-append, take-append-drop}
-use lib.Seq.{length-take-le, getD-at, take-at}
+use lib.ListN.{length, getD, take, drop, length-map, take-append-drop}
+use lib.Seq.{length-take-le}
 use borrow.Author.Tests.{leb-true}
 use Rattle.refusal.specs.Asked.{asked}
 use Rattle.refusal.specs.declared.Refusal.{Refusal}
 use Rattle.refusal.specs.declared.Reply.{Reply}
 use Rattle.refusal.specs.declared.Reply.the-variants.{Yes, No}
 use Rattle.interval.specs.Limits.{maxSteps}
-use Rattle.grammar.specs.Limits.{maxChannels}
+use Rattle.grammar.specs.Limits.{maxNodes, maxChannels}
 use Rattle.grammar.specs.Trees.{Tree, Letters}
 use Rattle.grammar.specs.declared.Sort.the-variants.{Formula}
 use Rattle.grammar.proofs.Bytes.{both}
@@ -22,28 +22,26 @@ use Rattle.formula.specs.Nodes.{nodesOf}
 use Rattle.formula.proofs.Asked.{test-yes}
 use Rattle.rows.specs.Table.{rowOf, tableOf}
 use Rattle.rows.specs.declared.NodeTable.{NodeTable}
-use Rattle.circuit.specs.Circuit.{variablesOf}
-use Rattle.circuit.proofs.Lists.{all-mapped, all-at}
-use Rattle.circuit.proofs.Blocks.{From}
-use Rattle.clauses.specs.Clauses.{clauseTable}
-use Rattle.clauses.specs.Entries.{Entry, flat, variablesIn, marksIn, readBack}
-use Rattle.literals.specs.Written.{Wrote}
+use Rattle.nodes.proofs.Standing.{nodes-count, stands}
+use Rattle.clauses.specs.Clauses.{Clause}
 use Rattle.clause_table.specs.Table.{over}
-use Rattle.clause_table.specs.Rows.{tablePlaces, Measured}
+use Rattle.clause_table.specs.Rows.{Measured}
 use Rattle.clause_table.specs.declared.Sizes.{Sizes}
-use Rattle.clause_table.proofs.Call.{variables-known, literals-known, arrays-written}
-use Rattle.clause_table.proofs.Laws.{places-named, last-mark, table-reads-back}
+use Rattle.clause_table.proofs.Places.{first-is}
+use Rattle.clause_table.proofs.Call.{variables-known, literals-known}
 use Rattle.assignments.specs.Extension.{recordingBy}
 use Rattle.assignments.proofs.Recordings.{recording-length}
 use Rattle.closure.specs.Runs.{dead, found, highIn}
 use Rattle.closure.specs.Tree.{Trial, trial, tree}
-use Rattle.closing.specs.Closing.{entriesIn, tableIn, Readable}
-use Rattle.search.specs.Search.{treeOf, Searched, unwritten, limited, lentOf, askLent}
+use Rattle.decode.specs.Decode.{Tables}
+use Rattle.sweeps.specs.Sweeps.{tableBy}
+use Rattle.fanout.specs.Fanout.{Nearest, Ground}
+use Rattle.fanout.proofs.Formula.{ground-of, table-known}
+use Rattle.search.specs.Search.{treeOf, Searched, unwritten, limited, askLent}
 use Rattle.search.specs.Rows.{searchedBy}
 use Rattle.search.specs.declared.Answer.{Answer}
 use Rattle.search.specs.declared.Answer.the-variants.{Found, None, Spent, Refused}
 use Rattle.search.specs.declared.Lent.{Lent}
-use Rattle.search.proofs.Outcome.{channels-fit}
 use Rattle.search.proofs.Ends.{End, finds, lacks, spends, end}
 use Rattle.search.proofs.Drawn.{over-whole, within, beyond}
 
@@ -71,37 +69,7 @@ lent-enough l v k n e =
       recording = leb-true k (n .recording) (a .1);
     }
 
--- ---- the table in two arrays
-
-entries-back : (F : List Entry) → entriesIn (variablesIn F) (marksIn F) ≡ F
-entries-back [] = refl
-entries-back (e ∷ F) = ap (λ (G : List Entry). e ∷ G) (entries-back F)
-
-module _ (C k : ℕ) (f : Tree Formula) where
-  abbrev F : List Entry
-  F = flat (clauseTable C k f)
-
-  pub table-in : tableIn (variablesIn F) (marksIn F) ≡ clauseTable C k f
-  unfolding tableIn
-  table-in = ap readBack (entries-back F) ∙ table-reads-back C k f
-
-  pub table-readable : Letters C f → Readable (variablesIn F) (marksIn F) (variablesOf C k (nodesOf f 0))
-  table-readable L =
-      let named = all-mapped (From 1 (variablesOf C k (nodesOf f 0))) _ (λ (e : Entry). e .variable) F (λ e w. w) (places-named C k f L) in
-      let n = length-map F (λ (e : Entry). e .variable) in
-      let m = length-map F (λ (e : Entry). e .mark) in
-      let w = last-mark C k f in
-      record {
-        even = m ∙ sym n;
-        from = λ i h. all-at _ (variablesIn F) 0 named i h .0;
-        to = λ i h. omega (arith, all-at _ (variablesIn F) 0 named i h .1);
-        last = λ i h. subst (λ (l : List ℕ). 2 ≤ getD l i 0) (sym (w .1)) (let p : length (w .0) ≡ i = omega (arith, n, m, ap length (w .1), length-append (w .0) (3 ∷ [])) in rw (getD-at (w .0) 3 [] 0 i p) (omega arith));
-      }
-
 -- ---- the recording's first k bytes
-
-pub taken : (new old : List ℕ) {l : List ℕ} {n : ℕ} → l ≡ over new old → n ≡ length new → take n l ≡ new
-taken new old {n = n} e h = ap (take n) e ∙ take-at new (drop (length new) old) n (sym h)
 
 module _ (C k B : ℕ) (recording : List ℕ) (h : k ≤ length recording) (t : Trial) where
   -- the rest left as it is
@@ -123,10 +91,17 @@ module _ (C k B : ℕ) (recording : List ℕ) (h : k ≤ length recording) (t : 
   first-rest (lacks e l) = whole (None (t .tries)) ∙ within C k B recording t (trial dead (t .tries)) (λ i. trial (e i) (t .tries)) l
   first-rest (spends l) = whole (Spent B) ∙ beyond C k B recording t l
 
-pub never-refused : {C k B : ℕ} {recording : List ℕ} {t : Trial} {x : Searched} → End C k B recording t x → (r : Refusal) → x .answer ≢ Refused r
+never-refused : {C k B : ℕ} {recording : List ℕ} {t : Trial} {x : Searched} → End C k B recording t x → (r : Refusal) → x .answer ≢ Refused r
 never-refused (finds S e l) r q = let z : _≡_ {A = ℕ} 0 1 = cc in absurd (omega arith)
 never-refused (lacks e l) r q = let z : _≡_ {A = ℕ} 0 1 = cc in absurd (omega arith)
 never-refused (spends l) r q = let z : _≡_ {A = ℕ} 0 1 = cc in absurd (omega arith)
+
+module _ (C k B : ℕ) (recording : List ℕ) (t : Trial) {x : Searched} (d : x ≡ limited C k B recording t) where
+  ended-by : End C k B recording t x
+  ended-by = subst (End C k B recording t) (sym d) (end C k B recording t)
+
+  pub unrefused : (r : Refusal) → x .answer ≢ Refused r
+  unrefused = never-refused ended-by
 
 -- ---- the formula's node table
 
@@ -143,52 +118,36 @@ module _ (C k : ℕ) (f : Tree Formula) {T : NodeTable} (e : T ≡ tableOf (map 
     pub lent-refused : {r : Refusal} → askLent (s .literals) (s .variables) k n ≡ No r → unwritten recording (Refused r) ≡ searchedBy C k f B n recording
     lent-refused q = sym (ap ending q) ∙ lent-known
 
-    lent-searched : askLent (s .literals) (s .variables) k n ≡ Yes → limited C k B recording (treeOf C k f) ≡ searchedBy C k f B n recording
+    pub lent-searched : askLent (s .literals) (s .variables) k n ≡ Yes → limited C k B recording (treeOf C k f) ≡ searchedBy C k f B n recording
     lent-searched q = sym (ap ending q) ∙ lent-known
 
-  -- question 18 is answered with yes, and the table is written
-  module _ (values trail recording : List ℕ) {variables marks : List ℕ} (q : askLent (s .literals) (s .variables) k (lentOf variables marks values trail recording) ≡ Yes)
-      {variables′ marks′ : List ℕ} {at : ℕ} (t : Wrote variables marks 0 (tablePlaces C k (T .kinds) (T .numbers) (T .sizes) G (T .count)) variables′ marks′ at) where
-    enough : Enough (s .literals) (s .variables) k (lentOf variables marks values trail recording)
-    enough = lent-enough (s .literals) (s .variables) k (lentOf variables marks values trail recording) q
+  -- every row is among the root's nodes
+  pub root-rows : (0 < T .count) × (T .count ≤ getD (T .sizes) 0 0)
+  unfolding tableOf
+  root-rows =
+      let o = stands (nodesOf f 0) f 0 0 [] (sym (append-nil (nodesOf f 0))) .own in
+      subst (λ (T : NodeTable). (0 < T .count) × (T .count ≤ getD (T .sizes) 0 0)) (sym e) (omega (arith, length-map (nodesOf f 0) rowOf, nodes-count f 0, ap length (first-is f 0 [] (sym (append-nil (nodesOf f 0)))), o .size))
 
-    variables-taken : take (s .literals) variables′ ≡ variablesIn (F C k f)
-    variables-taken =
-        taken (variablesIn (F C k f)) variables (arrays-written C k f e w (enough .variables) (enough .marks) t .0) (literals-known C k f e w ∙ sym (length-map (F C k f) (λ (e : Entry). e .variable)))
+  -- the parts of the arrays that are lent on
+  module _ (values trail recording : List ℕ) (v : s .variables ≤ length values) (t : s .variables ≤ length trail) (h : k ≤ length recording) where
+    values-taken : length (take (s .variables) values) ≡ s .variables
+    values-taken = length-take-le (s .variables) values v
 
-    marks-taken : take (s .literals) marks′ ≡ marksIn (F C k f)
-    marks-taken =
-        taken (marksIn (F C k f)) marks (arrays-written C k f e w (enough .variables) (enough .marks) t .1) (literals-known C k f e w ∙ sym (length-map (F C k f) (λ (e : Entry). e .mark)))
-
-    values-taken : length (take (s .variables) values) ≡ variablesOf C k (nodesOf f 0)
-    values-taken = length-take-le (s .variables) values (enough .values) ∙ variables-known C k f e w
-
-    steps-taken : length (take k recording) ≡ k
-    steps-taken = length-take-le k recording (enough .recording)
-
-    -- what the search on the arrays asks for
-    pub parts-fit : Letters C f → k ≤ maxSteps → C ≤ maxChannels
-        → (Readable (take (s .literals) variables′) (take (s .literals) marks′) (length (take (s .variables) values)) × (length (take (s .variables) values) ≤ length (take (s .variables) trail)))
-        × ((C ≤ maxChannels) × (length (take k recording) ≤ maxSteps) × (length (take k recording) * C ≤ length (take (s .variables) values)))
-    parts-fit L h g =
-        let R : Readable (take (s .literals) variables′) (take (s .literals) marks′) (length (take (s .variables) values)) =
-        rw (variables-taken, marks-taken, values-taken) (table-readable C k f L) in (
-          (R, omega (arith, length-take-le (s .variables) values (enough .values), length-take-le (s .variables) trail (enough .trail))),
-          (g, omega (arith, steps-taken), rw (steps-taken, values-taken) (channels-fit C k f)),
-        )
+    -- what the tree of tries asks for
+    pub parts-fit : Letters C f → C ≤ maxChannels → k ≤ maxSteps → T .count ≤ maxNodes → {P : List ℕ} → Nearest (T .sizes) P (T .count) → {I S : List ℕ} → Tables k I S
+        → (Ground C k (T .kinds) (T .numbers) (T .sizes) G P (T .count) (length (take (s .variables) values)) × Tables k I S)
+        × ((length (take (s .variables) values) ≤ length (take (s .variables) trail)) × (length (take k recording) ≡ k))
+    parts-fit L c k n p i = (
+      (ground-of C _ f e w L c k n p (take (s .variables) values) values-taken, i),
+      (omega (arith, values-taken, length-take-le (s .variables) trail t), length-take-le _ recording h),
+    )
 
     -- and what it comes to
-    tree-taken : tree (tableIn (take (s .literals) variables′) (take (s .literals) marks′)) (length (take (s .variables) values)) (k * C) ≡ treeOf C k f
+    tree-known : tree (tableBy C k (T .kinds) (T .numbers) (T .sizes) G (T .count)) (length (take (s .variables) values)) (k * C) ≡ treeOf C k f
     unfolding treeOf
-    tree-taken = rw (variables-taken, marks-taken, values-taken, table-in C k f)
+    tree-known = ap₂ (λ (T : List Clause) (n : ℕ). tree T n (k * C)) (table-known C k f e w) (values-taken ∙ variables-known C k f e w)
 
     pub search-known : (B : ℕ) {a : Answer} {out : List ℕ}
-        → record { answer = a; recording = out } ≡ limited C (length (take k recording)) B (take k recording) (tree (tableIn (take (s .literals) variables′) (take (s .literals) marks′)) (length (take (s .variables) values)) (length (take k recording) * C))
-        → (record { answer = a; recording = out ++ drop k recording } ≡ searchedBy C k f B (lentOf variables marks values trail recording) recording) × ((r : Refusal) → a ≢ Refused r)
-    search-known B {a} {out} d =
-        let x : Searched = record { answer = a; recording = out } in
-        let y : x ≡ limited C k B (take k recording) (treeOf C k f) =
-        d ∙ ap (λ (n : ℕ). limited C n B (take k recording) (tree (tableIn (take (s .literals) variables′) (take (s .literals) marks′)) (length (take (s .variables) values)) (n * C))) steps-taken
-        ∙ ap (limited C k B (take k recording)) tree-taken in
-        let z : End C k B (take k recording) (treeOf C k f) x = subst (End C k B (take k recording) (treeOf C k f)) (sym y) (end C k B (take k recording) (treeOf C k f)) in
-        (first-rest C k B recording (enough .recording) (treeOf C k f) z ∙ lent-searched B (lentOf variables marks values trail recording) recording q, never-refused z)
+        → record { answer = a; recording = out } ≡ limited C k B (take k recording) (tree (tableBy C k (T .kinds) (T .numbers) (T .sizes) G (T .count)) (length (take (s .variables) values)) (k * C))
+        → record { answer = a; recording = out ++ drop k recording } ≡ limited C k B recording (treeOf C k f)
+    search-known B d = first-rest C k B recording h (treeOf C k f) (ended-by C k B (take k recording) (treeOf C k f) (d ∙ ap (limited C k B (take k recording)) tree-known))

@@ -55,11 +55,11 @@ module _ {T : List Clause} {variables channels B : ℕ} {values : List ℕ} {r :
     pub drawn-none : {n : ℕ} → r ≡ Dead n → unwritten recording (answer.None n) ≡ limited C k B recording (tree T variables channels)
     drawn-none {n} e = within C k B recording _ (trial dead n) (result e .0) (result e .1)
 
-    pub drawn-found : {n : ℕ} → r ≡ Found n → k ≡ length recording → {out : List ℕ} → out ≡ recordingOf C k values
+    pub drawn-found : {n : ℕ} → r ≡ Found n → length recording ≡ k → {out : List ℕ} → out ≡ recordingOf C (length recording) values
         → record { answer = answer.Found n; recording = out } ≡ limited C k B recording (tree T variables channels)
     drawn-found {n} e h {out} o =
         let w : out ≡ over (recordingBy C k (highIn (heldIn values))) recording =
-        o ∙ sym (held-recording C k values) ∙ sym (over-whole _ recording (omega (arith, recording-length C k (highIn (heldIn values))))) in
+        o ∙ ap (λ (k : ℕ). recordingOf C k values) h ∙ sym (held-recording C k values) ∙ sym (over-whole _ recording (omega (arith, recording-length C k (highIn (heldIn values))))) in
         ap (λ (l : List ℕ). record { answer = answer.Found n; recording = l }) w ∙ within C k B recording _ (trial (found (heldIn values)) n) (result e .0) (result e .1)
 
     pub drawn-spent : r ≡ Spent → unwritten recording (answer.Spent B) ≡ limited C k B recording (tree T variables channels)

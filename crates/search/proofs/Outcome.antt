@@ -28,7 +28,7 @@ module _ (C k : ℕ) (f : Tree Formula) where
   abbrev variables : ℕ
   variables = variablesOf C k (nodesOf f 0)
 
-  pub channels-fit : k * C ≤ variablesOf C k (nodesOf f 0)
+  channels-fit : k * C ≤ variablesOf C k (nodesOf f 0)
   unfolding variablesOf
   channels-fit = omega arith
 

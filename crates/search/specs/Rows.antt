@@ -13,6 +13,16 @@ use Rattle.search.specs.Search.{treeOf, Searched, unwritten, limited, as
 use Rattle.search.specs.declared.Answer.the-variants.{Refused}
 use Rattle.search.specs.declared.Lent.{Lent}
 
+-- the lengths of the lent arrays, those of the first two as numbers
+abbrev pub lentBy : ℕ → ℕ → List ℕ → List ℕ → List ℕ → Lent
+lentBy variables marks values trail recording = record {
+  variables = variables;
+  marks = marks;
+  values = length values;
+  trail = length trail;
+  recording = length recording;
+}
+
 -- question 18, and then the search
 unfoldable pub searchedBy : ℕ → ℕ → Tree Formula → ℕ → Lent → List ℕ → Searched
 searchedBy C k f B n recording =

@@ -1,5 +1,7 @@
 // The search: the first recording that satisfies a formula, with the number of tries it took.
+use clause_table::Sizes;
 use grammar::MAX_NODES;
+use interval::Interval;
 use refusal::Refusal;
 use refusal::Reply;
 use rows::NodeTable;
@@ -15,10 +17,13 @@ ghost use Rattle.grammar.specs.declared.Sort.the-variants.{Formula};
 ghost use Rattle.formula.specs.Nodes.{nodesOf};
 ghost use Rattle.rows.specs.Table.{rowOf, tableOf};
 ghost use Rattle.closure.specs.Tree.{tree};
-ghost use Rattle.closing.specs.Closing.{Readable, tableIn};
+ghost use Rattle.clause_table.specs.Rows.{Measured};
+ghost use Rattle.decode.specs.Decode.{Tables};
+ghost use Rattle.sweeps.specs.Sweeps.{tableBy};
+ghost use Rattle.fanout.specs.Fanout.{Ground};
 ghost use Rattle.proposal.specs.Rows.{TableFor};
-ghost use Rattle.search.specs.Search.{limited, lentOf, askLent, searched, Unchanged};
-ghost use Rattle.search.specs.Rows.{searchedBy};
+ghost use Rattle.search.specs.Search.{treeOf, limited, lentOf, askLent, searched, Unchanged};
+ghost use Rattle.search.specs.Rows.{lentBy, searchedBy};
 
 // What the search answers: found, none, spent, each with its count.
 pub enum Answer {
@@ -48,22 +53,42 @@ fn ask_lent(literals: u32, variables: u32, k: u32, lent: Lent) -> Reply
     refusal::ask(18, work & (k as usize <= lent.recording))
 }
 
-// The search on a table in two arrays, with values and trail for its variables and a byte for each instant.
-fn draw(
-    variables: &[u32],
-    marks: &[u8],
+// The tree of tries of a node table, with values and trail for its variables and a byte for each instant.
+fn draw<'a>(
     values: &mut [u8],
     trail: &mut [u32],
     recording: &mut [u8],
+    kinds: &'a [u8; MAX_NODES],
+    numbers: &'a [u8; MAX_NODES],
+    sizes: &'a [u8; MAX_NODES],
+    firsts: &[u32; MAX_NODES],
+    parents: &[u8; MAX_NODES],
+    intervals: &[u16],
+    starts: &[u32],
+    count: usize,
     c: u32,
+    k: u32,
     limit: u32,
 ) -> Answer
-    requires { ⌜ Readable (now variables) (now marks) (length (now values)) × (length (now values) ≤ length (now trail)) ⌝ }
-    requires { ⌜ (c ≤ maxChannels) × (length (now recording) ≤ maxSteps) × (length (now recording) * c ≤ length (now values)) ⌝ }
-    ensures { λ r. ⌜ record { answer = r; recording = now (recording .exit) } ≡ limited c (length (now (recording .entry))) limit (now (recording .entry)) (tree (tableIn (now (variables .entry)) (now (marks .entry))) (length (now (values .entry))) (length (now (recording .entry)) * c)) ⌝ }
+    requires { ⌜ Ground c k (now kinds) (now numbers) (now sizes) (now firsts) (now parents) count (length (now values)) × Tables k (now intervals) (now starts) ⌝ }
+    requires { ⌜ (length (now values) ≤ length (now trail)) × (length (now recording) ≡ k) ⌝ }
+    ensures { λ r. ⌜ record { answer = r; recording = now (recording .exit) } ≡ limited c k limit (now (recording .entry)) (tree (tableBy c k (now (kinds .entry)) (now (numbers .entry)) (now (sizes .entry)) (now (firsts .entry)) count) (length (now (values .entry))) (k * c)) ⌝ }
 {
-    let channels = recording.len() as u32 * c;
-    let below = tries::start(variables, marks, values, trail, channels, limit);
+    let below = tries::start(
+        values,
+        trail,
+        kinds,
+        numbers,
+        sizes,
+        firsts,
+        parents,
+        intervals,
+        starts,
+        count,
+        c,
+        k,
+        limit,
+    );
     match below {
         Below::Dead(n) => Answer::None(n),
         Below::Found(n) => {
@@ -74,28 +99,70 @@ fn draw(
     }
 }
 
-// The search of an accepted formula, from its node table: question 18, the clause table, and the tree of tries.
-fn search_table(
+// The search of an accepted formula whose sizes fit the lent arrays: what the queue goes by, and the tree of tries.
+fn search_lent(
     table: NodeTable,
+    firsts: &[u32; MAX_NODES],
+    s: Sizes,
     c: u32,
     k: u32,
     limit: u32,
-    variables: &mut [u32],
-    marks: &mut [u8],
     values: &mut [u8],
     trail: &mut [u32],
     recording: &mut [u8],
 ) -> Answer
     requires { ⌜ (c ≤ maxChannels) × (k ≤ maxSteps) × (table .count ≤ maxNodes) × TableFor c table ⌝ }
-    ensures { λ r. ⌜ ((f : Tree Formula) → table ≡ tableOf (map rowOf (nodesOf f 0)) → record { answer = r; recording = now (recording .exit) } ≡ searchedBy c k f limit (lentOf (now (variables .entry)) (now (marks .entry)) (now (values .entry)) (now (trail .entry)) (now (recording .entry))) (now (recording .entry))) ⌝ }
-    ensures { λ r. ⌜ Unchanged r (now (variables .entry)) (now (variables .exit)) × Unchanged r (now (marks .entry)) (now (marks .exit)) ⌝ }
+    requires { ⌜ Measured c k (table .kinds) (table .numbers) (table .count) (now firsts) s ⌝ }
+    requires { ⌜ (s .variables ≤ length (now values)) × (s .variables ≤ length (now trail)) × (k ≤ length (now recording)) ⌝ }
+    ensures { λ r. ⌜ ((f : Tree Formula) → table ≡ tableOf (map rowOf (nodesOf f 0)) → record { answer = r; recording = now (recording .exit) } ≡ limited c k limit (now (recording .entry)) (treeOf c k f)) ⌝ }
+{
+    let mut parents = [0; MAX_NODES];
+    parents::put_parents(&table.sizes, table.count, &mut parents);
+    let steps = k as usize;
+    let mut intervals = [0; Interval::MAX_COUNT];
+    decode::put_intervals(&mut intervals, steps);
+    let mut starts = [0; Interval::MAX_ENDS];
+    decode::put_starts(&mut starts, steps);
+    let v = s.variables as usize;
+    draw(
+        &mut values[..v],
+        &mut trail[..v],
+        &mut recording[..steps],
+        &table.kinds,
+        &table.numbers,
+        &table.sizes,
+        firsts,
+        &parents,
+        &intervals,
+        &starts,
+        table.count,
+        c,
+        k,
+        limit,
+    )
+}
+
+// The search of an accepted formula, from its node table: question 18, `variables` and `marks` being how many are lent, and then the rest.
+fn search_table(
+    table: NodeTable,
+    c: u32,
+    k: u32,
+    limit: u32,
+    variables: usize,
+    marks: usize,
+    values: &mut [u8],
+    trail: &mut [u32],
+    recording: &mut [u8],
+) -> Answer
+    requires { ⌜ (c ≤ maxChannels) × (k ≤ maxSteps) × (table .count ≤ maxNodes) × TableFor c table ⌝ }
+    ensures { λ r. ⌜ ((f : Tree Formula) → table ≡ tableOf (map rowOf (nodesOf f 0)) → record { answer = r; recording = now (recording .exit) } ≡ searchedBy c k f limit (lentBy variables marks (now (values .entry)) (now (trail .entry)) (now (recording .entry))) (now (recording .entry))) ⌝ }
     ensures { λ r. ⌜ Unchanged r (now (values .entry)) (now (values .exit)) × Unchanged r (now (trail .entry)) (now (trail .exit)) ⌝ }
 {
     let mut firsts = [0; MAX_NODES];
     let s = clause_table::sizes_of(&table.kinds, &table.numbers, table.count, c, k, &mut firsts);
     let lent = Lent {
-        variables: variables.len(),
-        marks: marks.len(),
+        variables,
+        marks,
         values: values.len(),
         trail: trail.len(),
         recording: recording.len(),
@@ -103,29 +170,7 @@ fn search_table(
     if let Reply::No(r) = ask_lent(s.literals, s.variables, k, lent) {
         return Answer::Refused(r);
     }
-    clause_table::put_table(
-        variables,
-        marks,
-        &table.kinds,
-        &table.numbers,
-        &table.sizes,
-        &firsts,
-        table.count,
-        c,
-        k,
-    );
-    let l = s.literals as usize;
-    let v = s.variables as usize;
-    let steps = k as usize;
-    draw(
-        &variables[..l],
-        &marks[..l],
-        &mut values[..v],
-        &mut trail[..v],
-        &mut recording[..steps],
-        c,
-        limit,
-    )
+    search_lent(table, &firsts, s, c, k, limit, values, trail, recording)
 }
 
 // The first recording that satisfies a formula of C channels over k steps, within a limit of tries: found, none or spent.
@@ -155,8 +200,8 @@ pub fn search(
         c,
         k,
         limit,
-        variables,
-        marks,
+        variables.len(),
+        marks.len(),
         values,
         trail,
         recording,

@@ -1,17 +1,25 @@
-// The tree of tries on values and a trail: the lowest open channel variable, a try and what comes of it, and the tree below a set.
+// The tree of tries on values and a trail: the lowest open channel variable, a try low, the same high, and all tries one after another.
+// `kinds` to `k` are what the queue goes by: nothing here looks into them, but for the number of channel variables.
 use closing::Closed;
+use grammar::MAX_CHANNELS;
+use grammar::MAX_NODES;
+use interval::Interval;
 ghost use mathlib.Core.Path.{_≡_};
-ghost use mathlib.Core.Bool.{true};
-ghost use Prim.Native.Nat.{ℕ, _+_, _^_, _≤_, _<_};
+ghost use Prim.Native.Nat.{ℕ, _-_, _*_, _≤_};
 ghost use lib.ListN.{length, getD};
+ghost use Rattle.clauses.specs.Clauses.{plain};
 ghost use Rattle.clauses.specs.Entries.{entry, literalOf};
-ghost use Rattle.closure.specs.Runs.{isOpen, Lowest};
-ghost use Rattle.closure.specs.Tree.{tried};
-ghost use Rattle.closing.specs.Values.{heldIn, Trailing};
-ghost use Rattle.closing.specs.Closing.{Readable, tableIn};
-ghost use Rattle.tries.specs.Tries.{Openness, Ready, Tried, triesIn, counting, Came, Started};
+ghost use Rattle.closure.specs.Closure.{nothing};
+ghost use Rattle.closing.specs.Values.{undone};
+ghost use Rattle.decode.specs.Decode.{Tables};
+ghost use Rattle.sweeps.specs.Sweeps.{tableBy};
+ghost use Rattle.fanout.specs.Fanout.{Ground};
+ghost use Rattle.tries.specs.Tries.{Openness, Ready, Undoable, Tried, Holding, Started};
 
-// What the tree below a set comes to within a limit: all dead or found, with the number of tries, or more tries than the limit allows.
+// So many tries high can be left to make: each is of another channel variable.
+const MAX_DEPTH: usize = Interval::MAX_STEPS * MAX_CHANNELS;
+
+// What the tree comes to within a limit: all dead or found, with the number of tries, or more tries than the limit allows.
 pub enum Below {
     Dead(u32),
     Found(u32),
@@ -33,115 +41,173 @@ fn lowest_open(values: &[u8], channels: u32) -> u32
     0
 }
 
-// As many tries more.
-fn counted(below: Below, more: u32) -> Below
-    requires { ⌜ more + triesIn below < 2 ^ 32 ⌝ }
-    ensures { λ r. ⌜ r ≡ counting more below ⌝ }
-{
-    match below {
-        Below::Dead(n) => Below::Dead(more + n),
-        Below::Found(n) => Below::Found(more + n),
-        Below::Spent => Below::Spent,
-    }
-}
-
-// The closure with the literal of the lowest open channel variable v added, low with mark 0 and high with 1.
-fn try_literal(
-    variables: &[u32],
-    marks: &[u8],
+// The closure with the literal of the open variable v added, low with mark 0 and high with 1.
+fn try_literal<'a>(
     values: &mut [u8],
     trail: &mut [u32],
     top: usize,
+    kinds: &'a [u8; MAX_NODES],
+    numbers: &'a [u8; MAX_NODES],
+    sizes: &'a [u8; MAX_NODES],
+    firsts: &[u32; MAX_NODES],
+    parents: &[u8; MAX_NODES],
+    intervals: &[u16],
+    starts: &[u32],
+    count: usize,
+    c: u32,
+    k: u32,
     v: u32,
     mark: u8,
 ) -> Closed
-    requires { ⌜ Readable (now variables) (now marks) (length (now values)) × Trailing (now values) (now trail) top × (1 ≤ v) × (v ≤ length (now values)) × (isOpen (heldIn (now values)) v ≡ true) ⌝ }
-    ensures { λ r. ⌜ Tried (now (variables .entry)) (now (marks .entry)) (literalOf (entry v mark)) (now (values .entry)) (now (trail .entry)) top (now (values .exit)) (now (trail .exit)) r ⌝ }
+    requires { ⌜ Ground c k (now kinds) (now numbers) (now sizes) (now firsts) (now parents) count (length (now values)) × Tables k (now intervals) (now starts) ⌝ }
+    requires { ⌜ Ready (tableBy c k (now kinds) (now numbers) (now sizes) (now firsts) count) (now values) (now trail) top v ⌝ }
+    ensures { λ r. ⌜ Tried (tableBy c k (now (kinds .entry)) (now (numbers .entry)) (now (sizes .entry)) (now (firsts .entry)) count) (literalOf (entry v mark)) (now (values .entry)) (now (trail .entry)) top (now (values .exit)) (now (trail .exit)) r ⌝ }
 {
     let added = closing::add(values, trail, top, v, mark);
-    closing::close(variables, marks, values, trail, added)
-}
-
-// A try of the lowest open channel variable v; where that clashes, or all below it is dead, it is undone. `left` are the tries that the
-// limit leaves after it.
-fn attempt(
-    variables: &[u32],
-    marks: &[u8],
-    values: &mut [u8],
-    trail: &mut [u32],
-    top: usize,
-    channels: u32,
-    left: u32,
-    v: u32,
-    mark: u8,
-) -> Below
-    requires { ⌜ Ready (now variables) (now marks) (now values) (now trail) top channels × Lowest (heldIn (now values)) channels v ⌝ }
-    ensures { λ r. ⌜ Came (now (variables .entry)) (now (marks .entry)) channels (tried (tableIn (now (variables .entry)) (now (marks .entry))) (heldIn (now (values .entry))) (literalOf (entry v mark))) left (now (values .entry)) (now (trail .entry)) top (now (values .exit)) (now (trail .exit)) r ⌝ }
-{
-    let closed = try_literal(variables, marks, values, trail, top, v, mark);
-    let end = closed.top;
-    if closed.clash {
-        closing::undo(values, trail, top, end);
-        return Below::Dead(0);
-    }
-    let below = descend(variables, marks, values, trail, end, channels, left);
-    if let Below::Dead(n) = below {
-        closing::undo(values, trail, top, end);
-        return Below::Dead(n);
-    }
-    below
-}
-
-// The tree below the values' set, within a limit: found where no channel variable is open, else the lowest open one is tried low, and if
-// all below that is dead, high. No try is made that the limit does not allow.
-fn descend(
-    variables: &[u32],
-    marks: &[u8],
-    values: &mut [u8],
-    trail: &mut [u32],
-    top: usize,
-    channels: u32,
-    limit: u32,
-) -> Below
-    requires { ⌜ Ready (now variables) (now marks) (now values) (now trail) top channels ⌝ }
-    ensures { λ r. ⌜ Came (now (variables .entry)) (now (marks .entry)) channels (heldIn (now (values .entry))) limit (now (values .entry)) (now (trail .entry)) top (now (values .exit)) (now (trail .exit)) r ⌝ }
-{
-    let v = lowest_open(values, channels);
-    if v == 0 {
-        return Below::Found(0);
-    }
-    if limit == 0 {
-        return Below::Spent;
-    }
-    let low = attempt(
-        variables,
-        marks,
+    queue::close(
         values,
         trail,
         top,
-        channels,
-        limit - 1,
-        v,
-        0,
-    );
-    let Below::Dead(n) = low else {
-        return counted(low, 1);
-    };
-    if n + 1 == limit {
-        return Below::Spent;
-    }
-    let high = attempt(
-        variables,
-        marks,
+        added,
+        kinds,
+        numbers,
+        sizes,
+        firsts,
+        parents,
+        intervals,
+        starts,
+        count,
+        c,
+        k,
+    )
+}
+
+// The try low that began at a place of the trail undone, and its variable tried high.
+fn try_high<'a>(
+    values: &mut [u8],
+    trail: &mut [u32],
+    from: usize,
+    to: usize,
+    kinds: &'a [u8; MAX_NODES],
+    numbers: &'a [u8; MAX_NODES],
+    sizes: &'a [u8; MAX_NODES],
+    firsts: &[u32; MAX_NODES],
+    parents: &[u8; MAX_NODES],
+    intervals: &[u16],
+    starts: &[u32],
+    count: usize,
+    c: u32,
+    k: u32,
+) -> Closed
+    requires { ⌜ Ground c k (now kinds) (now numbers) (now sizes) (now firsts) (now parents) count (length (now values)) × Tables k (now intervals) (now starts) ⌝ }
+    requires { ⌜ Undoable (tableBy c k (now kinds) (now numbers) (now sizes) (now firsts) count) (now values) (now trail) from to ⌝ }
+    ensures { λ r. ⌜ Tried (tableBy c k (now (kinds .entry)) (now (numbers .entry)) (now (sizes .entry)) (now (firsts .entry)) count) (plain (getD (now (trail .entry)) from 0)) (undone (now (trail .entry)) from (to - from) (now (values .entry))) (now (trail .entry)) from (now (values .exit)) (now (trail .exit)) r ⌝ }
+{
+    closing::undo(values, trail, from, to);
+    let v = trail[from];
+    try_literal(
         values,
         trail,
-        top,
-        channels,
-        limit - n - 2,
+        from,
+        kinds,
+        numbers,
+        sizes,
+        firsts,
+        parents,
+        intervals,
+        starts,
+        count,
+        c,
+        k,
         v,
         1,
-    );
-    counted(high, n + 2)
+    )
+}
+
+// The tree from the closure of nothing, within a limit: found where no channel variable is open, else the lowest open one is tried low;
+// after a clash the last one that is still to be tried high is. No try is made that the limit does not allow. `levels` are the tops of
+// the trail before each try low that is still to be tried high, `depth` of them.
+fn descend<'a>(
+    values: &mut [u8],
+    trail: &mut [u32],
+    closed: Closed,
+    kinds: &'a [u8; MAX_NODES],
+    numbers: &'a [u8; MAX_NODES],
+    sizes: &'a [u8; MAX_NODES],
+    firsts: &[u32; MAX_NODES],
+    parents: &[u8; MAX_NODES],
+    intervals: &[u16],
+    starts: &[u32],
+    count: usize,
+    c: u32,
+    k: u32,
+    limit: u32,
+) -> Below
+    requires { ⌜ Ground c k (now kinds) (now numbers) (now sizes) (now firsts) (now parents) count (length (now values)) × Tables k (now intervals) (now starts) ⌝ }
+    requires { ⌜ Holding (tableBy c k (now kinds) (now numbers) (now sizes) (now firsts) count) nothing (now values) (now trail) closed ⌝ }
+    ensures { λ r. ⌜ Started (tableBy c k (now (kinds .entry)) (now (numbers .entry)) (now (sizes .entry)) (now (firsts .entry)) count) (length (now (values .entry))) (k * c) limit (now (values .exit)) r ⌝ }
+{
+    let channels = k * c;
+    let mut levels = [0; MAX_DEPTH];
+    let mut last = closed;
+    let mut depth = 0;
+    let mut n = 0;
+    loop {
+        if last.clash {
+            if depth == 0 {
+                return Below::Dead(n);
+            }
+            if n == limit {
+                return Below::Spent;
+            }
+            depth -= 1;
+            last = try_high(
+                values,
+                trail,
+                levels[depth],
+                last.top,
+                kinds,
+                numbers,
+                sizes,
+                firsts,
+                parents,
+                intervals,
+                starts,
+                count,
+                c,
+                k,
+            );
+            n += 1;
+            continue;
+        }
+        let v = lowest_open(values, channels);
+        if v == 0 {
+            return Below::Found(n);
+        }
+        if n == limit {
+            return Below::Spent;
+        }
+        levels[depth] = last.top;
+        depth += 1;
+        last = try_literal(
+            values,
+            trail,
+            last.top,
+            kinds,
+            numbers,
+            sizes,
+            firsts,
+            parents,
+            intervals,
+            starts,
+            count,
+            c,
+            k,
+            v,
+            0,
+        );
+        n += 1;
+    }
 }
 
 // No variable has a value.
@@ -153,22 +219,55 @@ fn clear(values: &mut [u8])
     }
 }
 
-// The whole tree: from the closure of nothing, whatever values and trail held before.
-pub fn start(
-    variables: &[u32],
-    marks: &[u8],
+// The whole tree, whatever values and trail held before.
+pub fn start<'a>(
     values: &mut [u8],
     trail: &mut [u32],
-    channels: u32,
+    kinds: &'a [u8; MAX_NODES],
+    numbers: &'a [u8; MAX_NODES],
+    sizes: &'a [u8; MAX_NODES],
+    firsts: &[u32; MAX_NODES],
+    parents: &[u8; MAX_NODES],
+    intervals: &[u16],
+    starts: &[u32],
+    count: usize,
+    c: u32,
+    k: u32,
     limit: u32,
 ) -> Below
-    requires { ⌜ Readable (now variables) (now marks) (length (now values)) × (length (now values) ≤ length (now trail)) × (channels ≤ length (now values)) ⌝ }
-    ensures { λ r. ⌜ Started (tableIn (now (variables .entry)) (now (marks .entry))) (length (now (values .entry))) channels limit (now (values .exit)) r ⌝ }
+    requires { ⌜ Ground c k (now kinds) (now numbers) (now sizes) (now firsts) (now parents) count (length (now values)) × Tables k (now intervals) (now starts) ⌝ }
+    requires { ⌜ length (now values) ≤ length (now trail) ⌝ }
+    ensures { λ r. ⌜ Started (tableBy c k (now (kinds .entry)) (now (numbers .entry)) (now (sizes .entry)) (now (firsts .entry)) count) (length (now (values .entry))) (k * c) limit (now (values .exit)) r ⌝ }
 {
     clear(values);
-    let closed = closing::close(variables, marks, values, trail, 0);
-    if closed.clash {
-        return Below::Dead(0);
-    }
-    descend(variables, marks, values, trail, closed.top, channels, limit)
+    let closed = queue::start(
+        values,
+        trail,
+        kinds,
+        numbers,
+        sizes,
+        firsts,
+        parents,
+        intervals,
+        starts,
+        count,
+        c,
+        k,
+    );
+    descend(
+        values,
+        trail,
+        closed,
+        kinds,
+        numbers,
+        sizes,
+        firsts,
+        parents,
+        intervals,
+        starts,
+        count,
+        c,
+        k,
+        limit,
+    )
 }

@@ -34,7 +34,8 @@ use Rattle.node_clauses.specs.Walk.{definitionIn, Walks}
 use Rattle.node_clauses.proofs.Walk.{definition-here, light, within-here}
 use Rattle.node_clauses.proofs.Nodes.{clauses-join, Halves, chopped, node-known}
 use Rattle.assignments.specs.Calls.{askClauses}
-use Rattle.unmet.specs.Mentioned.{Variable, InputsIn, Mentioned, AllMentioned, constants}
+use Rattle.gates.specs.Mentioned.{Variable, InputsIn, Mentioned, AllMentioned}
+use Rattle.unmet.specs.Walk.{constants}
 use Rattle.unmet.proofs.Gates.{no, gate-met, unmet-known}
 
 -- ---- clauses after clauses
@@ -75,16 +76,6 @@ module _ (D E : List Definition) {F : List Definition} (e : D ++ E ≡ F) where
 
     pub then-asked : {m : ℕ} {p : Reply} → q ≡ Yes → m ≡ n + length (clausesBy D) → p ≡ askClauses a m (clausesBy E) → p ≡ askClauses a n (clausesBy F)
     then-asked g h i = sym (both-asked ∙ rw (g, ← h) (sym i))
-
-  module _ {n : ℕ} (f : AllMentioned n F) where
-    all : AllMentioned n (D ++ E)
-    all = subst (AllMentioned n) (sym e) f
-
-    pub first-mentioned : AllMentioned n D
-    first-mentioned x h = subst (Mentioned n) (List·getD-append D E _ x h) (all x (omega (arith, length-append D E)))
-
-    pub then-mentioned : AllMentioned n E
-    then-mentioned x h = subst (Mentioned n) (getD-append-add D E x _) (all (length D + x) (omega (arith, length-append D E)))
 
 -- ---- a loop: of D the first x definitions are met, whose clauses have the numbers from n on to m
 
@@ -141,7 +132,7 @@ module _ {C k : ℕ} {block : Block} (s : Bounded C k block × (block .points �
     inside = omega (arith, w .whole)
 
     here : definitionIn (definedBy C k block) x ≡ define (block .first + x) gate
-    here = definition-here C k block w h g
+    here = definition-here C k block (w .here h) g
 
     pub gate-few : (weightOf clauseWeight gate ≤ maxWeight) × (m + weightOf clauseWeight gate ≤ n + maxWeight)
     gate-few = omega (arith, t .next, met-few t inside here, clauses-few)
@@ -150,7 +141,7 @@ module _ {C k : ℕ} {block : Block} (s : Bounded C k block × (block .points �
         → Variable l (block .first + x) × InputsIn l gate × Within gate × (weightOf clauseWeight gate ≤ maxWeight) × (m < bound)
     gate-asks {l} f i =
         let d = subst (Mentioned l) here (f x inside) in
-        (d .variable, d .inputs, within-here s w h g, gate-few .0, omega (arith, gate-few .1))
+        (d .variable, d .inputs, within-here s (w .here h) g, gate-few .0, omega (arith, gate-few .1))
 
     module _ {q : Reply} (f : q ≡ askClauses a m (clausesOf (block .first + x) gate)) where
       pub block-turn : {w : ℕ} → q ≡ Yes → w ≡ weightOf clauseWeight gate → Met a n (definedBy C k block) (m + w) (x + 1)
@@ -208,13 +199,6 @@ module _ (C k : ℕ) (b : Block) {up : Bool} (e : b .rule ≡ Fixed up) where
 module _ (C : ℕ) {k : ℕ} {b t s : Block} (h : Halves k b t s) where
   abbrev whole : List Definition
   whole = choppedBy C k (b .first + countOf k) b
-
-  module _ {l : ℕ} (f : AllMentioned l whole) where
-    pub triples-mentioned : AllMentioned l (definedBy C k t)
-    triples-mentioned = first-mentioned (definedBy C k t) (definedBy C k s) (chopped C h) f
-
-    pub intervals-mentioned : AllMentioned l (definedBy C k s)
-    intervals-mentioned = then-mentioned (definedBy C k t) (definedBy C k s) (chopped C h) f
 
   module _ (a : Assignment) (n : ℕ) {q : Reply} (f : q ≡ askClauses a n (clausesBy (definedBy C k t))) where
     pub triples-no : {r : Refusal} → q ≡ No r → No r ≡ askClauses a n (clausesBy whole)

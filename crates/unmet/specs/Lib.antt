@@ -1,1 +1,1 @@
-pub mod Mentioned
+pub mod Walk

@@ -20,7 +20,8 @@ ghost use Rattle.gates.specs.Within.{Within};
 ghost use Rattle.node_clauses.specs.Nodes.{choppedBy, nodeBy, Fine};
 ghost use Rattle.assignments.specs.Extension.{valueIn};
 ghost use Rattle.assignments.specs.Calls.{askClauses};
-ghost use Rattle.unmet.specs.Mentioned.{Variable, InputsIn, AllMentioned, FirstHigh, constants};
+ghost use Rattle.gates.specs.Mentioned.{Variable, InputsIn, AllMentioned};
+ghost use Rattle.unmet.specs.Walk.{FirstHigh, constants};
 
 // Whether variable v is high.
 pub fn high(assignment: &[u8], v: u32) -> bool

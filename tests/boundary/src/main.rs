@@ -3,7 +3,8 @@
 //! files, `search` for first recordings). What is lent is fenced (`fence`), and each case is called twice, on either side of the
 //! fence: the answers must be equal, no byte beyond be touched, and every place of an output be what it should. The largest
 //! tables that there are (`counts`) are printed.
-//! A seed other than the usual one is taken from TUVENIKAR_SEED. The last line is `N passed, M failed`.
+//! A seed other than the usual one is taken from TUVENIKAR_SEED; TUVENIKAR_RECORD writes `recorded.txt` anew instead. The last line
+//! is `N passed, M failed`.
 
 mod assignment;
 mod assignment_cases;
@@ -20,6 +21,7 @@ mod file_edges;
 mod file_engine;
 mod lent;
 mod readback;
+mod recorded;
 mod reference;
 mod search;
 mod search_cases;
@@ -81,11 +83,15 @@ const FIRST_OF_SEARCHES: usize = ROUND_TRIPS + 1;
 const FOUND: usize = FIRST_OF_SEARCHES + SEARCH_FAMILIES.len();
 
 fn main() {
+    if std::env::var("TUVENIKAR_RECORD").is_ok() {
+        return recorded::record();
+    }
     fault::watch();
     let seed = std::env::var("TUVENIKAR_SEED").map_or(1, |seed| seed.parse().expect("TUVENIKAR_SEED is no number"));
     let (mut engine, mut files, mut searches) = (Engine::new(), FileEngine::new(), SearchEngine::new());
     try_edges(&mut engine, &mut files);
     try_search_edges(&mut searches);
+    try_recorded(&mut searches);
     largest_tables(&mut engine, &mut files);
 
     println!("seed {seed}");
@@ -148,6 +154,15 @@ fn try_search_edges(searches: &mut SearchEngine) {
         count(&format!("edge: {name}"), searches.wrong(&case, &wanted));
     }
     println!("edges of the search: {:.1} s", begun.elapsed().as_secs_f32());
+}
+
+fn try_recorded(searches: &mut SearchEngine) {
+    fault::allow(1800);
+    let begun = Instant::now();
+    for case in search_cases::recorded_searches() {
+        count("recorded", searches.wrong(&case, &case.wanted()));
+    }
+    println!("recorded searches: {:.1} s", begun.elapsed().as_secs_f32());
 }
 
 /// What a case came to: its call, the code that was wanted, and what is wrong.

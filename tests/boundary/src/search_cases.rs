@@ -7,20 +7,32 @@ use std::rc::Rc;
 use crate::cases::{self, around, channels, chops, formula, levels, Case, Dice, Family};
 use crate::counts::counts;
 use crate::lent::Wanted;
+use crate::recorded::{recorded, Recorded};
 use crate::reference::{packed, Refusal};
 use crate::search::{first_of_all, Outcome, Search};
 
 pub const SEARCH: &str = "search";
 
+/// Each case is quick, so there are many.
+const TIMES: usize = 10;
+
 pub const SEARCH_FAMILIES: [Family<SearchCase>; 8] = [
-    Family { name: "searches for one formula", cases: 126_000, draw: |dice| limits_about_n(dice, MOST_TRIED, any_formula) },
-    Family { name: "searches for several at once", cases: 30_000, draw: |dice| limits_about_n(dice, MOST_TRIED, several) },
-    Family { name: "searches for opposed formulas", cases: 40_000, draw: |dice| limits_about_n(dice, 8, opposed) },
-    Family { name: "searches with many tries", cases: 1_500, draw: many_tries },
-    Family { name: "searches in arrays of all lengths", cases: 100_000, draw: all_lengths },
-    Family { name: "searches in arrays too short, in all sets", cases: 60_000, draw: sets_of_short_arrays },
-    Family { name: "a few tries with large tables", cases: 400, draw: large_tables },
-    Family { name: "searches for texts that are mostly refused", cases: 60_000, draw: other_texts },
+    Family {
+        name: "searches for one formula",
+        cases: 126_000 * TIMES,
+        draw: |dice| limits_about_n(dice, MOST_TRIED, any_formula),
+    },
+    Family {
+        name: "searches for several at once",
+        cases: 30_000 * TIMES,
+        draw: |dice| limits_about_n(dice, MOST_TRIED, several),
+    },
+    Family { name: "searches for opposed formulas", cases: 40_000 * TIMES, draw: |dice| limits_about_n(dice, 8, opposed) },
+    Family { name: "searches with many tries", cases: 1_500 * TIMES, draw: many_tries },
+    Family { name: "searches in arrays of all lengths", cases: 100_000 * TIMES, draw: all_lengths },
+    Family { name: "searches in arrays too short, in all sets", cases: 60_000 * TIMES, draw: sets_of_short_arrays },
+    Family { name: "a few tries with large tables", cases: 400 * TIMES, draw: large_tables },
+    Family { name: "searches for texts that are mostly refused", cases: 60_000 * TIMES, draw: other_texts },
 ];
 
 /// A formula, and what the second implementation says of its search.
@@ -67,26 +79,28 @@ const FEW_LITERALS: u64 = 4_000;
 type Author = fn(&mut Dice, u32, u32) -> Vec<u8>;
 
 impl Exercise {
-    /// With so many tries at most by the second implementation, which is at one with itself: what it finds is the first of all
-    /// recordings that satisfy the formula.
+    /// With so many tries at most by the second implementation.
     pub fn new(text: Vec<u8>, c: u32, k: u32, most: u32) -> Rc<Self> {
-        let exercise = Exercise { search: Search::new(&text, c, k, most), text, c, k };
-        if let Some(outcome) = exercise.outcome().filter(|_| c * k <= MOST_TRIED) {
-            let first = first_of_all(&exercise.text, c, k);
-            assert_eq!(outcome.recording, first, "for '{}', C {c}, k {k}", exercise.text.escape_ascii());
+        Exercise::grown(text, c, k, most).checked()
+    }
+
+    fn grown(text: Vec<u8>, c: u32, k: u32, most: u32) -> Self {
+        Exercise { search: Search::new(&text, c, k, most), text, c, k }
+    }
+
+    /// The second implementation is at one with itself: what it finds is the first of all recordings that satisfy the formula.
+    fn checked(self) -> Rc<Self> {
+        let Exercise { text, c, k, .. } = &self;
+        if let Some(outcome) = self.outcome().filter(|_| c * k <= MOST_TRIED) {
+            assert_eq!(outcome.recording, first_of_all(text, *c, *k), "for '{}', C {c}, k {k}", text.escape_ascii());
         }
-        Rc::new(exercise)
+        Rc::new(self)
     }
 
-    /// Whose N is known, whatever it is.
-    fn whole(text: Vec<u8>, c: u32, k: u32) -> Rc<Self> {
-        Exercise::new(text, c, k, u32::MAX)
-    }
-
-    /// Of so few channel variables and literals that N is found at once, unless the text is refused.
-    fn small(text: Vec<u8>, c: u32, k: u32) -> Option<Rc<Self>> {
+    /// Of so few channel variables and literals that N is found at once, whatever it is, unless the text is refused.
+    fn small(text: Vec<u8>, c: u32, k: u32) -> Option<Self> {
         let is_small = |[_, _, l]: [u64; 3]| c * k <= MOST_TRIED && l <= FEW_LITERALS;
-        counts(&text, c, k).map_or(true, |counts| is_small(counts.0)).then(|| Exercise::whole(text, c, k))
+        counts(&text, c, k).map_or(true, |counts| is_small(counts.0)).then(|| Exercise::grown(text, c, k, u32::MAX))
     }
 
     /// With so many channel variables at most. Most of those that need no try are passed over.
@@ -96,9 +110,14 @@ impl Exercise {
             let k = dice.from(0, (most / c) as usize) as u32;
             let small = Exercise::small(author(dice, c, k), c, k);
             if let Some(exercise) = small.filter(|exercise| exercise.tries() > 0 || dice.one_in(25)) {
-                return exercise;
+                return exercise.checked();
             }
         }
+    }
+
+    fn recorded(Recorded { c, k, text, most, outcome }: Recorded) -> Rc<Self> {
+        let counts = counts(text.as_bytes(), c, k).expect("an accepted text");
+        Rc::new(Exercise { search: Ok(Search::known(counts, k, most, outcome)), text: text.into(), c, k })
     }
 
     fn outcome(&self) -> Option<&Outcome> {
@@ -188,6 +207,17 @@ pub fn without_limit(dice: &mut Dice) -> SearchCase {
     case(dice, &exercise, u32::MAX, needs)
 }
 
+/// What is recorded, with N tries and with one less, or with as many as were made where they were too few.
+pub fn recorded_searches() -> impl Iterator<Item = SearchCase> {
+    recorded().zip(0..).flat_map(|(recorded, number)| {
+        let most = recorded.most;
+        let exercise = Exercise::recorded(recorded);
+        let limits = exercise.outcome().map_or([Some(most), None], |outcome| [Some(outcome.tries), outcome.tries.checked_sub(1)]);
+        let limits: Vec<u32> = limits.into_iter().flatten().collect();
+        under_limits(&mut Dice::new(0, 0, number), &exercise, &limits)
+    })
+}
+
 // Families
 
 fn limits_about_n(dice: &mut Dice, most: u32, author: Author) -> Vec<SearchCase> {
@@ -199,7 +229,7 @@ fn limits_about_n(dice: &mut Dice, most: u32, author: Author) -> Vec<SearchCase>
 /// Some limit below N too.
 fn many_tries(dice: &mut Dice) -> Vec<SearchCase> {
     let (c, k) = dice.pick(&[(1, 8), (1, 9), (1, 10), (1, 11), (2, 4), (2, 5), (3, 3), (4, 3)]);
-    let exercise = Exercise::whole(counted(dice, c, k), c, k);
+    let exercise = Exercise::new(counted(dice, c, k), c, k, u32::MAX);
     let below = dice.from(0, exercise.tries() as usize) as u32;
     let limits = [limits(dice, &exercise), vec![below]].concat();
     under_limits(dice, &exercise, &limits)
@@ -253,6 +283,7 @@ fn large_tables(dice: &mut Dice) -> Vec<SearchCase> {
 fn other_texts(dice: &mut Dice) -> Vec<SearchCase> {
     let family = dice.pick(&[cases::near_limits, cases::damaged_texts, cases::random_bytes, cases::odd_arguments]);
     let exercises = family(dice).into_iter().filter_map(|Case { text, c, k, .. }| Exercise::small(text, c, k));
+    let exercises = exercises.map(Exercise::checked);
     let in_some_room = |exercise: Rc<Exercise>| {
         let lengths = exercise.needs().map(|need| dice.pick(&around(need)));
         let limits = limits(dice, &exercise);

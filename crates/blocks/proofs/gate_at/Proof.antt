@@ -46,7 +46,7 @@ enum-told-4 : tie.Need-enum-told-4
 enum-told-4 c = search needs
 
 add-t20 : tie.Need-add-t20
-add-t20 c = let s = c .before .before .before in omega (arith, chop-before (s .args .p) (s .pre .1 .0) (s .pre .1 .1) (c .before .enum-told4 .given .1) (s .pre .0 .0 .steps), s .pre .0 .0 .left)
+add-t20 c = let s = c .before .before .before in omega (arith, chop-before (s .args .p) (s .pre .1 .0) (s .pre .1 .1 (c .before .enum-told4 .given .1)) (c .before .enum-told4 .given .1) (s .pre .0 .0 .steps), s .pre .0 .0 .left)
 
 add-t21 : tie.Need-add-t21
 add-t21 c = let s = c .before .before .before .before in omega (arith, chop-position (s .pre .1 .0) (c .before .before .enum-told4 .given .1), s .pre .0 .0 .steps)
@@ -89,7 +89,7 @@ returns-5 c = gate-by _ _ _ _ _ _ _ (c .enum-told3 .given .1)
 returns-6 : tie.Need-returns-6
 returns-6 c = let s = c .before .before .before .before in
     let e = c .before .before .enum-told4 .given .1 in
-    ap₂ AnyOf (omega (arith, chop-before (s .args .p) (s .pre .1 .0) (s .pre .1 .1) e (s .pre .0 .0 .steps))) (omega arith) ∙ gate-by _ _ _ _ _ _ _ e
+    ap₂ AnyOf (omega (arith, chop-before (s .args .p) (s .pre .1 .0) (s .pre .1 .1 e) e (s .pre .0 .0 .steps))) (omega arith) ∙ gate-by _ _ _ _ _ _ _ e
 
 returns-7 : tie.Need-returns-7
 returns-7 c = c .level-gate .ensures ∙ gate-by _ _ _ _ _ _ _ (c .before .enum-told5 .given .1)

@@ -30,7 +30,7 @@ loop-holds : tie.Need-loop-holds Inv-loop μ-loop
 loop-holds c = walk-begun _ _ _ (begins _ _ _ (c .before .variables .ensures) (c .weigh .ensures .0) (c .weigh .ensures .1))
 
 gate-at-requires : tie.Need-gate-at-requires Inv-loop μ-loop
-gate-at-requires c κs = let w = c .before .loop .inv .walks in ((c .before .before .before .before .before .before .before .pre .1 .0, omega (arith, w .few, c .loop-test .taken), c .before .before .before .before .count .ensures .0), (w .here (search needs), w .before))
+gate-at-requires c κs = let w = c .before .loop .inv .walks in ((c .before .before .before .before .before .before .before .pre .1 .0, omega (arith, w .few, c .loop-test .taken), c .before .before .before .before .count .ensures .0), (w .here (search needs), λ _. w .before))
 
 add-put-gate : tie.Need-add-put-gate Inv-loop μ-loop
 add-put-gate c = let w = c .before .before .before .before .loop .inv .walks in omega (arith, w .few, c .before .before .before .loop-test .taken, c .before .before .before .before .before .before .before .before .before .before .pre .1 .0 .first)
@@ -38,7 +38,7 @@ add-put-gate c = let w = c .before .before .before .before .loop .inv .walks in 
 put-gate-requires : tie.Need-put-gate-requires Inv-loop μ-loop
 put-gate-requires c κs = let w = c .before .before .before .before .loop .inv in
     let g = c .before .before .gate-at .ensures in
-    (walk-room _ _ _ w (search needs) g (c .before .before .before .before .before .before .before .before .before .before .pre .0), within-here (c .before .before .before .before .before .before .before .before .before .before .pre .1) (w .walks) (search needs) g)
+    (walk-room _ _ _ w (search needs) g (c .before .before .before .before .before .before .before .before .before .before .pre .0), within-here (c .before .before .before .before .before .before .before .before .before .before .pre .1) (w .walks .here (search needs)) g)
 
 next-requires : tie.Need-next-requires Inv-loop μ-loop
 next-requires c κs = small-here (c .before .before .before .before .before .before .before .before .before .before .before .before .before .before .before .pre .1) (c .before .before .before .before .before .before .before .before .before .loop .inv .walks) (search needs)

@@ -1,6 +1,7 @@
 -- After x turns the clauses of the first x nodes are met;
 -- a turn asks about the next node's, and the first no answers (Table.antt).
-use Rattle.proposal.proofs.Table.{none-met, all-met, row-mentioned, row-met, row-unmet, row-number, block-mentioned, block-asked}
+use Rattle.clause_table.proofs.Mentioned.{row-mentioned}
+use Rattle.proposal.proofs.Table.{none-met, all-met, row-met, row-unmet, row-number, block-mentioned, block-asked}
 use Rattle.proposal.specs.Rows.{definedIn}
 use Rattle.clause_table.specs.Rows.{rowDefinitions}
 use Rattle.assignments.specs.Extension.{valueIn}

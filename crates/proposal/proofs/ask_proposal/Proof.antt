@@ -1,6 +1,6 @@
 -- Each question is asked as the code comes to it, of the sizes and the clauses that the node table gives;
 -- the first no answers, and the last answers if there is none before (Call.antt).
-use Rattle.proposal.proofs.Table.{table-mentioned}
+use Rattle.clause_table.proofs.Mentioned.{table-mentioned}
 use Rattle.proposal.proofs.Call.{length-yes, length-no, values-no, clauses-no, places-last}
 use Rattle.clause_table.proofs.Call.{zeros-low}
 use mathlib.Core.Path.{refl, sym, _∙_}

@@ -1,21 +1,14 @@
 -- The tree of tries comes to what the limit leaves of the tree,
 -- and the recording is read from the values found (Drawn.antt).
-use mathlib.Core.Path.{refl}
-use native.Mathlib.Omega.{arith}
+use mathlib.Core.Path.{ap}
+use Prim.Native.Nat.{ℕ, _*_}
 use borrow.Author.Needs.{needs}
-use Rattle.clause_table.proofs.Measure.{channels-few}
 use Rattle.search.proofs.Drawn.{drawn-none, drawn-found, drawn-spent}
 use Rattle.search.proofs.draw.Statement.{statement}
 use Rattle.search.proofs.draw.Tie as tie
 
-cast-channels : tie.Need-cast-channels
-cast-channels c = search needs
-
-mul-channels : tie.Need-mul-channels
-mul-channels c = let p = c .before .before .before .before .before .pre .1 in record { fits = omega (arith, channels-few _ _ (p .0) (p .1)) }
-
 start-requires : tie.Need-start-requires
-start-requires c κs = search needs
+start-requires c κs = let p = c .before .before .before .before .before .before .before .pre in (p .0, p .1 .0)
 
 enum-known-below : tie.Need-enum-known-below
 enum-known-below c = search needs
@@ -24,7 +17,9 @@ enum-known-below-2 : tie.Need-enum-known-below-2
 enum-known-below-2 c = search needs
 
 put-recording-requires : tie.Need-put-recording-requires
-put-recording-requires c κs = search needs
+put-recording-requires c κs =
+    let s = c .before .before .before .before .before .before .before .before .before .before .before .before .before .before .before .before .before in let g = s .pre .0 .0 in let n = s .pre .1 .1 in
+    search (g .channels, g .steps, g .total, n, ap (λ (n : ℕ). n * s .args .c) n, c .before .before .before .before .before .before .before .before .before .start .kept .0, needs)
 
 enum-told : tie.Need-enum-told
 enum-told c = search needs
@@ -48,7 +43,7 @@ same-length-5 : tie.Need-same-length-5
 same-length-5 c = search needs
 
 returns-2 : tie.Need-returns-2
-returns-2 c = drawn-found (c .before .before .before .before .before .before .before .before .before .before .before .before .start .ensures) _ _ (c .before .before .before .before .before .before .before .before .before .before .before .before .before .before .before .before .before .before .before .before .args .recording .now) (c .before .before .before .before .before .before .below2 .given .1) refl (c .before .before .put-recording .ensures)
+returns-2 c = drawn-found (c .before .before .before .before .before .before .before .before .before .before .before .before .start .ensures) _ _ (c .before .before .before .before .before .before .before .before .before .before .before .before .before .before .before .before .before .before .before .before .args .recording .now) (c .before .before .before .before .before .before .below2 .given .1) (c .before .before .before .before .before .before .before .before .before .before .before .before .before .before .before .before .before .before .before .before .pre .1 .1) (c .before .before .put-recording .ensures)
 
 same-length-6 : tie.Need-same-length-6
 same-length-6 c = search needs
@@ -63,8 +58,6 @@ pub draw-spec : {M : Type 1} → statement M
 draw-spec =
     tie.close
     (tie.spec
-    cast-channels
-    mul-channels
     start-requires
     enum-known-below
     enum-known-below-2

@@ -23,8 +23,8 @@ enum-told c = search needs
 
 search-table-requires : tie.Need-search-table-requires
 search-table-requires c κs =
-    let e = c .before .before .before .before .before .before .before .before .node-table .ensures in
-    let y = c .before .before .before .before .before .before .enum-told .given .1 in
+    let e = c .before .before .before .before .before .before .node-table .ensures in
+    let y = c .before .before .before .before .enum-told .given .1 in
     let l = limits _ _ _ _ e y in
     (l .0, l .1, few-rows _ _ _ _ e y, table-for _ _ _ _ e y)
 
@@ -37,16 +37,10 @@ same-length-2 c = search needs
 same-length-3 : tie.Need-same-length-3
 same-length-3 c = search needs
 
-same-length-4 : tie.Need-same-length-4
-same-length-4 c = search needs
-
-same-length-5 : tie.Need-same-length-5
-same-length-5 c = search needs
-
 returns-2 : tie.Need-returns-2
 returns-2 c =
-    let w = c .before .before .before .before .before .before .before .before .before .before .search-table .ensures in
-    (called _ _ _ _ _ _ _ (c .before .before .before .before .before .before .before .before .before .before .before .before .before .before .before .before .before .before .before .node-table .ensures) (c .before .before .before .before .before .before .before .before .before .before .before .before .before .before .before .before .before .enum-told .given .1) (w .0), (w .1 .0, w .1 .1))
+    let w = c .before .before .before .before .before .before .search-table .ensures in
+    (called _ _ _ _ _ _ _ (c .before .before .before .before .before .before .before .before .before .before .before .before .before .node-table .ensures) (c .before .before .before .before .before .before .before .before .before .before .before .enum-told .given .1) (w .0), ((λ r q. refl, λ r q. refl), w .1))
 
 pub search-spec : {M : Type 1} → statement M
 search-spec =
@@ -60,6 +54,4 @@ search-spec =
     same-length
     same-length-2
     same-length-3
-    same-length-4
-    same-length-5
     returns-2)

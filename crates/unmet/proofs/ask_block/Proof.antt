@@ -33,7 +33,7 @@ loop-holds : tie.Need-loop-holds Inv-loop μ-loop
 loop-holds c = (begins _ _ _ (c .before .variables .ensures) (c .weigh .ensures .0) (c .weigh .ensures .1), met-begun)
 
 gate-at-requires : tie.Need-gate-at-requires Inv-loop μ-loop
-gate-at-requires c κs = let w = c .before .loop .inv .0 in ((c .before .before .before .before .before .before .pre .0 .0 .0, omega (arith, w .few, c .loop-test .taken), c .before .before .before .before .count .ensures .0), (w .here (search needs), w .before))
+gate-at-requires c κs = let w = c .before .loop .inv .0 in ((c .before .before .before .before .before .before .pre .0 .0 .0, omega (arith, w .few, c .loop-test .taken), c .before .before .before .before .count .ensures .0), (w .here (search needs), λ _. w .before))
 
 add-ask-gate : tie.Need-add-ask-gate Inv-loop μ-loop
 add-ask-gate c = omega (arith, c .before .before .loop .inv .0 .few, c .before .loop-test .taken, c .before .before .before .before .before .before .before .pre .0 .0 .0 .first)

@@ -1,6 +1,7 @@
 -- The triples' block is asked, then the intervals', as the definition lists them; the triples' clauses come before
 -- the intervals', so these are numbered from past how many those are (Walk.antt).
-use Rattle.unmet.proofs.Walk.{triples-mentioned, intervals-mentioned, triples-no, intervals-asked}
+use Rattle.node_clauses.proofs.Mentioned.{triples-mentioned, intervals-mentioned}
+use Rattle.unmet.proofs.Walk.{triples-no, intervals-asked}
 use Rattle.node_clauses.proofs.Nodes.{halves, triples-bounded, intervals-bounded}
 use Rattle.weights.proofs.Rows.{small}
 use native.Mathlib.Omega.{arith}

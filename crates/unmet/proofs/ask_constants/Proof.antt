@@ -1,7 +1,7 @@
 -- A variable that has the constant meets its one clause, so the clause of the first that has not is the first unmet one,
 -- and its number is how many came before (Walk.antt).
 use Rattle.unmet.proofs.Walk.{Met, constants-begun, constants-turn, constants-stopped, constants-done}
-use Rattle.unmet.specs.Mentioned.{constants}
+use Rattle.unmet.specs.Walk.{constants}
 use Rattle.assignments.specs.Extension.{valueIn}
 use Rattle.clauses.proofs.Meets.{beq-exactly}
 use borrow.Author.Tests.{not-true, not-false}

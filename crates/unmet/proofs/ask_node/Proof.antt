@@ -1,6 +1,6 @@
 -- A chop has two blocks, any other node one (Nodes.antt of node_clauses);
 -- a constant's is asked variable after variable (Walk.antt).
-use Rattle.unmet.specs.Mentioned.{AllMentioned}
+use Rattle.gates.specs.Mentioned.{AllMentioned}
 use Rattle.unmet.proofs.Walk.{constants-mentioned, constants-asked, node-asked}
 use Rattle.node_clauses.proofs.Nodes.{node-known}
 use mathlib.Core.Path.{sym, subst}

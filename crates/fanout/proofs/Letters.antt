@@ -1,0 +1,123 @@
+-- A channel at instant t: a letter's gate in place t turns on its channel at instant t, and no other rule's gate on a channel. So the rows
+-- of the channel's letters, each in place t, suffice in the table.
+use mathlib.Core.Path.{_≡_, refl, sym, ap, _∙_, subst}
+use mathlib.Core.Logic.{_⊎_, ⊎-elim, by-cases}
+use mathlib.Core.Bool.{Bool, true, false, cond, false≢true}
+use mathlib.Core.List.{List, [], _++_}
+use Prim.Native.Nat.{ℕ, _+_, _*_, _≤_, _<_}
+use native.Mathlib.Decide.{decLt}
+use native.Mathlib.Omega.{arith}
+use borrow.Author.Tests.{eqb-true, eqb-false}
+use Rattle.interval.specs.Listing.{rows, sum}
+use Rattle.interval.proofs.Shape.{place}
+use Rattle.circuit.specs.Circuit.{channelOf}
+use Rattle.circuit.specs.declared.Gate.the-variants.{Constant}
+use Rattle.circuit.proofs.Inputs.{row-lt}
+use Rattle.blocks.specs.Blocks.{shapeOf, definedBy}
+use Rattle.blocks.specs.declared.Block.{Block}
+use Rattle.blocks.specs.declared.Rule.{Rule}
+use Rattle.blocks.specs.declared.Rule.the-variants.{Fixed, Letter, Negation, And, Or, Chop, Duration, Throughout, Cut}
+use Rattle.clauses.specs.Clauses.{Clause, clausesOf}
+use Rattle.clause_table.specs.Rows.{seatBy, blockBy}
+use Rattle.closing.specs.Values.{Trailing}
+use Rattle.closing.specs.declared.Closed.{Closed as Ended}
+use Rattle.visits.specs.Visits.{Visited}
+use Rattle.visits.proofs.Parts.{visited-none, part-first}
+use Rattle.sweeps.specs.Sweeps.{clausesAt, tableBy}
+use Rattle.fanout.specs.Fanout.{nodeClauses, Voiced, Laid, Grid, speaks, letterAt}
+use Rattle.fanout.specs.Walks.{Apart}
+use Rattle.fanout.proofs.Cover.{part-row, part-each, Unnamed, covers-none, covers-row, covers-both, covers-rows, Suffices, suffices-none}
+use Rattle.fanout.proofs.Fine.{ruled, one-place}
+use Rattle.fanout.proofs.Near.{Outer, away}
+use Rattle.fanout.proofs.Rows.{block, row, laid}
+
+same-channel : (C x t c e : ℕ) → c < C → e < C → channelOf C x c ≡ channelOf C t e → (x ≡ t) × (c ≡ e)
+same-channel C x t c e h g f =
+    by-cases (decLt x t) (λ m. absurd (omega (arith, row-lt C t x c m h)))
+    (λ m. by-cases (decLt t x) (λ o. absurd (omega (arith, row-lt C x t e o g))) (λ o. let s : x ≡ t = omega arith in (s, omega (arith, f, ap (λ x. x * C) s))))
+
+-- ---- a block
+
+module _ (C k u t e : ℕ) (h : t < k) (l : e < C) (f : u ≡ channelOf C t e) where
+  low : u ≤ k * C
+  low = omega (arith, f, row-lt C k t e h l)
+
+  module _ (b : Block) (o : k * C < b .first) where
+    -- a letter's block in place t
+    letter-at : (c : ℕ) → c ≡ e → Voiced C k b (Letter c) → Suffices (nodeClauses C k (ruled (Letter c) b)) u (clausesAt (definedBy C k (ruled (Letter c) b)) t)
+    unfolding sum
+    letter-at c s v = one-place C k u (ruled (Letter c) b) t (omega (arith, h, v .1))
+        (λ y i. ⊎-elim (λ m. absurd (omega (arith, m, o, low))) (λ m. sym (same-channel C (place (shapeOf (b .points) k (Letter c)) y) t c e (v .0) l (sym m ∙ f) .0)))
+
+    spoken : (q : Rule) → speaks e q ≡ true → Voiced C k b q → Suffices (nodeClauses C k (ruled q b)) u (clausesAt (definedBy C k (ruled q b)) t)
+    spoken (Fixed v) s p = absurd (false≢true s)
+    spoken (Letter c) s p = letter-at c (eqb-true c e s) p
+    spoken Negation s p = absurd (false≢true s)
+    spoken And s p = absurd (false≢true s)
+    spoken Or s p = absurd (false≢true s)
+    spoken Chop s p = absurd (false≢true s)
+    spoken (Duration n) s p = absurd (false≢true s)
+    spoken Throughout s p = absurd (false≢true s)
+    spoken Cut s p = absurd (false≢true s)
+
+    -- no input of another's
+    unspoken : (q : Rule) → speaks e q ≡ false → Voiced C k b q → Apart k b q → Outer C k b u q → ⊥
+    unspoken (Fixed v) s p j m = m
+    unspoken (Letter c) s p j m = eqb-false c e s (same-channel C (m .0) t c e (p .0) l (sym (m .2) ∙ f) .1)
+    unspoken Negation s p j m = omega (arith, m, j, o, low)
+    unspoken And s p j m = ⊎-elim (λ m. omega (arith, m, j, o, low)) (λ m. omega (arith, m, j, o, low)) m
+    unspoken Or s p j m = ⊎-elim (λ m. omega (arith, m, j, o, low)) (λ m. omega (arith, m, j, o, low)) m
+    unspoken Chop s p j m = ⊎-elim (λ m. omega (arith, m, j, o, low)) (λ m. omega (arith, m, j, o, low)) m
+    unspoken (Duration n) s p j m = omega (arith, m, j, o, low)
+    unspoken Throughout s p j m = omega (arith, m, j, o, low)
+    unspoken Cut s p j m = j
+
+  module _ (b : Block) (j : Laid C k b) where
+    pub heard : speaks e (b .rule) ≡ true → Suffices (nodeClauses C k b) u (clausesAt (definedBy C k b) t)
+    heard s = spoken b (j .beyond) (b .rule) s (j .voiced)
+
+    pub unheard : speaks e (b .rule) ≡ false → Unnamed (nodeClauses C k b) u
+    unheard s = away C k u b refl (λ m. omega (arith, m, j .beyond, low)) (unspoken b (j .beyond) (b .rule) s (j .voiced) (j .apart))
+
+  -- ---- the table
+
+  module _ {kinds numbers sizes firsts parents : List ℕ} {n : ℕ} (g : Grid C k kinds numbers sizes firsts parents n) (some : 0 < n) where
+    abbrev table : List Clause
+    table = tableBy C k kinds numbers sizes firsts n
+
+    abbrev letters : ℕ → List Clause
+    letters y = letterAt C k kinds numbers sizes firsts t e y
+
+    abbrev root : List Clause
+    root = clausesOf (seatBy kinds numbers firsts k 0 + k) (Constant true)
+
+    row-suffices : (y : ℕ) → y < n → Suffices (row g y) u (letters y)
+    row-suffices y q = go (speaks e (block g y .rule)) refl
+      where
+        go : (s : Bool) → speaks e (block g y .rule) ≡ s → Suffices (row g y) u (cond s (clausesAt (definedBy C k (block g y)) t) [])
+        go true s = heard (block g y) (laid g y q refl) s
+        go false s = suffices-none (unheard (block g y) (laid g y q refl) s)
+
+    root-unnamed : Unnamed root u
+    unfolding clausesOf seatBy
+    root-unnamed = record { none = ((⊎-elim (λ m. omega (arith, m, low, g .first 0 some)) (λ m. m)), tt) }
+
+    pub channel-suffices : Suffices table u (rows n letters)
+    unfolding tableBy
+    channel-suffices = record {
+      part = part-each (rows n (row g) ++ root) letters n (λ y q S c. row-suffices y q .part S (part-row (row g) n y q S (part-first (rows n (row g)) root S c)));
+      covers = covers-both (covers-rows (row g) n (λ y q. covers-row letters n y q (row-suffices y q .covers))) (covers-none (rows n letters) root-unnamed);
+    }
+
+-- ---- a row that the code has looked at
+
+module _ (T : List Clause) {v₀ t₀ : List ℕ} {top₀ : ℕ} {b c : Bool} (e : b ≡ c) where
+  pub visited-if : {values trail : List ℕ} {r : Ended} → b ≡ true → Visited T v₀ t₀ top₀ values trail r → Visited (cond c T []) v₀ t₀ top₀ values trail r
+  visited-if {values} {trail} {r} f w = subst (λ (c : Bool). Visited (cond c T []) v₀ t₀ top₀ values trail r) (sym f ∙ e) w
+
+  pub visited-else : b ≡ false → Trailing v₀ t₀ top₀ → Visited (cond c T []) v₀ t₀ top₀ v₀ t₀ (record { clash = false; top = top₀ })
+  visited-else f t = subst (λ (c : Bool). Visited (cond c T []) v₀ t₀ top₀ v₀ t₀ (record { clash = false; top = top₀ })) (sym f ∙ e) (visited-none t)
+
+pub letter-row : (C k : ℕ) (kinds numbers sizes firsts : List ℕ) (t e x : ℕ) (b : Block) → b ≡ blockBy kinds numbers sizes firsts k x
+    → cond (speaks e (b .rule)) (clausesAt (definedBy C k b) t) [] ≡ letterAt C k kinds numbers sizes firsts t e x
+letter-row C k kinds numbers sizes firsts t e x b s = ap (λ (b : Block). cond (speaks e (b .rule)) (clausesAt (definedBy C k b) t) []) s

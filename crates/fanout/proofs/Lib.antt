@@ -1,0 +1,13 @@
+pub mod Chops
+pub mod Cover
+pub mod Fine
+pub mod Formula
+pub mod Ground
+pub mod Joint
+pub mod Letters
+pub mod Levels
+pub mod Lines
+pub mod Named
+pub mod Near
+pub mod Pending
+pub mod Rows

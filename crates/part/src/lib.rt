@@ -1,0 +1,184 @@
+// The gates of a node's block that mention a variable of another node, by the node's rule: where that is a part's truth.
+use blocks::Block;
+use blocks::Form;
+use blocks::Rule;
+use closing::Closed;
+ghost use mathlib.Core.Path.{_≡_};
+ghost use mathlib.Core.Bool.{false};
+ghost use Prim.Native.Nat.{_*_, _≤_, _<_};
+ghost use lib.ListN.{length};
+ghost use Rattle.interval.specs.Places.{countOf};
+ghost use Rattle.blocks.specs.Blocks.{isChop, formOf};
+ghost use Rattle.blocks.specs.declared.Form.the-variants.{Line, Intervals};
+ghost use Rattle.blocks.specs.declared.Rule.the-variants.{Chop};
+ghost use Rattle.decode.specs.Decode.{IntervalsTo};
+ghost use Rattle.fanout.specs.Fanout.{Reached, nodeClauses, InBlock};
+ghost use Rattle.own.specs.Own.{Node};
+ghost use Rattle.part.specs.Part.{partsOf, Among};
+
+// How many parts are judged as the node itself is, place by place.
+fn parts_of(rule: Rule) -> u32
+    ensures { λ r. ⌜ r ≡ partsOf rule ⌝ }
+{
+    match rule {
+        Rule::Fixed(_) => 0,
+        Rule::Letter(_) => 0,
+        Rule::Negation => 1,
+        Rule::And => 2,
+        Rule::Or => 2,
+        Rule::Chop => 0,
+        Rule::Duration(_) => 0,
+        Rule::Throughout => 0,
+        Rule::Cut => 0,
+    }
+}
+
+// Whether u is one of n variables from w on.
+fn among(w: u32, n: u32, u: u32) -> bool
+    ensures { λ r. ⌜ Among w n u r ⌝ }
+{
+    if u < w {
+        return false;
+    }
+    u - w < n
+}
+
+// A variable of another node, in a node that is judged place by place.
+fn reach_line(
+    values: &mut [u8],
+    trail: &mut [u32],
+    top: usize,
+    c: u32,
+    k: u32,
+    all: u32,
+    block: Block,
+    u: u32,
+) -> Closed
+    requires { ⌜ Node c k block (now values) (now trail) top × (all ≡ countOf k) × (formOf (block .rule) ≡ Line) × (InBlock k block u → ⊥) × (k * c < u) ⌝ }
+    ensures { λ r. ⌜ Reached (nodeClauses c k block) u (now (values .entry)) (now (trail .entry)) top (now (values .exit)) (now (trail .exit)) r ⌝ }
+{
+    let rule = block.rule;
+    let left = block.left;
+    let right = block.right;
+    let points = block.points;
+    let parts = parts_of(rule);
+    if (1 <= parts) & among(left, points, u) {
+        return own::visit_line(values, trail, top, c, k, all, block, u - left);
+    }
+    if (2 <= parts) & among(right, points, u) {
+        return own::visit_line(values, trail, top, c, k, all, block, u - right);
+    }
+    own::done(top)
+}
+
+// In a duration or `[S]`.
+fn reach_instant(
+    values: &mut [u8],
+    trail: &mut [u32],
+    top: usize,
+    c: u32,
+    k: u32,
+    all: u32,
+    block: Block,
+    u: u32,
+) -> Closed
+    requires { ⌜ Node c k block (now values) (now trail) top × (all ≡ countOf k) × (InBlock k block u → ⊥) × (k * c < u) ⌝ }
+    requires { ⌜ (formOf (block .rule) ≡ Intervals) × (isChop (block .rule) ≡ false) ⌝ }
+    ensures { λ r. ⌜ Reached (nodeClauses c k block) u (now (values .entry)) (now (trail .entry)) top (now (values .exit)) (now (trail .exit)) r ⌝ }
+{
+    let left = block.left;
+    if !among(left, k, u) {
+        return own::done(top);
+    }
+    let rule = block.rule;
+    let rise = own::rise_of(rule);
+    walks::visit_instant(
+        values,
+        trail,
+        top,
+        c,
+        k,
+        all,
+        block,
+        rise.from,
+        rise.count,
+        u - left,
+    )
+}
+
+// In a chop: the triples of its first part's interval, or of its second part's.
+fn reach_chop(
+    values: &mut [u8],
+    trail: &mut [u32],
+    top: usize,
+    intervals: &[u16],
+    c: u32,
+    k: u32,
+    all: u32,
+    block: Block,
+    u: u32,
+) -> Closed
+    requires { ⌜ Node c k block (now values) (now trail) top × (all ≡ countOf k) × (block .rule ≡ Chop) × (InBlock k block u → ⊥) × (k * c < u) ⌝ }
+    requires { ⌜ (countOf k ≤ length (now intervals)) × IntervalsTo k (now intervals) (countOf k) ⌝ }
+    ensures { λ r. ⌜ Reached (nodeClauses c k block) u (now (values .entry)) (now (trail .entry)) top (now (values .exit)) (now (trail .exit)) r ⌝ }
+{
+    let left = block.left;
+    let right = block.right;
+    let triples = node_clauses::triples_of(node_clauses::beyond(block.first, k), block);
+    if among(left, all, u) {
+        let v = decode::interval_at(intervals, k as usize, (u - left) as usize);
+        return triples::visit_first(
+            values,
+            trail,
+            top,
+            c,
+            k,
+            all,
+            triples,
+            v.i as u32,
+            v.j as u32,
+        );
+    }
+    if among(right, all, u) {
+        let v = decode::interval_at(intervals, k as usize, (u - right) as usize);
+        return triples::visit_second(
+            values,
+            trail,
+            top,
+            c,
+            k,
+            all,
+            triples,
+            v.i as u32,
+            v.j as u32,
+        );
+    }
+    own::done(top)
+}
+
+// A variable of another node: where it is a part's truth, the gates that mention it.
+pub fn reach(
+    values: &mut [u8],
+    trail: &mut [u32],
+    top: usize,
+    intervals: &[u16],
+    c: u32,
+    k: u32,
+    all: u32,
+    block: Block,
+    u: u32,
+) -> Closed
+    requires { ⌜ Node c k block (now values) (now trail) top × (all ≡ countOf k) × (InBlock k block u → ⊥) × (k * c < u) ⌝ }
+    requires { ⌜ (countOf k ≤ length (now intervals)) × IntervalsTo k (now intervals) (countOf k) ⌝ }
+    ensures { λ r. ⌜ Reached (nodeClauses c k block) u (now (values .entry)) (now (trail .entry)) top (now (values .exit)) (now (trail .exit)) r ⌝ }
+{
+    let rule = block.rule;
+    if blocks::is_chop(rule) {
+        return reach_chop(values, trail, top, intervals, c, k, all, block, u);
+    }
+    match blocks::form_of(rule) {
+        Form::Line => reach_line(values, trail, top, c, k, all, block, u),
+        Form::Intervals => reach_instant(values, trail, top, c, k, all, block, u),
+        Form::Triples => own::done(top),
+    }
+}

@@ -1,0 +1,65 @@
+-- The gates over variables 1 to 4, by which the code goes, and what it does with values and trail. Nothing here need be believed: no call
+-- open to others cites it.
+use mathlib.Core.Path.{_≡_}
+use mathlib.Core.Bool.{true, false}
+use mathlib.Core.List.{List, [], _∷_, map}
+use mathlib.Core.Option.{Option, none, some}
+use Prim.Native.Nat.{ℕ, _+_, _-_, _*_}
+use lib.ListN.{length, getD}
+use Rattle.meaning.specs.Meaning.{bit}
+use Rattle.circuit.specs.declared.Gate.the-variants.{Constant, Copy, Inverse, Both, Either, Step}
+use Rattle.clauses.specs.Clauses as clauses
+use Rattle.clauses.specs.Clauses.{literal, plain, negated, Clause, clausesOf}
+use Rattle.closure.specs.Closure.{Literals, membersIn}
+use Rattle.closure.specs.Tree.{firstForced, closure}
+use Rattle.closure.specs.Runs.{clashes}
+use Rattle.closing.specs.Values.{heldIn, Grown}
+use Rattle.closing.specs.declared.Closed.{Closed}
+use Rattle.gates.specs.Mentioned.{Variable}
+use Rattle.patterns.specs.declared.Next.{Next}
+use Rattle.patterns.specs.declared.Next.the-variants.{Nothing, Literal}
+use Rattle.clauses.specs.Entries.{entry, literalOf}
+
+-- variable v is byte v − 1
+abbrev pub valueAt : List ℕ → ℕ → ℕ
+valueAt values v = getD values (v - 1) 0
+
+-- values and trail have grown by literals of the closure of these clauses, under which they are then closed, or it clashes
+pub record Settled (T : List Clause) (v₀ t₀ : List ℕ) (top₀ : ℕ) (values trail : List ℕ) (r : Closed) : Type 0 where
+  pub grown : Grown v₀ t₀ top₀ values trail (r .top)
+  pub same : closure T (heldIn values) ≡ closure T (heldIn v₀)
+  pub calm : r .clash ≡ false → heldIn values ≡ closure T (heldIn values)
+  pub clashing : r .clash ≡ true → clashes (length v₀) (closure T (heldIn v₀)) ≡ true
+
+-- the gates, over the variables from 1 on
+unfoldable pub patternOf : ℕ → List Clause
+patternOf g =
+    getD (clausesOf 1 (Copy 2) ∷ clausesOf 1 (Inverse 2) ∷ clausesOf 1 (Both 2 3) ∷ clausesOf 1 (Either 2 3) ∷ clausesOf 1 (Step 2 3 4)
+    ∷ clausesOf 1 (Constant false) ∷ clausesOf 1 (Constant true) ∷ ((plain 1 ∷ negated 2 ∷ []) ∷ []) ∷ []) g []
+
+-- other variables in their places
+abbrev pub among : ℕ → ℕ → ℕ → ℕ → ℕ → ℕ
+among v x y z n = getD (0 ∷ v ∷ x ∷ y ∷ z ∷ []) n 0
+
+abbrev pub renameBy : (ℕ → ℕ) → clauses.Literal → clauses.Literal
+renameBy f l = literal (l .sign) (f (l .variable))
+
+unfoldable pub renamed : (ℕ → ℕ) → List Clause → List Clause
+renamed f T = map (λ (c : Clause). map (renameBy f) c) T
+
+-- what is forced first, as a number
+abbrev pub codeOf : Option clauses.Literal → ℕ
+codeOf none = 0
+codeOf (some l) = 2 * l .variable + bit (l .sign) + 2
+
+abbrev pub fourOf : ℕ → ℕ → ℕ → ℕ → Literals
+fourOf a b c d = heldIn (a ∷ b ∷ c ∷ d ∷ [])
+
+unfoldable pub forcedBy : ℕ → ℕ → ℕ → ℕ → ℕ → ℕ
+forcedBy g a b c d = codeOf (firstForced (membersIn (patternOf g)) (fourOf a b c d))
+
+-- nothing is forced, or this literal of the values' variables is, and is not there yet
+abbrev pub Forces : List Clause → List ℕ → Next → Type 0
+Forces T values Nothing = heldIn values ≡ closure T (heldIn values)
+Forces T values (Literal u m) =
+    Variable (length values) u × (closure T (heldIn values) (literalOf (entry u m)) ≡ true) × (heldIn values (literalOf (entry u m)) ≡ false)

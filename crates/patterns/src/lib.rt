@@ -1,0 +1,520 @@
+// A gate's clauses by their pattern: every literal that they force, one after another, or a clash.
+use closing::Closed;
+ghost use mathlib.Core.Path.{_≡_};
+ghost use mathlib.Core.Bool.{Bool, true};
+ghost use Prim.Native.Nat.{ℕ, _+_, _*_, _≤_, _<_};
+ghost use lib.ListN.{length, getD};
+ghost use Rattle.meaning.specs.Meaning.{bit};
+ghost use Rattle.closing.specs.Values.{Trailing};
+ghost use Rattle.patterns.specs.Patterns.{valueAt, Settled, patternOf, among, renamed, forcedBy, Forces};
+ghost use Rattle.gates.specs.Mentioned.{Variable, InputsIn};
+ghost use Rattle.circuit.specs.declared.Gate.the-variants.{Both, Step};
+ghost use Rattle.clauses.specs.Clauses.{clausesOf};
+
+// What the clauses of a gate force first, by the values of its variables, the first variable's counting 1, the next one's 3, and so on: 0
+// nothing, else 2 * variable + 2, and 1 more where plain. A table for each pattern: a constant is copied where it is read, so it is small.
+const COPY: [u8; 27] = [
+    0,
+    7,
+    6,
+    5,
+    0,
+    5,
+    4,
+    4,
+    0,
+    0,
+    7,
+    6,
+    5,
+    0,
+    5,
+    4,
+    4,
+    0,
+    0,
+    7,
+    6,
+    5,
+    0,
+    5,
+    4,
+    4,
+    0,
+];
+
+const INVERSE: [u8; 27] = [
+    0,
+    6,
+    7,
+    4,
+    4,
+    0,
+    5,
+    0,
+    5,
+    0,
+    6,
+    7,
+    4,
+    4,
+    0,
+    5,
+    0,
+    5,
+    0,
+    6,
+    7,
+    4,
+    4,
+    0,
+    5,
+    0,
+    5,
+];
+
+const BOTH: [u8; 27] = [
+    0,
+    7,
+    0,
+    0,
+    9,
+    8,
+    4,
+    4,
+    0,
+    0,
+    7,
+    6,
+    5,
+    0,
+    5,
+    4,
+    4,
+    0,
+    4,
+    7,
+    0,
+    4,
+    4,
+    0,
+    4,
+    4,
+    0,
+];
+
+const EITHER: [u8; 27] = [
+    0,
+    0,
+    6,
+    5,
+    0,
+    5,
+    0,
+    9,
+    8,
+    5,
+    0,
+    6,
+    5,
+    0,
+    5,
+    5,
+    0,
+    5,
+    0,
+    7,
+    6,
+    5,
+    0,
+    5,
+    4,
+    4,
+    0,
+];
+
+const STEP: [u8; 81] = [
+    0,
+    0,
+    6,
+    5,
+    0,
+    5,
+    0,
+    9,
+    0,
+    0,
+    0,
+    6,
+    5,
+    0,
+    5,
+    0,
+    11,
+    10,
+    0,
+    7,
+    6,
+    5,
+    0,
+    5,
+    4,
+    4,
+    0,
+    0,
+    0,
+    6,
+    5,
+    0,
+    5,
+    0,
+    9,
+    8,
+    5,
+    0,
+    6,
+    5,
+    0,
+    5,
+    5,
+    0,
+    5,
+    0,
+    7,
+    6,
+    5,
+    0,
+    5,
+    4,
+    4,
+    0,
+    0,
+    7,
+    6,
+    5,
+    0,
+    5,
+    4,
+    9,
+    0,
+    0,
+    7,
+    6,
+    5,
+    0,
+    5,
+    4,
+    4,
+    0,
+    0,
+    7,
+    6,
+    5,
+    0,
+    5,
+    4,
+    4,
+    0,
+];
+
+const LOW: [u8; 27] = [
+    4,
+    4,
+    0,
+    4,
+    4,
+    0,
+    4,
+    4,
+    0,
+    4,
+    4,
+    0,
+    4,
+    4,
+    0,
+    4,
+    4,
+    0,
+    4,
+    4,
+    0,
+    4,
+    4,
+    0,
+    4,
+    4,
+    0,
+];
+
+const HIGH: [u8; 27] = [
+    5,
+    0,
+    5,
+    5,
+    0,
+    5,
+    5,
+    0,
+    5,
+    5,
+    0,
+    5,
+    5,
+    0,
+    5,
+    5,
+    0,
+    5,
+    5,
+    0,
+    5,
+    5,
+    0,
+    5,
+    5,
+    0,
+    5,
+];
+
+const RAISED: [u8; 27] = [
+    0,
+    0,
+    6,
+    5,
+    0,
+    5,
+    0,
+    0,
+    0,
+    0,
+    0,
+    6,
+    5,
+    0,
+    5,
+    0,
+    0,
+    0,
+    0,
+    0,
+    6,
+    5,
+    0,
+    5,
+    0,
+    0,
+    0,
+];
+
+// Where nothing is forced, a bit for each entry of a table: of both, and of a step for each value of its last variable. A visit looks here
+// first, since mostly nothing is.
+const BOTH_QUIET: u32 = 76686093;
+
+const STEP_QUIET_0: u32 = 71608147;
+
+const STEP_QUIET_1: u32 = 71640147;
+
+const STEP_QUIET_2: u32 = 71705361;
+
+fn wide(x: u8) -> usize
+    ensures { λ r. ⌜ r ≡ x ⌝ }
+{
+    x as usize
+}
+
+fn forced(gate: usize, a: u8, b: u8, c: u8, d: u8) -> u8
+    requires { ⌜ (gate < 8) × (a ≤ 2) × (b ≤ 2) × (c ≤ 2) × (d ≤ 2) ⌝ }
+    ensures { λ r. ⌜ (r ≡ forcedBy gate a b c d) × (r ≤ 11) × ((r ≡ 0 → ⊥) → 4 ≤ r) ⌝ }
+{
+    let i = wide(a) + 3 * wide(b) + 9 * wide(c);
+    match gate {
+        0 => COPY[i],
+        1 => INVERSE[i],
+        2 => BOTH[i],
+        3 => EITHER[i],
+        4 => STEP[i + 27 * wide(d)],
+        5 => LOW[i],
+        6 => HIGH[i],
+        _ => RAISED[i],
+    }
+}
+
+// The variable of a forced literal.
+fn pick(e: u8, v: u32, x: u32, y: u32, z: u32) -> u32
+    ensures { λ r. ⌜ ((n : ℕ) (u : Bool) → e ≡ 2 * n + bit u + 2 → 1 ≤ n → n ≤ 4 → r ≡ among v x y z n) ⌝ }
+{
+    if e < 6 {
+        return v;
+    }
+    if e < 8 {
+        return x;
+    }
+    if e < 10 {
+        return y;
+    }
+    z
+}
+
+// The value of a variable.
+fn value(values: &[u8], v: u32) -> u8
+    requires { ⌜ Variable (length (now values)) v ⌝ }
+    ensures { λ r. ⌜ r ≡ valueAt (now (values .entry)) v ⌝ }
+{
+    values[v as usize - 1]
+}
+
+// Nothing is forced by v, x and y where v is both.
+fn both_quiet(a: u8, b: u8, c: u8) -> bool
+    requires { ⌜ (a ≤ 2) × (b ≤ 2) × (c ≤ 2) ⌝ }
+    ensures { λ r. ⌜ (r ≡ true → forcedBy 2 a b c a ≡ 0) ⌝ }
+{
+    (BOTH_QUIET >> (wide(a) + 3 * wide(b) + 9 * wide(c))) % 2 == 1
+}
+
+// Nothing is forced by v, p, q and s where v is a step.
+fn step_quiet(a: u8, b: u8, c: u8, d: u8) -> bool
+    requires { ⌜ (a ≤ 2) × (b ≤ 2) × (c ≤ 2) × (d ≤ 2) ⌝ }
+    ensures { λ r. ⌜ (r ≡ true → forcedBy 4 a b c d ≡ 0) ⌝ }
+{
+    let i = wide(a) + 3 * wide(b) + 9 * wide(c);
+    if d == 0 {
+        return (STEP_QUIET_0 >> i) % 2 == 1;
+    }
+    if d == 1 {
+        return (STEP_QUIET_1 >> i) % 2 == 1;
+    }
+    (STEP_QUIET_2 >> i) % 2 == 1
+}
+
+// The first literal that is forced, or none.
+pub enum Next {
+    Nothing,
+    Literal(u32, u8),
+}
+
+// What the clauses of one of the gates, over these variables, force first.
+fn next_forced(values: &[u8], gate: usize, v: u32, x: u32, y: u32, z: u32) -> Next
+    requires { ⌜ ((x : ℕ) → getD (now values) x 0 ≤ 2) × (gate < 8) ⌝ }
+    requires { ⌜ Variable (length (now values)) v × Variable (length (now values)) x × Variable (length (now values)) y × Variable (length (now values)) z ⌝ }
+    ensures { λ r. ⌜ Forces (renamed (among v x y z) (patternOf gate)) (now (values .entry)) r ⌝ }
+{
+    let a = value(values, v);
+    let b = value(values, x);
+    let c = value(values, y);
+    let d = value(values, z);
+    let e = forced(gate, a, b, c, d);
+    if e == 0 {
+        return Next::Nothing;
+    }
+    Next::Literal(pick(e, v, x, y, z), e)
+}
+
+// One of the gates by its pattern, over these variables, of which something is forced.
+fn settle_on(
+    values: &mut [u8],
+    trail: &mut [u32],
+    top: usize,
+    gate: usize,
+    v: u32,
+    x: u32,
+    y: u32,
+    z: u32,
+) -> Closed
+    requires { ⌜ Trailing (now values) (now trail) top × (gate < 8) ⌝ }
+    requires { ⌜ Variable (length (now values)) v × Variable (length (now values)) x × Variable (length (now values)) y × Variable (length (now values)) z ⌝ }
+    ensures { λ r. ⌜ Settled (renamed (among v x y z) (patternOf gate)) (now (values .entry)) (now (trail .entry)) top (now (values .exit)) (now (trail .exit)) r ⌝ }
+{
+    let mut t = top;
+    loop {
+        let next = next_forced(values, gate, v, x, y, z);
+        let Next::Literal(u, e) = next else {
+            return Closed {
+                clash: false,
+                top: t,
+            };
+        };
+        if closing::opposed(values, u, e) {
+            return Closed {
+                clash: true,
+                top: t,
+            };
+        }
+        t = closing::add(values, trail, t, u, e);
+    }
+}
+
+// One of the gates by its pattern, over these variables: mostly nothing is forced.
+pub fn settle_by(
+    values: &mut [u8],
+    trail: &mut [u32],
+    top: usize,
+    gate: usize,
+    v: u32,
+    x: u32,
+    y: u32,
+    z: u32,
+) -> Closed
+    requires { ⌜ Trailing (now values) (now trail) top × (gate < 8) ⌝ }
+    requires { ⌜ Variable (length (now values)) v × Variable (length (now values)) x × Variable (length (now values)) y × Variable (length (now values)) z ⌝ }
+    ensures { λ r. ⌜ Settled (renamed (among v x y z) (patternOf gate)) (now (values .entry)) (now (trail .entry)) top (now (values .exit)) (now (trail .exit)) r ⌝ }
+{
+    let next = next_forced(values, gate, v, x, y, z);
+    if let Next::Nothing = next {
+        return Closed {
+            clash: false,
+            top: top,
+        };
+    }
+    settle_on(values, trail, top, gate, v, x, y, z)
+}
+
+// v is x and y: mostly nothing is forced.
+pub fn settle_both(
+    values: &mut [u8],
+    trail: &mut [u32],
+    top: usize,
+    v: u32,
+    x: u32,
+    y: u32,
+) -> Closed
+    requires { ⌜ Trailing (now values) (now trail) top × Variable (length (now values)) v × InputsIn (length (now values)) (Both x y) ⌝ }
+    ensures { λ r. ⌜ Settled (clausesOf v (Both x y)) (now (values .entry)) (now (trail .entry)) top (now (values .exit)) (now (trail .exit)) r ⌝ }
+{
+    let a = value(values, v);
+    let b = value(values, x);
+    let c = value(values, y);
+    if both_quiet(a, b, c) {
+        return Closed {
+            clash: false,
+            top: top,
+        };
+    }
+    settle_on(values, trail, top, 2, v, x, y, v)
+}
+
+// v is p, or q and s: likewise.
+pub fn settle_step(
+    values: &mut [u8],
+    trail: &mut [u32],
+    top: usize,
+    v: u32,
+    p: u32,
+    q: u32,
+    s: u32,
+) -> Closed
+    requires { ⌜ Trailing (now values) (now trail) top × Variable (length (now values)) v × InputsIn (length (now values)) (Step p q s) ⌝ }
+    ensures { λ r. ⌜ Settled (clausesOf v (Step p q s)) (now (values .entry)) (now (trail .entry)) top (now (values .exit)) (now (trail .exit)) r ⌝ }
+{
+    let a = value(values, v);
+    let b = value(values, p);
+    let c = value(values, q);
+    let d = value(values, s);
+    if step_quiet(a, b, c, d) {
+        return Closed {
+            clash: false,
+            top: top,
+        };
+    }
+    settle_on(values, trail, top, 4, v, p, q, s)
+}

@@ -1,0 +1,328 @@
+// Closing by the trail as a queue: each variable of it in turn, and the gates that mention it.
+use blocks::Block;
+use blocks::Rule;
+use circuit::Gate;
+use closing::Closed;
+use grammar::MAX_NODES;
+use interval::Interval;
+ghost use mathlib.Core.Path.{_≡_};
+ghost use mathlib.Core.Bool.{cond};
+ghost use mathlib.Core.List.{[]};
+ghost use Prim.Native.Nat.{_*_, _≤_, _<_};
+ghost use lib.ListN.{length};
+ghost use Rattle.interval.specs.Listing.{rows};
+ghost use Rattle.interval.specs.Places.{countOf};
+ghost use Rattle.blocks.specs.Blocks.{definedBy};
+ghost use Rattle.gates.specs.Mentioned.{Variable};
+ghost use Rattle.closing.specs.Values.{Trailing};
+ghost use Rattle.closing.specs.Closing.{ClosedTo};
+ghost use Rattle.visits.specs.Visits.{Visited};
+ghost use Rattle.sweeps.specs.Sweeps.{clausesAt, tableBy};
+ghost use Rattle.decode.specs.Decode.{Tables};
+ghost use Rattle.fanout.specs.Fanout.{speaks, letterAt, Ground, Pending, Reached};
+ghost use Rattle.own.specs.Own.{Node};
+
+// Whether a rule is the letter of channel e.
+fn speaks_of(rule: Rule, e: u32) -> bool
+    ensures { λ r. ⌜ r ≡ speaks e rule ⌝ }
+{
+    match rule {
+        Rule::Fixed(_) => false,
+        Rule::Letter(c) => c == e,
+        Rule::Negation => false,
+        Rule::And => false,
+        Rule::Or => false,
+        Rule::Chop => false,
+        Rule::Duration(_) => false,
+        Rule::Throughout => false,
+        Rule::Cut => false,
+    }
+}
+
+// The gate at instant t of a node that is the letter of channel e.
+fn reach_letter(
+    values: &mut [u8],
+    trail: &mut [u32],
+    top: usize,
+    c: u32,
+    k: u32,
+    all: u32,
+    block: Block,
+    t: u32,
+    e: u32,
+) -> Closed
+    requires { ⌜ Node c k block (now values) (now trail) top × (all ≡ countOf k) × (t < k) ⌝ }
+    ensures { λ r. ⌜ Visited (cond (speaks e (block .rule)) (clausesAt (definedBy c k block) t) []) (now (values .entry)) (now (trail .entry)) top (now (values .exit)) (now (trail .exit)) r ⌝ }
+{
+    let rule = block.rule;
+    if speaks_of(rule, e) {
+        return own::visit_line(values, trail, top, c, k, all, block, t);
+    }
+    own::done(top)
+}
+
+// The letters of channel e at instant t.
+fn reach_letters<'a>(
+    values: &mut [u8],
+    trail: &mut [u32],
+    top: usize,
+    kinds: &'a [u8; MAX_NODES],
+    numbers: &'a [u8; MAX_NODES],
+    sizes: &'a [u8; MAX_NODES],
+    firsts: &[u32; MAX_NODES],
+    parents: &[u8; MAX_NODES],
+    count: usize,
+    c: u32,
+    k: u32,
+    all: u32,
+    t: u32,
+    e: u32,
+) -> Closed
+    requires { ⌜ Ground c k (now kinds) (now numbers) (now sizes) (now firsts) (now parents) count (length (now values)) × Trailing (now values) (now trail) top ⌝ }
+    requires { ⌜ (all ≡ countOf k) × (t < k) ⌝ }
+    ensures { λ r. ⌜ Visited (rows count (letterAt c k (now (kinds .entry)) (now (numbers .entry)) (now (sizes .entry)) (now (firsts .entry)) t e)) (now (values .entry)) (now (trail .entry)) top (now (values .exit)) (now (trail .exit)) r ⌝ }
+{
+    let mut last = top;
+    for x in 0..count {
+        let block = clause_table::block_at(kinds, numbers, sizes, firsts, k, x);
+        let r = reach_letter(values, trail, last, c, k, all, block, t, e);
+        if r.clash {
+            return r;
+        }
+        last = r.top;
+    }
+    own::done(last)
+}
+
+// A channel's variable: its letters at its instant.
+fn reach_channel<'a>(
+    values: &mut [u8],
+    trail: &mut [u32],
+    top: usize,
+    kinds: &'a [u8; MAX_NODES],
+    numbers: &'a [u8; MAX_NODES],
+    sizes: &'a [u8; MAX_NODES],
+    firsts: &[u32; MAX_NODES],
+    parents: &[u8; MAX_NODES],
+    count: usize,
+    c: u32,
+    k: u32,
+    all: u32,
+    u: u32,
+) -> Closed
+    requires { ⌜ Ground c k (now kinds) (now numbers) (now sizes) (now firsts) (now parents) count (length (now values)) × Trailing (now values) (now trail) top ⌝ }
+    requires { ⌜ (all ≡ countOf k) × (1 ≤ u) × (u ≤ k * c) ⌝ }
+    ensures { λ r. ⌜ Reached (tableBy c k (now (kinds .entry)) (now (numbers .entry)) (now (sizes .entry)) (now (firsts .entry)) count) u (now (values .entry)) (now (trail .entry)) top (now (values .exit)) (now (trail .exit)) r ⌝ }
+{
+    let x = u - 1;
+    reach_letters(
+        values,
+        trail,
+        top,
+        kinds,
+        numbers,
+        sizes,
+        firsts,
+        parents,
+        count,
+        c,
+        k,
+        all,
+        x / c,
+        x % c,
+    )
+}
+
+// A node's variable: the gates of its own node, and of the node that it is a part of; the root's is a clause of its own.
+fn reach_row<'a>(
+    values: &mut [u8],
+    trail: &mut [u32],
+    top: usize,
+    kinds: &'a [u8; MAX_NODES],
+    numbers: &'a [u8; MAX_NODES],
+    sizes: &'a [u8; MAX_NODES],
+    firsts: &[u32; MAX_NODES],
+    parents: &[u8; MAX_NODES],
+    intervals: &[u16],
+    starts: &[u32],
+    count: usize,
+    c: u32,
+    k: u32,
+    all: u32,
+    u: u32,
+) -> Closed
+    requires { ⌜ Ground c k (now kinds) (now numbers) (now sizes) (now firsts) (now parents) count (length (now values)) × Trailing (now values) (now trail) top ⌝ }
+    requires { ⌜ Tables k (now intervals) (now starts) × (all ≡ countOf k) × (k * c < u) × (u ≤ length (now values)) ⌝ }
+    ensures { λ r. ⌜ Reached (tableBy c k (now (kinds .entry)) (now (numbers .entry)) (now (sizes .entry)) (now (firsts .entry)) count) u (now (values .entry)) (now (trail .entry)) top (now (values .exit)) (now (trail .exit)) r ⌝ }
+{
+    let z = decode::last_from(firsts, count, u);
+    let block = clause_table::block_at(kinds, numbers, sizes, firsts, k, z);
+    let r = own::reach(values, trail, top, intervals, starts, c, k, all, block, u);
+    if r.clash {
+        return r;
+    }
+    if z != 0 {
+        let y = parents[z] as usize;
+        let up = clause_table::block_at(kinds, numbers, sizes, firsts, k, y);
+        return part::reach(values, trail, r.top, intervals, c, k, all, up, u);
+    }
+    let root = clause_table::seat(kinds, numbers, firsts, k, 0) + k;
+    if u != root {
+        return r;
+    }
+    visits::visit(values, trail, r.top, root, Gate::Constant(true))
+}
+
+// The gates that mention u.
+fn reach<'a>(
+    values: &mut [u8],
+    trail: &mut [u32],
+    top: usize,
+    kinds: &'a [u8; MAX_NODES],
+    numbers: &'a [u8; MAX_NODES],
+    sizes: &'a [u8; MAX_NODES],
+    firsts: &[u32; MAX_NODES],
+    parents: &[u8; MAX_NODES],
+    intervals: &[u16],
+    starts: &[u32],
+    count: usize,
+    c: u32,
+    k: u32,
+    all: u32,
+    u: u32,
+) -> Closed
+    requires { ⌜ Ground c k (now kinds) (now numbers) (now sizes) (now firsts) (now parents) count (length (now values)) × Trailing (now values) (now trail) top ⌝ }
+    requires { ⌜ Tables k (now intervals) (now starts) × (all ≡ countOf k) × Variable (length (now values)) u ⌝ }
+    ensures { λ r. ⌜ Reached (tableBy c k (now (kinds .entry)) (now (numbers .entry)) (now (sizes .entry)) (now (firsts .entry)) count) u (now (values .entry)) (now (trail .entry)) top (now (values .exit)) (now (trail .exit)) r ⌝ }
+{
+    if u <= k * c {
+        return reach_channel(
+            values,
+            trail,
+            top,
+            kinds,
+            numbers,
+            sizes,
+            firsts,
+            parents,
+            count,
+            c,
+            k,
+            all,
+            u,
+        );
+    }
+    reach_row(
+        values,
+        trail,
+        top,
+        kinds,
+        numbers,
+        sizes,
+        firsts,
+        parents,
+        intervals,
+        starts,
+        count,
+        c,
+        k,
+        all,
+        u,
+    )
+}
+
+// The trail from head on, until all of it is taken or a clash is met.
+pub fn close<'a>(
+    values: &mut [u8],
+    trail: &mut [u32],
+    head: usize,
+    top: usize,
+    kinds: &'a [u8; MAX_NODES],
+    numbers: &'a [u8; MAX_NODES],
+    sizes: &'a [u8; MAX_NODES],
+    firsts: &[u32; MAX_NODES],
+    parents: &[u8; MAX_NODES],
+    intervals: &[u16],
+    starts: &[u32],
+    count: usize,
+    c: u32,
+    k: u32,
+) -> Closed
+    requires { ⌜ Ground c k (now kinds) (now numbers) (now sizes) (now firsts) (now parents) count (length (now values)) × Tables k (now intervals) (now starts) ⌝ }
+    requires { ⌜ Pending (tableBy c k (now kinds) (now numbers) (now sizes) (now firsts) count) (now values) (now trail) head top ⌝ }
+    ensures { λ r. ⌜ ClosedTo (tableBy c k (now (kinds .entry)) (now (numbers .entry)) (now (sizes .entry)) (now (firsts .entry)) count) (now (values .entry)) (now (trail .entry)) top (now (values .exit)) (now (trail .exit)) r ⌝ }
+{
+    let all = Interval::count(k as usize) as u32;
+    let mut t = top;
+    let mut h = head;
+    while h < t {
+        let u = trail[h];
+        let r = reach(
+            values,
+            trail,
+            t,
+            kinds,
+            numbers,
+            sizes,
+            firsts,
+            parents,
+            intervals,
+            starts,
+            count,
+            c,
+            k,
+            all,
+            u,
+        );
+        if r.clash {
+            return r;
+        }
+        t = r.top;
+        h += 1;
+    }
+    Closed {
+        clash: false,
+        top: t,
+    }
+}
+
+// From values that are all 0: every gate visited once, and then the whole trail.
+pub fn start<'a>(
+    values: &mut [u8],
+    trail: &mut [u32],
+    kinds: &'a [u8; MAX_NODES],
+    numbers: &'a [u8; MAX_NODES],
+    sizes: &'a [u8; MAX_NODES],
+    firsts: &[u32; MAX_NODES],
+    parents: &[u8; MAX_NODES],
+    intervals: &[u16],
+    starts: &[u32],
+    count: usize,
+    c: u32,
+    k: u32,
+) -> Closed
+    requires { ⌜ Ground c k (now kinds) (now numbers) (now sizes) (now firsts) (now parents) count (length (now values)) × Tables k (now intervals) (now starts) ⌝ }
+    requires { ⌜ Trailing (now values) (now trail) 0 ⌝ }
+    ensures { λ r. ⌜ ClosedTo (tableBy c k (now (kinds .entry)) (now (numbers .entry)) (now (sizes .entry)) (now (firsts .entry)) count) (now (values .entry)) (now (trail .entry)) 0 (now (values .exit)) (now (trail .exit)) r ⌝ }
+{
+    let r = sweeps::sweep(values, trail, 0, kinds, numbers, sizes, firsts, count, c, k);
+    if r.clash {
+        return r;
+    }
+    close(
+        values,
+        trail,
+        0,
+        r.top,
+        kinds,
+        numbers,
+        sizes,
+        firsts,
+        parents,
+        intervals,
+        starts,
+        count,
+        c,
+        k,
+    )
+}

@@ -1,0 +1,30 @@
+-- The nodes' clauses and the root's make the table.
+use mathlib.Core.Path.{_≡_, ap}
+use mathlib.Core.Bool.{true, false}
+use mathlib.Core.List.{List}
+use Prim.Native.Nat.{ℕ, _+_}
+use Rattle.interval.specs.Listing.{rows}
+use Rattle.circuit.specs.declared.Gate.the-variants.{Constant}
+use Rattle.clauses.specs.Clauses.{clausesOf}
+use Rattle.closing.specs.declared.Closed.{Closed as Ended}
+use Rattle.clause_table.specs.Rows.{seatBy}
+use Rattle.visits.specs.Visits.{Visited}
+use Rattle.visits.proofs.Parts.{visited-named, visited-stop, visited-then}
+use native.Mathlib.Omega.{arith}
+use Rattle.gates.specs.Mentioned.{Variable}
+use Rattle.sweeps.specs.Sweeps.{rowClauses, tableBy}
+
+module _ (C k : ℕ) (kinds numbers sizes firsts : List ℕ) (n : ℕ) {v₀ t₀ v₁ t₁ : List ℕ} {top₀ : ℕ} {r : Ended}
+    (w : Visited (rows n (rowClauses C k kinds numbers sizes firsts)) v₀ t₀ top₀ v₁ t₁ r) where
+  pub nodes-clash : r .clash ≡ true → Visited (tableBy C k kinds numbers sizes firsts n) v₀ t₀ top₀ v₁ t₁ r
+  unfolding tableBy
+  nodes-clash e = visited-stop w (clausesOf (seatBy kinds numbers firsts k 0 + k) (Constant true)) e
+
+  pub nodes-root : {v₂ t₂ : List ℕ} {s : Ended} {m : ℕ} → r .clash ≡ false → m ≡ seatBy kinds numbers firsts k 0 → Visited (clausesOf (m + k) (Constant true)) v₁ t₁ (r .top) v₂ t₂ s
+      → Visited (tableBy C k kinds numbers sizes firsts n) v₀ t₀ top₀ v₂ t₂ s
+  unfolding tableBy
+  nodes-root {m = m} e f u = visited-then w (clausesOf (seatBy kinds numbers firsts k 0 + k) (Constant true)) e
+      (visited-named (ap (λ (m : ℕ). clausesOf (m + k) (Constant true)) f) u)
+
+pub seated : (k : ℕ) {m s n : ℕ} → m ≡ s → Variable n (s + k) → Variable n (m + k)
+seated k e w = omega (arith, w)

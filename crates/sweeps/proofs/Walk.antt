@@ -1,0 +1,75 @@
+-- The definitions of a block stand in the order of places, so the walk visits the clauses of the definition in place x at its turn x.
+use mathlib.Core.Path.{_≡_, refl, sym, ap, _∙_, subst}
+use mathlib.Core.List.{List, [], _∷_, _++_, flatMap}
+use Prim.Native.Nat.{ℕ, _+_, _≤_}
+use native.Mathlib.Omega.{arith}
+use lib.ListN.{length}
+use Rattle.interval.specs.Listing.{rows}
+use Rattle.interval.specs.Limits.{maxCount}
+use Rattle.interval.proofs.Shape.{place-lt}
+use Rattle.circuit.specs.Circuit.{Definition, define}
+use Rattle.circuit.specs.declared.Gate.{Gate}
+use Rattle.blocks.specs.Blocks.{shapeOf, gateOf, definedBy, Placed, Bounded}
+use Rattle.blocks.specs.declared.Block.{Block}
+use Rattle.blocks.specs.declared.Position.{Position}
+use Rattle.clauses.specs.Clauses.{Clause, clausesOf, clausesBy}
+use Rattle.gates.specs.Within.{Within}
+use Rattle.weights.proofs.Weights.{block-length}
+use Rattle.node_clauses.specs.Walk.{definitionIn, Walks}
+use Rattle.node_clauses.proofs.Walk.{rows-first, definition-here, within-here}
+use mathlib.Core.Bool.{Bool}
+use Rattle.interval.specs.Places.{countOf}
+use Rattle.blocks.specs.Blocks.{isChop}
+use Rattle.node_clauses.specs.Nodes.{choppedBy, nodeBy}
+use Rattle.node_clauses.proofs.Nodes.{clauses-join, Halves, chopped, node-known}
+use Rattle.gates.specs.Mentioned.{Variable, InputsIn, Mentioned, AllMentioned}
+use Rattle.clause_table.specs.Rows.{blockBy, rowDefinitions}
+use Rattle.sweeps.specs.Sweeps.{clausesAt, rowClauses}
+
+pub by-rows : (D : List Definition) → rows (length D) (clausesAt D) ≡ clausesBy D
+unfolding rows clausesBy flatMap
+by-rows [] = refl
+by-rows (d ∷ D) = rows-first (length D) (clausesAt (d ∷ D)) ∙ ap (λ (T : List Clause). clausesOf (d .variable) (d .gate) ++ T) (by-rows D)
+
+module _ (C k : ℕ) (block : Block) {x a i d : ℕ} (p : Placed (block .points) k (block .rule) x a i d) {gate : Gate} (g : gate ≡ gateOf C k block x a i d) where
+  here : definitionIn (definedBy C k block) x ≡ define (block .first + x) gate
+  here = definition-here C k block p g
+
+  pub clauses-here : clausesOf (block .first + x) gate ≡ clausesAt (definedBy C k block) x
+  clauses-here = sym (ap (λ (d : Definition). clausesOf (d .variable) (d .gate)) here)
+
+  pub visit-asks : {l : ℕ} → Bounded C k block × (block .points ≤ maxCount) → AllMentioned l (definedBy C k block) → Variable l (block .first + x) × InputsIn l gate × Within gate
+  visit-asks {l} s f =
+      let e = subst (Mentioned l) here (f x (omega (arith, p .at, block-length C k block, place-lt (shapeOf (block .points) k (block .rule)) (a, (i, d)) (p .inside)))) in
+      (e .variable, e .inputs, within-here s p g)
+
+pub whole-block : {C k : ℕ} {block : Block} {n : ℕ} {p : Position} {x : ℕ} → Walks C k block n p x → rows n (clausesAt (definedBy C k block)) ≡ clausesBy (definedBy C k block)
+whole-block {C} {k} {block} w = ap (λ (n : ℕ). rows n (clausesAt (definedBy C k block))) (w .whole) ∙ by-rows (definedBy C k block)
+
+-- ---- a length that is the same
+
+pub still : (D : List Definition) {n m : ℕ} → m ≡ n → AllMentioned n D → AllMentioned m D
+still D e f = subst (λ (n : ℕ). AllMentioned n D) (sym e) f
+
+-- ---- a chop, a node known to be one or not
+
+pub chop-clauses : (C : ℕ) {k : ℕ} {b t s : Block} → Halves k b t s → clausesBy (definedBy C k t) ++ clausesBy (definedBy C k s) ≡ clausesBy (choppedBy C k (b .first + countOf k) b)
+chop-clauses C {k} {b} {t} {s} h = sym (clauses-join (definedBy C k t) (definedBy C k s)) ∙ ap clausesBy (chopped C h)
+
+pub node-clauses : (C k : ℕ) (b : Block) {c d : Bool} → c ≡ isChop (b .rule) → c ≡ d → clausesBy (nodeBy C k b d) ≡ clausesBy (nodeBy C k b (isChop (b .rule)))
+node-clauses C k b e f = ap clausesBy (node-known C k b e f)
+
+pub node-mentioned : (C k : ℕ) (b : Block) {c d : Bool} {n : ℕ} → c ≡ isChop (b .rule) → c ≡ d → AllMentioned n (nodeBy C k b (isChop (b .rule))) → AllMentioned n (nodeBy C k b d)
+node-mentioned C k b {n = n} e f m = subst (AllMentioned n) (sym (node-known C k b e f)) m
+
+-- ---- a node by its row
+
+module _ (C k : ℕ) (kinds numbers sizes firsts : List ℕ) (x : ℕ) (b : Block) (e : b ≡ blockBy kinds numbers sizes firsts k x) where
+  same-row : rowDefinitions C k kinds numbers sizes firsts x ≡ nodeBy C k b (isChop (b .rule))
+  same-row = ap (λ (b : Block). nodeBy C k b (isChop (b .rule))) (sym e)
+
+  pub row-mentioned : {n m : ℕ} → m ≡ n → AllMentioned n (rowDefinitions C k kinds numbers sizes firsts x) → AllMentioned m (nodeBy C k b (isChop (b .rule)))
+  row-mentioned {n} {m} l f = still (nodeBy C k b (isChop (b .rule))) l (subst (AllMentioned n) same-row f)
+
+  pub row-clauses : clausesBy (nodeBy C k b (isChop (b .rule))) ≡ rowClauses C k kinds numbers sizes firsts x
+  row-clauses = sym (ap clausesBy same-row)

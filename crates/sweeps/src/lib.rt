@@ -1,0 +1,173 @@
+// Every gate of the circuit visited, block after block.
+use blocks::Block;
+use blocks::Position;
+use circuit::Gate;
+use closing::Closed;
+use grammar::MAX_NODES;
+use interval::Interval;
+ghost use Prim.Native.Nat.{ℕ, _+_, _≤_, _<_};
+ghost use lib.ListN.{length};
+ghost use Rattle.interval.specs.Limits.{maxSteps, maxCount};
+ghost use Rattle.interval.specs.Listing.{rows};
+ghost use Rattle.interval.specs.Places.{countOf};
+ghost use Rattle.grammar.specs.Limits.{maxNodes, maxChannels};
+ghost use Rattle.blocks.specs.Blocks.{isChop, definedBy, Bounded};
+ghost use Rattle.clauses.specs.Clauses.{clausesBy};
+ghost use Rattle.node_clauses.specs.Nodes.{choppedBy, nodeBy, Fine};
+ghost use Rattle.clause_table.specs.Rows.{Low, rowDefinitions, seatBy};
+ghost use Rattle.gates.specs.Mentioned.{Variable, AllMentioned};
+ghost use Rattle.closing.specs.Values.{Trailing};
+ghost use Rattle.visits.specs.Visits.{Visited};
+ghost use Rattle.sweeps.specs.Sweeps.{rowClauses, tableBy};
+
+// The gates of a block, position after position.
+fn sweep_block(
+    values: &mut [u8],
+    trail: &mut [u32],
+    top: usize,
+    c: u32,
+    k: u32,
+    block: Block,
+) -> Closed
+    requires { ⌜ (Bounded c k block × (block .points ≤ maxCount)) × Trailing (now values) (now trail) top ⌝ }
+    requires { ⌜ AllMentioned (length (now values)) (definedBy c k block) ⌝ }
+    ensures { λ r. ⌜ Visited (clausesBy (definedBy c k block)) (now (values .entry)) (now (trail .entry)) top (now (values .exit)) (now (trail .exit)) r ⌝ }
+{
+    let rule = block.rule;
+    let points = block.points;
+    let first = block.first;
+    let all = Interval::count(k as usize) as u32;
+    let count = weights::weigh(weights::variables(), k, points, rule);
+    let mut p = Position {
+        row: 0,
+        line: 0,
+        cell: 0,
+        before: 0,
+    };
+    let mut t = top;
+    for x in 0..count {
+        let gate = blocks::gate_at(c, k, all, block, x, p);
+        let r = visits::visit(values, trail, t, first + x, gate);
+        if r.clash {
+            return r;
+        }
+        t = r.top;
+        p = blocks::next(rule, points, k, p);
+    }
+    Closed {
+        clash: false,
+        top: t,
+    }
+}
+
+// A chop: its triples, then its intervals.
+fn sweep_chop(
+    values: &mut [u8],
+    trail: &mut [u32],
+    top: usize,
+    c: u32,
+    k: u32,
+    block: Block,
+) -> Closed
+    requires { ⌜ Fine c k block × Trailing (now values) (now trail) top ⌝ }
+    requires { ⌜ AllMentioned (length (now values)) (choppedBy c k (block .first + countOf k) block) ⌝ }
+    ensures { λ r. ⌜ Visited (clausesBy (choppedBy c k (block .first + countOf k) block)) (now (values .entry)) (now (trail .entry)) top (now (values .exit)) (now (trail .exit)) r ⌝ }
+{
+    let w = node_clauses::beyond(block.first, k);
+    let triples = node_clauses::triples_of(w, block);
+    let intervals = node_clauses::intervals_of(w, block);
+    let r = sweep_block(values, trail, top, c, k, triples);
+    if r.clash {
+        return r;
+    }
+    sweep_block(values, trail, r.top, c, k, intervals)
+}
+
+// A node's own definitions.
+pub fn sweep_node(
+    values: &mut [u8],
+    trail: &mut [u32],
+    top: usize,
+    c: u32,
+    k: u32,
+    block: Block,
+) -> Closed
+    requires { ⌜ Fine c k block × Trailing (now values) (now trail) top ⌝ }
+    requires { ⌜ AllMentioned (length (now values)) (nodeBy c k block (isChop (block .rule))) ⌝ }
+    ensures { λ r. ⌜ Visited (clausesBy (nodeBy c k block (isChop (block .rule)))) (now (values .entry)) (now (trail .entry)) top (now (values .exit)) (now (trail .exit)) r ⌝ }
+{
+    let rule = block.rule;
+    if blocks::is_chop(rule) {
+        return sweep_chop(values, trail, top, c, k, block);
+    }
+    sweep_block(values, trail, top, c, k, block)
+}
+
+// All nodes, in number order.
+fn sweep_nodes<'a>(
+    values: &mut [u8],
+    trail: &mut [u32],
+    top: usize,
+    kinds: &'a [u8; MAX_NODES],
+    numbers: &'a [u8; MAX_NODES],
+    sizes: &'a [u8; MAX_NODES],
+    firsts: &[u32; MAX_NODES],
+    count: usize,
+    c: u32,
+    k: u32,
+) -> Closed
+    requires { ⌜ (c ≤ maxChannels) × (k ≤ maxSteps) × (count ≤ maxNodes) × Low (now firsts) × Trailing (now values) (now trail) top ⌝ }
+    requires { ⌜ ((x : ℕ) → x < count → AllMentioned (length (now values)) (rowDefinitions c k (now kinds) (now numbers) (now sizes) (now firsts) x)) ⌝ }
+    ensures { λ r. ⌜ Visited (rows count (rowClauses c k (now (kinds .entry)) (now (numbers .entry)) (now (sizes .entry)) (now (firsts .entry)))) (now (values .entry)) (now (trail .entry)) top (now (values .exit)) (now (trail .exit)) r ⌝ }
+{
+    let mut t = top;
+    for x in 0..count {
+        let block = clause_table::block_at(kinds, numbers, sizes, firsts, k, x);
+        let r = sweep_node(values, trail, t, c, k, block);
+        if r.clash {
+            return r;
+        }
+        t = r.top;
+    }
+    Closed {
+        clash: false,
+        top: t,
+    }
+}
+
+// All nodes, and the root.
+pub fn sweep<'a>(
+    values: &mut [u8],
+    trail: &mut [u32],
+    top: usize,
+    kinds: &'a [u8; MAX_NODES],
+    numbers: &'a [u8; MAX_NODES],
+    sizes: &'a [u8; MAX_NODES],
+    firsts: &[u32; MAX_NODES],
+    count: usize,
+    c: u32,
+    k: u32,
+) -> Closed
+    requires { ⌜ (c ≤ maxChannels) × (k ≤ maxSteps) × (count ≤ maxNodes) × Low (now firsts) × Trailing (now values) (now trail) top ⌝ }
+    requires { ⌜ Variable (length (now values)) (seatBy (now kinds) (now numbers) (now firsts) k 0 + k) ⌝ }
+    requires { ⌜ ((x : ℕ) → x < count → AllMentioned (length (now values)) (rowDefinitions c k (now kinds) (now numbers) (now sizes) (now firsts) x)) ⌝ }
+    ensures { λ r. ⌜ Visited (tableBy c k (now (kinds .entry)) (now (numbers .entry)) (now (sizes .entry)) (now (firsts .entry)) count) (now (values .entry)) (now (trail .entry)) top (now (values .exit)) (now (trail .exit)) r ⌝ }
+{
+    let r = sweep_nodes(
+        values,
+        trail,
+        top,
+        kinds,
+        numbers,
+        sizes,
+        firsts,
+        count,
+        c,
+        k,
+    );
+    if r.clash {
+        return r;
+    }
+    let root = clause_table::seat(kinds, numbers, firsts, k, 0) + k;
+    visits::visit(values, trail, r.top, root, Gate::Constant(true))
+}

@@ -1,0 +1,155 @@
+// A gate visited: every literal that its clauses force, one after another, or a clash.
+use circuit::Gate;
+use closing::Closed;
+ghost use mathlib.Core.Path.{_≡_};
+ghost use mathlib.Core.Bool.{true, false};
+ghost use Prim.Native.Nat.{_+_, _<_};
+ghost use lib.ListN.{length};
+ghost use Rattle.clauses.specs.Clauses.{clausesOf, Clause};
+ghost use Rattle.closing.specs.Values.{Trailing, heldIn};
+ghost use Rattle.gates.specs.Within.{Within};
+ghost use Rattle.visits.specs.Visits.{Row, raisedBy, longBy, Visited};
+ghost use Rattle.gates.specs.Mentioned.{Variable, InputsIn};
+ghost use mathlib.Core.Logic.{_⊎_};
+ghost use mathlib.Core.List.{[], _∷_, _++_};
+ghost use Rattle.interval.specs.Listing.{rows};
+ghost use Rattle.circuit.specs.declared.Gate.the-variants.{AnyOf};
+ghost use Rattle.clauses.specs.Entries.{entry, literalOf};
+ghost use Rattle.closure.specs.Closure.{opposite};
+ghost use Rattle.closing.specs.Free.{freeOf, Tally};
+
+// v is high or w is low, for each of n variables from w on.
+fn visit_each(values: &mut [u8], trail: &mut [u32], top: usize, v: u32, w: u32, n: u32) -> Closed
+    requires { ⌜ Trailing (now values) (now trail) top × Variable (length (now values)) v × Row (length (now values)) w n ⌝ }
+    ensures { λ r. ⌜ Visited (rows n (raisedBy v w)) (now (values .entry)) (now (trail .entry)) top (now (values .exit)) (now (trail .exit)) r ⌝ }
+{
+    let mut t = top;
+    for e in 0..n {
+        let r = patterns::settle_by(values, trail, t, 7, v, w + e, v, v);
+        if r.clash {
+            return r;
+        }
+        t = r.top;
+    }
+    Closed {
+        clash: false,
+        top: t,
+    }
+}
+
+// A clause with so many literals that are not opposed, the last of them that of a variable and a mark.
+fn visit_tallied(
+    values: &mut [u8],
+    trail: &mut [u32],
+    top: usize,
+    free: usize,
+    variable: u32,
+    mark: u8,
+) -> Closed
+    requires { ⌜ Trailing (now values) (now trail) top × Variable (length (now values)) variable × ((free ≡ 1) → heldIn (now values) (opposite (literalOf (entry variable mark))) ≡ false) ⌝ }
+    ensures { λ r. ⌜ ((c : Clause) → 0 < length c → Tally (freeOf (heldIn (now (values .entry))) c) free (literalOf (entry variable mark)) → Visited (c ∷ []) (now (values .entry)) (now (trail .entry)) top (now (values .exit)) (now (trail .exit)) r) ⌝ }
+{
+    if free == 0 {
+        return Closed {
+            clash: true,
+            top: top,
+        };
+    }
+    if free != 1 {
+        return Closed {
+            clash: false,
+            top: top,
+        };
+    }
+    let t = closing::add(values, trail, top, variable, mark);
+    Closed {
+        clash: false,
+        top: t,
+    }
+}
+
+// One literal that is not opposed, or none.
+fn one_free(opposed: bool) -> usize
+    ensures { λ r. ⌜ ((r ≡ 0) × (opposed ≡ true)) ⊎ ((r ≡ 1) × (opposed ≡ false)) ⌝ }
+{
+    if opposed { 0 } else { 1 }
+}
+
+// v is low or one of n variables from w on is high.
+fn visit_long(values: &mut [u8], trail: &mut [u32], top: usize, v: u32, w: u32, n: u32) -> Closed
+    requires { ⌜ Trailing (now values) (now trail) top × Variable (length (now values)) v × Row (length (now values)) w n ⌝ }
+    ensures { λ r. ⌜ Visited (longBy v w n ∷ []) (now (values .entry)) (now (trail .entry)) top (now (values .exit)) (now (trail .exit)) r ⌝ }
+{
+    let mut free = one_free(closing::opposed(values, v, 0));
+    let mut last = v;
+    let mut mark = 0;
+    for e in 0..n {
+        if !closing::opposed(values, w + e, 1) {
+            if free == 1 {
+                return Closed {
+                    clash: false,
+                    top: top,
+                };
+            }
+            free = 1;
+            last = w + e;
+            mark = 1;
+        }
+    }
+    visit_tallied(values, trail, top, free, last, mark)
+}
+
+// v is any of n variables from w on.
+fn visit_any(values: &mut [u8], trail: &mut [u32], top: usize, v: u32, w: u32, n: u32) -> Closed
+    requires { ⌜ Trailing (now values) (now trail) top × Variable (length (now values)) v × Row (length (now values)) w n ⌝ }
+    ensures { λ r. ⌜ Visited (clausesOf v (AnyOf w n)) (now (values .entry)) (now (trail .entry)) top (now (values .exit)) (now (trail .exit)) r ⌝ }
+{
+    let r = visit_each(values, trail, top, v, w, n);
+    if r.clash {
+        return r;
+    }
+    visit_long(values, trail, r.top, v, w, n)
+}
+
+// One of n variables from w on, of which v is any: (v −w), and the long clause.
+pub fn visit_one(
+    values: &mut [u8],
+    trail: &mut [u32],
+    top: usize,
+    v: u32,
+    w: u32,
+    e: u32,
+    n: u32,
+) -> Closed
+    requires { ⌜ Trailing (now values) (now trail) top × Variable (length (now values)) v × Row (length (now values)) w n × (e < n) ⌝ }
+    ensures { λ r. ⌜ Visited (raisedBy v w e ++ longBy v w n ∷ []) (now (values .entry)) (now (trail .entry)) top (now (values .exit)) (now (trail .exit)) r ⌝ }
+{
+    let r = patterns::settle_by(values, trail, top, 7, v, w + e, v, v);
+    if r.clash {
+        return r;
+    }
+    visit_long(values, trail, r.top, v, w, n)
+}
+
+// The pattern of a constant.
+fn constant(up: bool) -> usize
+    ensures { λ r. ⌜ ((r ≡ 6) × (up ≡ true)) ⊎ ((r ≡ 5) × (up ≡ false)) ⌝ }
+{
+    if up { 6 } else { 5 }
+}
+
+// The gate that defines v.
+pub fn visit(values: &mut [u8], trail: &mut [u32], top: usize, v: u32, gate: Gate) -> Closed
+    requires { ⌜ Trailing (now values) (now trail) top × Variable (length (now values)) v × InputsIn (length (now values)) gate × Within gate ⌝ }
+    ensures { λ r. ⌜ Visited (clausesOf v gate) (now (values .entry)) (now (trail .entry)) top (now (values .exit)) (now (trail .exit)) r ⌝ }
+{
+    match gate {
+        Gate::Constant(up) => patterns::settle_by(values, trail, top, constant(up), v, v, v, v),
+        Gate::Copy(u) => patterns::settle_by(values, trail, top, 0, v, u, v, v),
+        Gate::Inverse(x) => patterns::settle_by(values, trail, top, 1, v, x, v, v),
+        Gate::Both(x, y) => patterns::settle_both(values, trail, top, v, x, y),
+        Gate::Either(x, y) => patterns::settle_by(values, trail, top, 3, v, x, y, v),
+        Gate::AnyOf(w, n) => visit_any(values, trail, top, v, w, n),
+        Gate::Step(p, q, s) => patterns::settle_step(values, trail, top, v, p, q, s),
+    }
+}
