@@ -1,25 +1,20 @@
+-- What stands in the table at a place is the interval of that place, packed.
+-- It is unpacked as it was packed (Decode.antt).
 use mathlib.Core.Path.{sym, subst}
 use Rattle.decode.specs.Decode.{unpacked, InPlace}
 use borrow.Author.Needs.{needs}
 use Rattle.decode.proofs.interval_at.Statement.{statement}
 use Rattle.decode.proofs.interval_at.Tie as tie
-use Rattle.decode.proofs.interval_at.Reads as reads
-use Rattle.decode.proofs.interval_at.Lts as lts
-use Rattle.decode.proofs.wide.Reads as wide-reads
 
--- src/lib.rt:129:18
 mul-wide : tie.Need-mul-wide
 mul-wide c = search needs
 
--- src/lib.rt:129:18
 shared-slice-read-wide : tie.Need-shared-slice-read-wide
 shared-slice-read-wide c = search needs
 
--- src/lib.rt:129:9
 wide-requires : tie.Need-wide-requires
 wide-requires c κs = search needs
 
--- src/lib.rt:125:1
 returns : tie.Need-returns
 returns c = let s = c .before .before .before .pre in let a = c .before .before .before .args in subst (λ t. InPlace (a .k) (a .p) (unpacked t)) (sym (c .wide .ensures)) (s .2 .each _ (s .0))
 

@@ -1,3 +1,5 @@
+-- Place after place is written, and the loop holds the interval of its turn: the next one has the next place.
+-- What was written before stays.
 use mathlib.Core.Path.{_≡_, refl, _∙_, subst}
 use Prim.Native.Nat.{_+_, _-_, _*_, _≤_, _<_}
 use native.Mathlib.Omega.{arith}
@@ -8,10 +10,6 @@ use Rattle.decode.specs.Decode.{InPlace, IntervalsTo}
 use Rattle.decode.proofs.Decode.{none-yet, one-more, first-in, next-in}
 use Rattle.decode.proofs.put_intervals.Statement.{statement}
 use Rattle.decode.proofs.put_intervals.Tie as tie
-use Rattle.decode.proofs.put_intervals.Reads as reads
-use Rattle.decode.proofs.put_intervals.Lts as lts
-use Rattle.decode.proofs.next.Reads as next-reads
-use Rattle.interval.proofs.Interval.count.Reads as count-reads
 
 abbrev Inv-loop : tie.InvT-loop
 Inv-loop table₀ k count v₀ x₀ table v x =
@@ -20,55 +18,42 @@ Inv-loop table₀ k count v₀ x₀ table v x =
 abbrev μ-loop : tie.MeasureT-loop
 μ-loop table₀ k count v₀ x₀ table v x = count - x
 
--- src/lib.rt:107:9
 count-requires : tie.Need-count-requires Inv-loop μ-loop
 count-requires c κs = c .before .pre .0
 
--- src/lib.rt:112:5
 loop-holds : tie.Need-loop-holds Inv-loop μ-loop
 loop-holds c = (refl, c .count .ensures .0, omega arith, none-yet _ _, λ h. first-in _)
 
--- src/lib.rt:113:21
 mul-table : tie.Need-mul-table Inv-loop μ-loop
 mul-table c = let i = c .before .before .loop .inv in let h = c .before .loop-test .taken in let o = i .4 h in omega (arith, o .0, c .before .before .before .before .before .pre .0)
 
--- src/lib.rt:113:21
 add-table : tie.Need-add-table Inv-loop μ-loop
 add-table c = let i = c .before .before .before .loop .inv in let h = c .before .before .loop-test .taken in let o = i .4 h in omega (arith, o .0, c .before .before .before .before .before .before .pre .0)
 
--- src/lib.rt:113:20
 cast-table : tie.Need-cast-table Inv-loop μ-loop
 cast-table c = let i = c .before .before .before .loop .inv in let h = c .before .before .loop-test .taken in let o = i .4 h in omega (arith, o .0, c .before .before .before .before .before .before .pre .0)
 
--- src/lib.rt:113:9
 mul-table-2 : tie.Need-mul-table-2 Inv-loop μ-loop
 mul-table-2 c = let i = c .before .before .before .loop .inv in let h = c .before .before .loop-test .taken in let o = i .4 h in let g : c .before .before .before .loop .x < length (c .before .before .before .before .before .before .args .table .now) = omega (arith, h, i .1, c .before .before .before .before .before .before .pre .1) in search (g, needs)
 
--- src/lib.rt:113:9
 slice-write-table : tie.Need-slice-write-table Inv-loop μ-loop
 slice-write-table c = let i = c .before .before .before .loop .inv in let h = c .before .before .loop-test .taken in let o = i .4 h in omega (arith, h, i .0, i .1, c .before .before .before .before .before .before .pre .1)
 
--- src/lib.rt:114:9
 next-requires : tie.Need-next-requires Inv-loop μ-loop
 next-requires c κs = let i = c .before .before .before .loop .inv in let h = c .before .before .loop-test .taken in let o = i .4 h in (o .0, c .before .before .before .before .before .before .pre .0)
 
--- src/lib.rt:112:9
 add-x : tie.Need-add-x Inv-loop μ-loop
 add-x c = search needs
 
--- src/lib.rt:112:5
 loop-less : tie.Need-loop-less Inv-loop μ-loop
 loop-less c = let i = c .before .before .before .before .loop .inv in let h = c .before .before .before .loop-test .taken in let o = i .4 h in omega (arith, h)
 
--- src/lib.rt:112:5
 loop-again : tie.Need-loop-again Inv-loop μ-loop
 loop-again c = let i = c .before .before .before .before .loop .inv in let h = c .before .before .before .loop-test .taken in let o = i .4 h in let s = c .before .before .before .before .before .before .before .pre in (length-set (c .before .before .before .before .loop .table) (c .before .before .before .before .loop .x) (c .before .before .before .before .loop .v .i * 128 + c .before .before .before .before .loop .v .j) ∙ i .0, i .1, omega (arith, h), one-more _ _ (omega (arith, s .0)) (i .3) (omega (arith, h, i .0, i .1, s .1)) o, λ l. next-in _ _ _ (o .1) (c .next .ensures) (omega (arith, l, i .1)))
 
--- src/lib.rt:103:1
 same-length : tie.Need-same-length Inv-loop μ-loop
 same-length c = search needs
 
--- src/lib.rt:103:1
 returns : tie.Need-returns Inv-loop μ-loop
 returns c = let i = c .before .loop .inv in let e : c .before .loop .x ≡ countOf (c .before .before .before .before .args .k) = omega (arith, i .1, i .2, c .loop-test .left) in subst (IntervalsTo _ _) e (i .3)
 

@@ -10,9 +10,6 @@ use Rattle.decode.specs.Decode.{tripleStart, StartsTo}
 use Rattle.decode.proofs.Decode.{no-starts, first-start, one-start, next-start, start-small}
 use Rattle.decode.proofs.put_starts.Statement.{statement}
 use Rattle.decode.proofs.put_starts.Tie as tie
-use Rattle.decode.proofs.put_starts.Reads as reads
-use Rattle.decode.proofs.put_starts.Lts as lts
-use Rattle.interval.proofs.Interval.count.Reads as count-reads
 
 abbrev Inv-loop : tie.InvT-loop
 Inv-loop table₀ k at₀ i₀ i-end table at i =
@@ -21,61 +18,48 @@ Inv-loop table₀ k at₀ i₀ i-end table at i =
 abbrev μ-loop : tie.MeasureT-loop
 μ-loop table₀ k at₀ i₀ i-end table at i = k + 1 - i
 
--- src/lib.rt:68:17
 add-i-end : tie.Need-add-i-end Inv-loop μ-loop
 add-i-end c = search needs
 
--- src/lib.rt:68:5
 loop-holds : tie.Need-loop-holds Inv-loop μ-loop
 loop-holds c = (refl, refl, omega arith, no-starts _ _, λ h. sym (first-start _))
 
--- src/lib.rt:69:9
 mul-table : tie.Need-mul-table Inv-loop μ-loop
 mul-table c = search needs
 
--- src/lib.rt:69:9
 slice-write-table : tie.Need-slice-write-table Inv-loop μ-loop
 slice-write-table c = search needs
 
--- src/lib.rt:70:31
 sub-count : tie.Need-sub-count Inv-loop μ-loop
 sub-count c = search needs
 
--- src/lib.rt:70:15
 count-requires : tie.Need-count-requires Inv-loop μ-loop
 count-requires c κs = search needs
 
--- src/lib.rt:70:15
 cast-at : tie.Need-cast-at Inv-loop μ-loop
 cast-at c = search needs
 
--- src/lib.rt:70:9
 add-at : tie.Need-add-at Inv-loop μ-loop
 add-at c =
     let v = c .before .before .loop .inv in
     let g : c .before .before .loop .i ≤ c .before .before .before .before .args .k = omega (arith, v .1, c .before .loop-test .taken) in
     omega (arith, v .4 g, start-small _ _ (c .before .before .before .before .pre .0) g, counts-at-32 (c .before .before .before .before .args .k - c .before .before .loop .i) (omega (arith, c .before .before .before .before .pre .0)) .0, c .count .ensures .0)
 
--- src/lib.rt:68:9
 add-i : tie.Need-add-i Inv-loop μ-loop
 add-i c = search needs
 
--- src/lib.rt:68:5
 loop-less : tie.Need-loop-less Inv-loop μ-loop
 loop-less c = search needs
 
--- src/lib.rt:68:5
 loop-again : tie.Need-loop-again Inv-loop μ-loop
 loop-again c =
     let v = c .before .before .loop .inv in
     let g : c .before .before .loop .i ≤ c .before .before .before .before .args .k = omega (arith, v .1, c .before .loop-test .taken) in
     (length-set (c .before .before .loop .table) (c .before .before .loop .i) (c .before .before .loop .at) ∙ v .0, v .1, omega (arith, g), one-start _ (v .3) (omega (arith, v .0, g, c .before .before .before .before .pre .1)) (v .4 g), λ l. omega (arith, next-start _ {i = c .before .before .loop .i} (omega (arith, l)) (v .4 g), c .count .ensures .0))
 
--- src/lib.rt:63:1
 same-length : tie.Need-same-length Inv-loop μ-loop
 same-length c = search needs
 
--- src/lib.rt:63:1
 returns : tie.Need-returns Inv-loop μ-loop
 returns c = let v = c .before .loop .inv in let e : c .before .loop .i ≡ suc (c .before .before .before .args .k) = omega (arith, v .1, v .2, c .loop-test .left) in subst (StartsTo _ _) e (v .3)
 

@@ -9,69 +9,49 @@ use Rattle.decode.specs.Decode.{InPlace}
 use Rattle.decode.proofs.Decode.{first-start, after-in, triple-in}
 use Rattle.decode.proofs.triple_at.Statement.{statement}
 use Rattle.decode.proofs.triple_at.Tie as tie
-use Rattle.decode.proofs.triple_at.Reads as reads
-use Rattle.decode.proofs.triple_at.Lts as lts
-use Rattle.decode.proofs.interval_at.Reads as interval-at-reads
-use Rattle.decode.proofs.last_from.Reads as last-from-reads
-use Rattle.interval.proofs.Interval.count.Reads as count-reads
 
--- src/lib.rt:98:31
 add-last-from : tie.Need-add-last-from
 add-last-from c = search needs
 
--- src/lib.rt:98:9
 last-from-requires : tie.Need-last-from-requires
 last-from-requires c κs = let p = c .before .before .pre in (omega arith, omega (arith, p .2 .ends), omega (arith, p .2 .starts-to .each 0 (omega arith), first-start (c .before .before .args .k)))
 
--- src/lib.rt:99:22
 mul-after : tie.Need-mul-after
 mul-after c = search needs
 
--- src/lib.rt:99:22
 shared-slice-read-after : tie.Need-shared-slice-read-after
 shared-slice-read-after c = search needs
 
--- src/lib.rt:99:18
 sub-after : tie.Need-sub-after
 sub-after c = search needs
 
--- src/lib.rt:99:17
 cast-after : tie.Need-cast-after
 cast-after c = search needs
 
--- src/lib.rt:100:39
 count-requires : tie.Need-count-requires
 count-requires c κs = search needs
 
--- src/lib.rt:100:39
 sub-interval-at : tie.Need-sub-interval-at
 sub-interval-at c = let p = c .before .before .before .before .before .pre in omega (arith, after-in (p .2) (p .1) (c .before .before .last-from .ensures), c .count .ensures .0)
 
--- src/lib.rt:100:39
 sub-interval-at-2 : tie.Need-sub-interval-at-2
 sub-interval-at-2 c = let p = c .before .before .before .before .before .pre in omega (arith, after-in (p .2) (p .1) (c .before .before .last-from .ensures), c .count .ensures .0)
 
--- src/lib.rt:100:9
 interval-at-requires : tie.Need-interval-at-requires
 interval-at-requires c κs = let p = c .before .before .before .before .before .pre in (omega (arith, after-in (p .2) (p .1) (c .before .before .last-from .ensures), c .count .ensures .0), p .2 .room, p .2 .intervals-to)
 
--- src/lib.rt:103:17
 sub-t8 : tie.Need-sub-t8
 sub-t8 c = search needs
 
--- src/lib.rt:103:12
 add-t13 : tie.Need-add-t13
 add-t13 c = search needs
 
--- src/lib.rt:104:17
 sub-t12 : tie.Need-sub-t12
 sub-t12 c = search needs
 
--- src/lib.rt:104:12
 add-t14 : tie.Need-add-t14
 add-t14 c = search needs
 
--- src/lib.rt:94:1
 returns : tie.Need-returns
 returns c =
     let p = c .before .before .before .before .before .before .before .before .pre in

@@ -10,24 +10,13 @@ use Rattle.own.proofs.Places.{chop-rule, own-chop, line-below, no-tripl
 use borrow.Author.Needs.{needs}
 use Rattle.own.proofs.reach.Statement.{statement}
 use Rattle.own.proofs.reach.Tie as tie
-use Rattle.own.proofs.reach.Reads as reads
-use Rattle.own.proofs.reach.Lts as lts
-use Rattle.blocks.proofs.form_of.Reads as form-of-reads
-use Rattle.blocks.proofs.is_chop.Reads as is-chop-reads
-use Rattle.own.proofs.done.Reads as done-reads
-use Rattle.own.proofs.reach_chop.Reads as reach-chop-reads
-use Rattle.own.proofs.reach_level.Reads as reach-level-reads
-use Rattle.own.proofs.visit_line.Reads as visit-line-reads
 
--- src/lib.rt:173:13
 sub-x : tie.Need-sub-x
 sub-x c = search needs
 
--- src/lib.rt:174:8
 is-chop-requires : tie.Need-is-chop-requires
 is-chop-requires c κs = search needs
 
--- src/lib.rt:175:9
 reach-chop-requires : tie.Need-reach-chop-requires
 reach-chop-requires c κs =
     let p = c .before .before .before .before .before .before .before .before .before .pre in
@@ -35,27 +24,21 @@ reach-chop-requires c κs =
     let e = chop-rule (b .rule) (sym (c .before .before .before .is-chop .ensures) ∙ c .before .before .if1 .taken) in
     (p .0, p .1, e, p .2, own-chop (c .before .before .before .before .before .before .before .before .before .args .k) b (p .3) (omega (arith, p .3)) e)
 
--- src/lib.rt:175:9
 same-length : tie.Need-same-length
 same-length c = search needs
 
--- src/lib.rt:175:9
 same-length-2 : tie.Need-same-length-2
 same-length-2 c = search needs
 
--- src/lib.rt:175:9
 returns : tie.Need-returns
 returns c = let p = c .before .before .before .before .before .before .before .before .before .before .before .before .before .before .pre in reached-there (omega (arith, p .3)) (c .before .before .before .before .reach-chop .ensures)
 
--- src/lib.rt:177:11
 form-of-requires : tie.Need-form-of-requires
 form-of-requires c κs = search needs
 
--- src/lib.rt:178:34
 enum-told : tie.Need-enum-told
 enum-told c = search needs
 
--- src/lib.rt:178:23
 visit-line-requires : tie.Need-visit-line-requires
 visit-line-requires c κs =
     let p = c .before .before .before .before .before .before .before .before .before .before .before .before .pre in
@@ -63,34 +46,27 @@ visit-line-requires c κs =
     let e = sym (c .before .before .before .before .form-of .ensures) ∙ c .before .before .enum-told .given .1 in
     (p .0, p .1, e, line-below (c .before .before .before .before .before .before .before .before .before .before .before .before .args .k) b (p .3) (omega (arith, p .3)) e)
 
--- src/lib.rt:179:40
 enum-told-2 : tie.Need-enum-told-2
 enum-told-2 c = search needs
 
--- src/lib.rt:179:28
 reach-level-requires : tie.Need-reach-level-requires
 reach-level-requires c κs =
     let p = c .before .before .before .before .before .before .before .before .before .before .before .before .pre in
     let b = c .before .before .before .before .before .before .before .before .before .before .before .before .args .block in
     ((p .0, p .1, subst (InBlock (c .before .before .before .before .before .before .before .before .before .before .before .before .args .k) b) (omega (arith, p .3)) (p .3)), (sym (c .before .before .before .before .form-of .ensures) ∙ c .before .before .enum-told2 .given .1, sym (c .before .before .before .before .before .before .is-chop .ensures) ∙ c .before .before .before .before .before .if1 .left, p .2 .room, p .2 .intervals-to))
 
--- src/lib.rt:180:26
 enum-told-3 : tie.Need-enum-told-3
 enum-told-3 c = search needs
 
--- src/lib.rt:180:26
 done-requires : tie.Need-done-requires
 done-requires c κs = search needs
 
--- src/lib.rt:168:1
 same-length-3 : tie.Need-same-length-3
 same-length-3 c = search needs
 
--- src/lib.rt:168:1
 same-length-4 : tie.Need-same-length-4
 same-length-4 c = search needs
 
--- src/lib.rt:168:1
 returns-2 : tie.Need-returns-2
 returns-2 c =
     let p = c .before .before .before .before .before .before .before .before .before .before .before .before .before .before .before .before .before .pre in
@@ -98,19 +74,15 @@ returns-2 c =
     let e = sym (c .before .before .before .before .before .before .before .before .before .form-of .ensures) ∙ c .before .before .before .before .before .before .before .enum-told .given .1 in
     reached (own-suffices (c .before .before .before .before .before .before .before .before .before .before .before .before .before .before .before .before .before .args .c) (c .before .before .before .before .before .before .before .before .before .before .before .before .before .before .before .before .before .args .k) (c .before .before .before .before .before .before .before .before .before .before .before .before .before .before .before .before .before .args .u) b _ (line-below (c .before .before .before .before .before .before .before .before .before .before .before .before .before .before .before .before .before .args .k) b (p .3) (omega (arith, p .3)) e) e (p .0 .laid) (omega (arith, p .3))) (c .before .before .before .before .visit-line .ensures)
 
--- src/lib.rt:168:1
 same-length-5 : tie.Need-same-length-5
 same-length-5 c = search needs
 
--- src/lib.rt:168:1
 same-length-6 : tie.Need-same-length-6
 same-length-6 c = search needs
 
--- src/lib.rt:168:1
 returns-3 : tie.Need-returns-3
 returns-3 c = let p = c .before .before .before .before .before .before .before .before .before .before .before .before .before .before .before .before .before .pre in reached-there (omega (arith, p .3)) (c .before .before .before .before .reach-level .ensures)
 
--- src/lib.rt:168:1
 returns-4 : tie.Need-returns-4
 returns-4 c = let p = c .before .before .before .before .before .before .before .before .before .before .before .pre in no-triples (c .before .before .before .before .before .before .before .before .before .before .before .args .k) (c .before .before .before .before .before .before .before .before .before .before .before .args .block) (c .before .before .before .before .before .before .before .before .before .before .before .args .block .rule) (sym (c .before .before .before .form-of .ensures) ∙ c .before .enum-told3 .given .1) (p .0 .laid .apart)
 

@@ -8,40 +8,28 @@ use Rattle.own.proofs.Places.{reached-there}
 use borrow.Author.Needs.{needs}
 use Rattle.own.proofs.reach_chop.Statement.{statement}
 use Rattle.own.proofs.reach_chop.Tie as tie
-use Rattle.own.proofs.reach_chop.Reads as reads
-use Rattle.own.proofs.reach_chop.Lts as lts
-use Rattle.own.proofs.reach_interval.Reads as reach-interval-reads
-use Rattle.own.proofs.reach_triple.Reads as reach-triple-reads
 
--- src/lib.rt:162:9
 reach-interval-requires : tie.Need-reach-interval-requires
 reach-interval-requires c κs = search needs
 
--- src/lib.rt:162:9
 same-length : tie.Need-same-length
 same-length c = search needs
 
--- src/lib.rt:162:9
 same-length-2 : tie.Need-same-length-2
 same-length-2 c = search needs
 
--- src/lib.rt:162:9
 returns : tie.Need-returns
 returns c = search needs
 
--- src/lib.rt:164:5
 reach-triple-requires : tie.Need-reach-triple-requires
 reach-triple-requires c κs = search needs
 
--- src/lib.rt:157:1
 same-length-3 : tie.Need-same-length-3
 same-length-3 c = search needs
 
--- src/lib.rt:157:1
 same-length-4 : tie.Need-same-length-4
 same-length-4 c = search needs
 
--- src/lib.rt:157:1
 returns-2 : tie.Need-returns-2
 returns-2 c = let e : c .before .before .before .before .before .before .before .before .before .before .before .before .args .block .first + countOf (c .before .before .before .before .before .before .before .before .before .before .before .before .args .k) + (c .before .before .before .before .before .before .before .before .before .before .before .before .args .x - c .before .before .before .before .before .before .before .before .before .before .before .before .args .all) ≡ c .before .before .before .before .before .before .before .before .before .before .before .before .args .block .first + c .before .before .before .before .before .before .before .before .before .before .before .before .args .x = omega (arith, c .before .before .before .before .before .before .before .if1 .left, c .before .before .before .before .before .before .before .before .before .before .before .before .pre .1) in reached-there e (c .before .before .before .before .reach-triple .ensures)
 

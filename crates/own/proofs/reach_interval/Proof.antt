@@ -12,50 +12,34 @@ use Rattle.own.proofs.Places.{half-small, intervals-stand, interval-her
 use borrow.Author.Needs.{needs}
 use Rattle.own.proofs.reach_interval.Statement.{statement}
 use Rattle.own.proofs.reach_interval.Tie as tie
-use Rattle.own.proofs.reach_interval.Reads as reads
-use Rattle.own.proofs.reach_interval.Lts as lts
-use Rattle.decode.proofs.interval_at.Reads as interval-at-reads
-use Rattle.node_clauses.proofs.beyond.Reads as beyond-reads
-use Rattle.node_clauses.proofs.intervals_of.Reads as intervals-of-reads
-use Rattle.walks.proofs.visit_at.Reads as visit-at-reads
 
--- src/lib.rt:119:9
 interval-at-requires : tie.Need-interval-at-requires
 interval-at-requires c κs = search needs
 
--- src/lib.rt:121:13
 cast-d : tie.Need-cast-d
 cast-d c = search needs
 
--- src/lib.rt:121:26
 cast-d-2 : tie.Need-cast-d-2
 cast-d-2 c = search needs
 
--- src/lib.rt:121:13
 sub-d : tie.Need-sub-d
 sub-d c = search needs
 
--- src/lib.rt:124:15
 cast-intervals-of : tie.Need-cast-intervals-of
 cast-intervals-of c = search needs
 
--- src/lib.rt:126:17
 mul-t16 : tie.Need-mul-t16
 mul-t16 c = search needs
 
--- src/lib.rt:126:17
 shared-slice-read-t19 : tie.Need-shared-slice-read-t19
 shared-slice-read-t19 c = search needs
 
--- src/lib.rt:126:34
 add-t21 : tie.Need-add-t21
 add-t21 c = search needs
 
--- src/lib.rt:126:29
 mul-t22 : tie.Need-mul-t22
 mul-t22 c = let o = c .before .before .interval-at .ensures .0 in omega (arith, half-small (c .before .before .interval-at .result .j - c .before .before .interval-at .result .i) (omega (arith, o .ends, c .before .before .before .before .before .before .before .pre .0 .fine .bounded .steps)))
 
--- src/lib.rt:126:17
 add-t24 : tie.Need-add-t24
 add-t24 c =
     let o = c .before .before .interval-at .ensures .0 in
@@ -63,15 +47,12 @@ add-t24 c =
     let l : c .before .before .interval-at .result .i ≤ c .before .before .before .before .before .before .before .args .k = omega (arith, o .starts, o .ends) in
     omega (arith, half-small (c .before .before .interval-at .result .j - c .before .before .interval-at .result .i) (omega (arith, o .ends, p .0 .fine .bounded .steps)), p .3 .starts-to .each (c .before .before .interval-at .result .i) (omega (arith, l)), start-small (c .before .before .before .before .before .before .before .args .k) (c .before .before .interval-at .result .i) (p .0 .fine .bounded .steps) l)
 
--- src/lib.rt:128:44
 beyond-requires : tie.Need-beyond-requires
 beyond-requires c κs = search needs
 
--- src/lib.rt:128:9
 intervals-of-requires : tie.Need-intervals-of-requires
 intervals-of-requires c κs = search needs
 
--- src/lib.rt:129:5
 visit-at-requires : tie.Need-visit-at-requires
 visit-at-requires c κs =
     let p = c .before .before .before .before .before .before .before .before .before .before .before .pre in
@@ -82,15 +63,12 @@ visit-at-requires c κs =
     let l : v .i ≤ c .before .before .before .before .before .before .before .before .before .before .before .args .k = omega (arith, o .0 .starts, o .0 .ends) in
     ((intervals-stand (p .0) (p .2) h, p .1), (interval-here (c .before .before .before .before .before .before .before .before .before .before .before .args .k) b (c .before .before .before .beyond .result) (c .before .before .intervals-of .ensures) v o, before-at (c .before .before .before .before .before .before .before .before .before .before .before .args .k) b (c .before .before .before .beyond .result) (c .before .before .intervals-of .ensures) v (o .0) (p .3 .starts-to .each (v .i) (omega (arith, l)))))
 
--- src/lib.rt:115:1
 same-length : tie.Need-same-length
 same-length c = search needs
 
--- src/lib.rt:115:1
 same-length-2 : tie.Need-same-length-2
 same-length-2 c = search needs
 
--- src/lib.rt:115:1
 returns : tie.Need-returns
 returns c = let p = c .before .before .before .before .before .before .before .before .before .before .before .before .before .before .before .before .pre in reached (interval-suffices (c .before .before .before .before .before .before .before .before .before .before .before .before .before .before .before .before .args .c) (c .before .before .before .before .before .before .before .before .before .before .before .before .before .before .before .before .args .k) _ (c .before .before .before .before .before .before .before .before .before .before .before .before .before .before .before .before .args .block) (p .2) (p .0 .laid) refl (p .4)) (visited-named (interval-clauses (c .before .before .before .before .before .before .before .before .before .before .before .before .before .before .before .before .args .c) (c .before .before .before .before .before .before .before .before .before .before .before .before .before .before .before .before .args .k) (c .before .before .before .before .before .before .before .before .before .before .before .before .before .before .before .before .args .block) (c .before .before .before .before .before .before .before .before .before .before .before .before .before .before .before .before .args .x) (c .before .before .before .before .before .before .before .before .beyond .ensures) (c .before .before .before .before .before .before .before .intervals-of .ensures)) (c .before .before .before .before .visit-at .ensures))
 

@@ -14,68 +14,49 @@ use Rattle.own.proofs.Places.{some-intervals, rise-small, rise-some, le
 use borrow.Author.Needs.{needs}
 use Rattle.own.proofs.reach_level.Statement.{statement}
 use Rattle.own.proofs.reach_level.Tie as tie
-use Rattle.own.proofs.reach_level.Reads as reads
-use Rattle.own.proofs.reach_level.Lts as lts
-use Rattle.decode.proofs.interval_at.Reads as interval-at-reads
-use Rattle.own.proofs.rise_of.Reads as rise-of-reads
-use Rattle.walks.proofs.visit_after.Reads as visit-after-reads
 
--- src/lib.rt:102:9
 rise-of-requires : tie.Need-rise-of-requires
 rise-of-requires c κs = search needs
 
--- src/lib.rt:103:57
 rem-interval-at : tie.Need-rem-interval-at
 rem-interval-at c = omega (arith, c .before .before .before .before .pre .0 .1, some-intervals (c .before .before .before .before .args .k))
 
--- src/lib.rt:103:56
 cast-interval-at : tie.Need-cast-interval-at
 cast-interval-at c = let e = c .before .before .before .before .pre .0 .1 in omega (arith, mod-lt (c .before .before .before .before .args .x) {m = c .before .before .before .before .args .all} (omega (arith, e, some-intervals (c .before .before .before .before .args .k))), e, counts-at-32 (c .before .before .before .before .args .k) (c .before .before .before .before .pre .0 .0 .fine .bounded .steps) .0)
 
--- src/lib.rt:103:9
 interval-at-requires : tie.Need-interval-at-requires
 interval-at-requires c κs = let p = c .before .before .before .before .pre in (subst (λ (n : ℕ). c .before .before .before .before .args .x % n < countOf (c .before .before .before .before .args .k)) (sym (p .0 .1)) (mod-lt (c .before .before .before .before .args .x) (some-intervals (c .before .before .before .before .args .k))), p .1 .2, p .1 .3)
 
--- src/lib.rt:104:13
 cast-i : tie.Need-cast-i
 cast-i c = search needs
 
--- src/lib.rt:106:14
 div-visit-after : tie.Need-div-visit-after
 div-visit-after c = omega (arith, c .before .before .before .before .before .before .pre .0 .1, some-intervals (c .before .before .before .before .before .before .args .k))
 
--- src/lib.rt:108:15
 cast-visit-after : tie.Need-cast-visit-after
 cast-visit-after c = search needs
 
--- src/lib.rt:108:15
 sub-visit-after : tie.Need-sub-visit-after
 sub-visit-after c = search needs
 
--- src/lib.rt:111:68
 add-visit-after : tie.Need-add-visit-after
 add-visit-after c = let e = c .before .before .before .before .before .before .rise-of .ensures in omega (arith, rise-small (c .before .before .before .before .before .before .before .before .before .before .args .block) (c .before .before .before .before .before .before .before .before .before .before .pre .0 .0 .fine .bounded .number), ap (λ (r : Rise). r .from) e, ap (λ (r : Rise). r .count) e)
 
--- src/lib.rt:111:68
 sub-visit-after-2 : tie.Need-sub-visit-after-2
 sub-visit-after-2 c = let e = c .before .before .before .before .before .before .rise-of .ensures in omega (arith, rise-some (c .before .before .before .before .before .before .before .before .before .before .args .block .rule), ap (λ (r : Rise). r .from) e, ap (λ (r : Rise). r .count) e)
 
--- src/lib.rt:111:5
 visit-after-requires : tie.Need-visit-after-requires
 visit-after-requires c κs =
     let p = c .before .before .before .before .before .before .before .before .before .before .pre in
     let b = c .before .before .before .before .before .before .before .before .before .before .args .block in
     ((whole-stands (p .0 .0) (p .1 .1), p .0 .1, levels-known (b .rule) (p .1 .0) (p .1 .1) (c .before .before .before .before .before .before .rise-of .ensures)), level-here (c .before .before .before .before .before .before .before .before .before .before .args .k) b (c .before .before .before .before .before .before .before .before .before .before .args .x) (p .1 .0) (p .1 .1) (p .0 .1) (p .0 .2) (c .before .before .before .before .before .interval-at .result) (c .before .before .before .before .before .interval-at .ensures))
 
--- src/lib.rt:96:1
 same-length : tie.Need-same-length
 same-length c = search needs
 
--- src/lib.rt:96:1
 same-length-2 : tie.Need-same-length-2
 same-length-2 c = search needs
 
--- src/lib.rt:96:1
 returns : tie.Need-returns
 returns c =
     let p = c .before .before .before .before .before .before .before .before .before .before .before .before .before .before .before .pre in

@@ -12,48 +12,31 @@ use Rattle.own.proofs.Places.{triples-stand, triple-here, triple-no-cho
 use borrow.Author.Needs.{needs}
 use Rattle.own.proofs.reach_triple.Statement.{statement}
 use Rattle.own.proofs.reach_triple.Tie as tie
-use Rattle.own.proofs.reach_triple.Reads as reads
-use Rattle.own.proofs.reach_triple.Lts as lts
-use Rattle.blocks.proofs.place.Reads as place-reads
-use Rattle.decode.proofs.triple_at.Reads as triple-at-reads
-use Rattle.node_clauses.proofs.beyond.Reads as beyond-reads
-use Rattle.node_clauses.proofs.triples_of.Reads as triples-of-reads
-use Rattle.visits.proofs.visit_one.Reads as visit-one-reads
-use Rattle.walks.proofs.visit_at.Reads as visit-at-reads
 
--- src/lib.rt:107:9
 triple-at-requires : tie.Need-triple-at-requires
 triple-at-requires c κs = search needs
 
--- src/lib.rt:108:13
 cast-i : tie.Need-cast-i
 cast-i c = search needs
 
--- src/lib.rt:109:13
 cast-d : tie.Need-cast-d
 cast-d c = search needs
 
--- src/lib.rt:109:13
 sub-d : tie.Need-sub-d
 sub-d c = search needs
 
--- src/lib.rt:110:13
 cast-e : tie.Need-cast-e
 cast-e c = search needs
 
--- src/lib.rt:110:13
 sub-e : tie.Need-sub-e
 sub-e c = search needs
 
--- src/lib.rt:111:9
 beyond-requires : tie.Need-beyond-requires
 beyond-requires c κs = search needs
 
--- src/lib.rt:118:60
 triples-of-requires : tie.Need-triples-of-requires
 triples-of-requires c κs = search needs
 
--- src/lib.rt:118:9
 visit-at-requires : tie.Need-visit-at-requires
 visit-at-requires c κs =
     let p = c .before .before .before .before .before .before .before .before .before .before .before .before .pre in
@@ -61,15 +44,12 @@ visit-at-requires c κs =
     let h = halves b (c .before .before .before .beyond .ensures) (c .triples-of .ensures) refl in
     ((triples-stand (p .0) (p .2) h, p .1), (triple-here (c .before .before .before .before .before .before .before .before .before .before .before .before .args .k) b (c .before .before .before .beyond .result) (c .before .before .before .before .before .before .before .before .before .before .before .before .args .x) (c .triples-of .ensures) (c .before .before .before .before .before .before .before .triple-at .result) (c .before .before .before .before .before .before .before .triple-at .ensures), triple-no-chop (c .before .before .before .before .before .before .before .before .before .before .before .before .args .k) b (c .before .before .before .beyond .result) (c .before .before .before .before .before .before .before .before .before .before .before .before .args .x) (c .triples-of .ensures)))
 
--- src/lib.rt:120:9
 same-length : tie.Need-same-length
 same-length c = search needs
 
--- src/lib.rt:120:9
 same-length-2 : tie.Need-same-length-2
 same-length-2 c = search needs
 
--- src/lib.rt:120:9
 returns : tie.Need-returns
 returns c =
     let p = c .before .before .before .before .before .before .before .before .before .before .before .before .before .before .before .before .before .before .pre in
@@ -77,27 +57,21 @@ returns c =
     reached (triple-suffices (c .before .before .before .before .before .before .before .before .before .before .before .before .before .before .before .before .before .before .args .c) (c .before .before .before .before .before .before .before .before .before .before .before .before .before .before .before .before .before .before .args .k) _ (c .before .before .before .before .before .before .before .before .before .before .before .before .before .before .before .before .before .before .args .block) (p .2) (p .0 .laid) t (c .before .before .before .before .before .before .before .before .before .before .before .before .before .triple-at .ensures .0) (ap (λ (x : ℕ). c .before .before .before .before .before .before .before .before .before .before .before .before .before .before .before .before .before .before .args .block .first + countOf (c .before .before .before .before .before .before .before .before .before .before .before .before .before .before .before .before .before .before .args .k) + x) (sym (c .before .before .before .before .before .before .before .before .before .before .before .before .before .triple-at .ensures .1))))
     (first-visit (c .before .before .before .before .before .before .before .before .before .before .before .before .before .before .before .before .before .before .args .c) (c .before .before .before .before .before .before .before .before .before .before .before .before .before .before .before .before .before .before .args .k) (c .before .before .before .before .before .before .before .before .before .before .before .before .before .before .before .before .before .before .args .block) t (c .before .before .before .before .before .before .before .before .before .before .before .before .before .triple-at .ensures) (c .before .before .before .before .before .before .before .before .before .beyond .ensures) (c .before .before .before .before .before .before .triples-of .ensures) (c .if1 .taken) (c .before .before .before .before .before .visit-at .ensures))
 
--- src/lib.rt:122:27
 place-requires : tie.Need-place-requires
 place-requires c κs = let o = c .before .before .before .before .before .before .before .before .before .before .before .before .before .triple-at .ensures .0 in (omega (arith, o .starts, o .cut, o .ends), c .before .before .before .before .before .before .before .before .before .before .before .before .before .before .before .before .before .before .pre .0 .fine .bounded .steps, c .before .before .before .before .before .before .before .before .before .before .before .before .before .before .before .before .before .before .pre .1)
 
--- src/lib.rt:122:13
 add-v : tie.Need-add-v
 add-v c = omega (arith, c .before .before .before .before .before .before .before .before .before .before .before .before .before .before .before .before .before .before .before .before .pre .0 .fine .bounded .first, c .before .place .ensures .1)
 
--- src/lib.rt:123:48
 add-visit-one : tie.Need-add-visit-one
 add-visit-one c = omega (arith, c .before .before .before .before .before .before .before .before .before .before .before .before .before .before .before .before .before .before .before .before .before .before .pre .0 .fine .first, c .before .before .before .before .before .before .before .before .before .before .before .before .before .beyond .ensures, c .before .before .before .before .before .before .before .before .before .before .before .before .before .before .before .before .before .before .before .before .before .before .pre .4, counts-at-32 (c .before .before .before .before .before .before .before .before .before .before .before .before .before .before .before .before .before .before .before .before .before .before .args .k) (c .before .before .before .before .before .before .before .before .before .before .before .before .before .before .before .before .before .before .before .before .before .before .pre .0 .fine .bounded .steps))
 
--- src/lib.rt:123:48
 sub-visit-one : tie.Need-sub-visit-one
 sub-visit-one c = let o = c .before .before .before .before .before .before .before .before .before .before .before .before .before .before .before .before .before .triple-at .ensures .0 in omega (arith, one-place (c .before .before .before .before .before .before .before .before .before .before .before .before .before .before .before .before .before .before .before .before .before .before .args .k) (c .before .before .before .before .before .before .before .before .before .before .before .before .before .before .before .before .before .before .before .before .before .before .args .x) (c .before .before .before .before .before .before .before .before .before .before .before .before .before .before .before .before .before .triple-at .result) (c .before .before .before .before .before .before .before .before .before .before .before .before .before .before .before .before .before .triple-at .ensures))
 
--- src/lib.rt:123:62
 add-visit-one-2 : tie.Need-add-visit-one-2
 add-visit-one-2 c = let o = c .before .before .before .before .before .before .before .before .before .before .before .before .before .before .before .before .before .triple-at .ensures .0 in omega (arith, o .ends, c .before .before .before .before .before .before .before .before .before .before .before .before .before .before .before .before .before .before .before .before .before .before .pre .0 .fine .bounded .steps)
 
--- src/lib.rt:123:5
 visit-one-requires : tie.Need-visit-one-requires
 visit-one-requires c κs =
     let p = c .before .before .before .before .before .before .before .before .before .before .before .before .before .before .before .before .before .before .before .before .before .before .pre in
@@ -105,15 +79,12 @@ visit-one-requires c κs =
     let o = c .before .before .before .before .before .before .before .before .before .before .before .before .before .before .before .before .before .triple-at .ensures in
     one-asks (p .0) (p .2) (c .before .before .before .before .before .before .before .before .before .before .before .before .before .beyond .ensures) t o (c .before .before .before .place .ensures .0) (c .before .before .before .before .before .before .before .before .before .visit-at .kept .0) (c .before .before .before .before .before .before .before .before .before .visit-at .ensures .grown .trailing)
 
--- src/lib.rt:103:1
 same-length-3 : tie.Need-same-length-3
 same-length-3 c = search needs
 
--- src/lib.rt:103:1
 same-length-4 : tie.Need-same-length-4
 same-length-4 c = search needs
 
--- src/lib.rt:103:1
 returns-2 : tie.Need-returns-2
 returns-2 c =
     let p = c .before .before .before .before .before .before .before .before .before .before .before .before .before .before .before .before .before .before .before .before .before .before .before .before .before .before .before .pre in

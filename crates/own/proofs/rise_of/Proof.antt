@@ -5,78 +5,58 @@ use Rattle.own.specs.Own.{riseOf}
 use borrow.Author.Needs.{needs}
 use Rattle.own.proofs.rise_of.Statement.{statement}
 use Rattle.own.proofs.rise_of.Tie as tie
-use Rattle.own.proofs.rise_of.Reads as reads
-use Rattle.own.proofs.rise_of.Lts as lts
 
--- src/lib.rt:32:27
 enum-told : tie.Need-enum-told
 enum-told c = search needs
 
--- src/lib.rt:36:28
 enum-told-2 : tie.Need-enum-told-2
 enum-told-2 c = search needs
 
--- src/lib.rt:40:27
 enum-told-3 : tie.Need-enum-told-3
 enum-told-3 c = search needs
 
--- src/lib.rt:44:22
 enum-told-4 : tie.Need-enum-told-4
 enum-told-4 c = search needs
 
--- src/lib.rt:48:21
 enum-told-5 : tie.Need-enum-told-5
 enum-told-5 c = search needs
 
--- src/lib.rt:52:23
 enum-told-6 : tie.Need-enum-told-6
 enum-told-6 c = search needs
 
--- src/lib.rt:56:24
 enum-known-rule : tie.Need-enum-known-rule
 enum-known-rule c = search needs
 
--- src/lib.rt:60:29
 enum-told-7 : tie.Need-enum-told-7
 enum-told-7 c = search needs
 
--- src/lib.rt:64:22
 enum-told-8 : tie.Need-enum-told-8
 enum-told-8 c = search needs
 
--- src/lib.rt:28:1
 returns : tie.Need-returns
 returns c = sym (ap riseOf (c .enum-told .given .1))
 
--- src/lib.rt:28:1
 returns-2 : tie.Need-returns-2
 returns-2 c = sym (ap riseOf (c .enum-told2 .given .1))
 
--- src/lib.rt:28:1
 returns-3 : tie.Need-returns-3
 returns-3 c = sym (ap riseOf (c .enum-told3 .given .1))
 
--- src/lib.rt:28:1
 returns-4 : tie.Need-returns-4
 returns-4 c = sym (ap riseOf (c .enum-told4 .given .1))
 
--- src/lib.rt:28:1
 returns-5 : tie.Need-returns-5
 returns-5 c = sym (ap riseOf (c .enum-told5 .given .1))
 
--- src/lib.rt:28:1
 returns-6 : tie.Need-returns-6
 returns-6 c = sym (ap riseOf (c .enum-told6 .given .1))
 
--- src/lib.rt:28:1
 returns-7 : tie.Need-returns-7
 returns-7 c = sym (ap riseOf (c .before .rule .given .1))
 
--- src/lib.rt:28:1
 returns-8 : tie.Need-returns-8
 returns-8 c = sym (ap riseOf (c .enum-told7 .given .1))
 
--- src/lib.rt:28:1
 returns-9 : tie.Need-returns-9
 returns-9 c = sym (ap riseOf (c .enum-told8 .given .1))
 

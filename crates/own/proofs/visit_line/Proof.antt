@@ -4,26 +4,19 @@ use Rattle.own.proofs.Places.{line-placed, line-no-chop, line-whole, wh
 use borrow.Author.Needs.{needs}
 use Rattle.own.proofs.visit_line.Statement.{statement}
 use Rattle.own.proofs.visit_line.Tie as tie
-use Rattle.own.proofs.visit_line.Reads as reads
-use Rattle.own.proofs.visit_line.Lts as lts
-use Rattle.walks.proofs.visit_at.Reads as visit-at-reads
 
--- src/lib.rt:64:5
 visit-at-requires : tie.Need-visit-at-requires
 visit-at-requires c κs =
     let p = c .before .before .before .before .pre in
     let b = c .before .before .before .before .args .block in
     ((whole-stands (p .0) (line-whole (b .rule) (p .2)), p .1), (line-placed (b .points) (c .before .before .before .before .args .k) (c .before .before .before .before .args .x) (p .3) (b .rule) (p .2), line-no-chop (b .rule) (p .2)))
 
--- src/lib.rt:54:1
 same-length : tie.Need-same-length
 same-length c = search needs
 
--- src/lib.rt:54:1
 same-length-2 : tie.Need-same-length-2
 same-length-2 c = search needs
 
--- src/lib.rt:54:1
 returns : tie.Need-returns
 returns c = search needs
 

@@ -8,9 +8,6 @@ use lib.ListN.{getD}
 use borrow.Author.Needs.{needs}
 use Rattle.parents.proofs.nearest.Statement.{statement}
 use Rattle.parents.proofs.nearest.Tie as tie
-use Rattle.parents.proofs.nearest.Reads as reads
-use Rattle.parents.proofs.nearest.Lts as lts
-use Rattle.rows.proofs.byte_at.Reads as byte-at-reads
 
 abbrev Inv-loop : tie.InvT-loop
 Inv-loop sizes z y₀ y = (y < z) × ((v : ℕ) → y < v → v < z → v + getD sizes v 0 ≤ z)
@@ -18,48 +15,39 @@ Inv-loop sizes z y₀ y = (y < z) × ((v : ℕ) → y < v → v < z → v + getD
 abbrev μ-loop : tie.MeasureT-loop
 μ-loop sizes z y₀ y = y
 
--- src/lib.rt:15:17
 sub-y : tie.Need-sub-y Inv-loop μ-loop
 sub-y c = search needs
 
--- src/lib.rt:16:5
 loop-holds : tie.Need-loop-holds Inv-loop μ-loop
 loop-holds c = (omega (arith, c .pre), λ v a b. absurd (omega arith))
 
--- src/lib.rt:16:15
 byte-at-requires : tie.Need-byte-at-requires Inv-loop μ-loop
 byte-at-requires c κs = search needs
 
--- src/lib.rt:16:15
 cast-if1 : tie.Need-cast-if1 Inv-loop μ-loop
 cast-if1 c = search needs
 
--- src/lib.rt:16:11
 add-if1 : tie.Need-add-if1 Inv-loop μ-loop
 add-if1 c = omega (arith, c .before .before .before .pre, c .before .before .loop .inv .0)
 
--- src/lib.rt:17:9
 sub-y-2 : tie.Need-sub-y-2 Inv-loop μ-loop
 sub-y-2 c =
     let i = c .before .before .before .loop .inv in
     let a = c .before .before .before .before .args in
     by-cases (decLt 0 (c .before .before .before .loop .y)) (λ l. omega (arith, l)) (λ n. let e : c .before .before .before .loop .y ≡ 0 = omega (arith, n) in absurd (omega (arith, ap (λ y. getD (a .sizes .now) y 0) e, c .before .byte-at .ensures, c .if1 .taken, c .before .before .before .before .pre)))
 
--- src/lib.rt:16:5
 loop-less : tie.Need-loop-less Inv-loop μ-loop
 loop-less c =
     let i = c .before .before .before .loop .inv in
     let a = c .before .before .before .before .args in
     by-cases (decLt 0 (c .before .before .before .loop .y)) (λ l. omega (arith, l)) (λ n. let e : c .before .before .before .loop .y ≡ 0 = omega (arith, n) in absurd (omega (arith, ap (λ y. getD (a .sizes .now) y 0) e, c .before .byte-at .ensures, c .if1 .taken, c .before .before .before .before .pre)))
 
--- src/lib.rt:16:5
 loop-again : tie.Need-loop-again Inv-loop μ-loop
 loop-again c =
     let i = c .before .before .before .loop .inv in
     let sizes = c .before .before .before .before .args .sizes .now in
     (omega (arith, i .0), λ v a b. by-cases (decLt (c .before .before .before .loop .y) v) (λ l. i .1 v l b) (λ n. let e : v ≡ c .before .before .before .loop .y = omega (arith, n, a) in subst (λ v. v + getD sizes v 0 ≤ c .before .before .before .before .args .z) (sym e) (omega (arith, c .before .byte-at .ensures, c .if1 .taken))))
 
--- src/lib.rt:11:1
 returns : tie.Need-returns Inv-loop μ-loop
 returns c = let i = c .before .before .before .loop .inv in record { before = i .0; among = omega (arith, c .before .byte-at .ensures, c .if1 .left); between = i .1 }
 

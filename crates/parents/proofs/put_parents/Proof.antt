@@ -10,9 +10,6 @@ use Rattle.fanout.specs.Fanout.{Nearest}
 use Rattle.parents.proofs.Parents.{none-nearest, one-nearest}
 use Rattle.parents.proofs.put_parents.Statement.{statement}
 use Rattle.parents.proofs.put_parents.Tie as tie
-use Rattle.parents.proofs.put_parents.Reads as reads
-use Rattle.parents.proofs.put_parents.Lts as lts
-use Rattle.parents.proofs.nearest.Reads as nearest-reads
 
 abbrev Inv-loop : tie.InvT-loop
 Inv-loop sizes count parents₀ z₀ parents z =
@@ -21,41 +18,32 @@ Inv-loop sizes count parents₀ z₀ parents z =
 abbrev μ-loop : tie.MeasureT-loop
 μ-loop sizes count parents₀ z₀ parents z = count - z
 
--- src/lib.rt:27:5
 element-write-parents : tie.Need-element-write-parents Inv-loop μ-loop
 element-write-parents c = search needs
 
--- src/lib.rt:28:5
 loop-holds : tie.Need-loop-holds Inv-loop μ-loop
 loop-holds c = (length-set (c .args .parents .now) 0 0 ∙ c .pre .3, omega arith, c .pre .0, none-nearest _ (c .args .parents .now) (omega (arith, c .pre .3)))
 
--- src/lib.rt:29:22
 nearest-requires : tie.Need-nearest-requires Inv-loop μ-loop
 nearest-requires c κs = search needs
 
--- src/lib.rt:29:22
 cast-parents : tie.Need-cast-parents Inv-loop μ-loop
 cast-parents c = search needs
 
--- src/lib.rt:29:9
 element-write-parents-2 : tie.Need-element-write-parents-2 Inv-loop μ-loop
 element-write-parents-2 c = search needs
 
--- src/lib.rt:28:9
 add-z : tie.Need-add-z Inv-loop μ-loop
 add-z c = search needs
 
--- src/lib.rt:28:5
 loop-less : tie.Need-loop-less Inv-loop μ-loop
 loop-less c = search needs
 
--- src/lib.rt:28:5
 loop-again : tie.Need-loop-again Inv-loop μ-loop
 loop-again c =
     let i = c .before .before .loop .inv in
     (length-set (c .before .before .loop .parents) (c .before .before .loop .z) (c .nearest .result) ∙ i .0, omega arith, omega (arith, c .before .loop-test .taken), one-nearest (i .3) (i .1) (omega (arith, i .0, i .2, c .before .loop-test .taken, c .before .before .before .pre)) (c .nearest .ensures))
 
--- src/lib.rt:23:1
 returns : tie.Need-returns Inv-loop μ-loop
 returns c = let i = c .before .loop .inv in let e : c .before .loop .z ≡ c .before .before .args .count = omega (arith, i .2, c .loop-test .left) in subst (Nearest _ _) e (i .3)
 

@@ -6,14 +6,10 @@ use native.Mathlib.Omega.{arith}
 use borrow.Author.Tests.{ltb-true, ltb-false}
 use Rattle.part.proofs.among.Statement.{statement}
 use Rattle.part.proofs.among.Tie as tie
-use Rattle.part.proofs.among.Reads as reads
-use Rattle.part.proofs.among.Lts as lts
 
--- src/lib.rt:41:9
 returns : tie.Need-returns
 returns c = record { here = λ e. absurd (false≢true e); away = λ e f. omega (arith, f, c .if1 .taken) }
 
--- src/lib.rt:37:1
 returns-2 : tie.Need-returns-2
 returns-2 c = record { here = λ e. omega (arith, ltb-true (c .before .args .u - c .before .args .w) (c .before .args .n) e, c .if1 .left); away = λ e f. omega (arith, ltb-false (c .before .args .u - c .before .args .w) (c .before .args .n) e, f, c .if1 .left) }
 

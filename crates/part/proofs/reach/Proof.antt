@@ -5,88 +5,61 @@ use Rattle.own.proofs.Places.{chop-rule, no-triples}
 use borrow.Author.Needs.{needs}
 use Rattle.part.proofs.reach.Statement.{statement}
 use Rattle.part.proofs.reach.Tie as tie
-use Rattle.part.proofs.reach.Reads as reads
-use Rattle.part.proofs.reach.Lts as lts
-use Rattle.blocks.proofs.form_of.Reads as form-of-reads
-use Rattle.blocks.proofs.is_chop.Reads as is-chop-reads
-use Rattle.own.proofs.done.Reads as done-reads
-use Rattle.part.proofs.reach_chop.Reads as reach-chop-reads
-use Rattle.part.proofs.reach_instant.Reads as reach-instant-reads
-use Rattle.part.proofs.reach_line.Reads as reach-line-reads
 
--- src/lib.rt:107:8
 is-chop-requires : tie.Need-is-chop-requires
 is-chop-requires c κs = search needs
 
--- src/lib.rt:108:9
 reach-chop-requires : tie.Need-reach-chop-requires
 reach-chop-requires c κs = let p = c .before .before .before .before .before .before .before .pre in ((p .0 .0, p .0 .1, chop-rule (c .before .before .before .before .before .before .before .args .block .rule) (sym (c .before .before .before .is-chop .ensures) ∙ c .before .before .if1 .taken), p .0 .2, p .0 .3), p .1)
 
--- src/lib.rt:108:9
 same-length : tie.Need-same-length
 same-length c = search needs
 
--- src/lib.rt:108:9
 same-length-2 : tie.Need-same-length-2
 same-length-2 c = search needs
 
--- src/lib.rt:108:9
 returns : tie.Need-returns
 returns c = search needs
 
--- src/lib.rt:110:11
 form-of-requires : tie.Need-form-of-requires
 form-of-requires c κs = search needs
 
--- src/lib.rt:111:34
 enum-told : tie.Need-enum-told
 enum-told c = search needs
 
--- src/lib.rt:111:23
 reach-line-requires : tie.Need-reach-line-requires
 reach-line-requires c κs = search needs
 
--- src/lib.rt:112:42
 enum-told-2 : tie.Need-enum-told-2
 enum-told-2 c = search needs
 
--- src/lib.rt:112:28
 reach-instant-requires : tie.Need-reach-instant-requires
 reach-instant-requires c κs = let p = c .before .before .before .before .before .before .before .before .before .before .pre in (p .0, (sym (c .before .before .before .before .form-of .ensures) ∙ c .before .before .enum-told2 .given .1, sym (c .before .before .before .before .before .before .is-chop .ensures) ∙ c .before .before .before .before .before .if1 .left))
 
--- src/lib.rt:113:26
 enum-told-3 : tie.Need-enum-told-3
 enum-told-3 c = search needs
 
--- src/lib.rt:113:26
 done-requires : tie.Need-done-requires
 done-requires c κs = search needs
 
--- src/lib.rt:101:1
 same-length-3 : tie.Need-same-length-3
 same-length-3 c = search needs
 
--- src/lib.rt:101:1
 same-length-4 : tie.Need-same-length-4
 same-length-4 c = search needs
 
--- src/lib.rt:101:1
 returns-2 : tie.Need-returns-2
 returns-2 c = search needs
 
--- src/lib.rt:101:1
 same-length-5 : tie.Need-same-length-5
 same-length-5 c = search needs
 
--- src/lib.rt:101:1
 same-length-6 : tie.Need-same-length-6
 same-length-6 c = search needs
 
--- src/lib.rt:101:1
 returns-3 : tie.Need-returns-3
 returns-3 c = search needs
 
--- src/lib.rt:101:1
 returns-4 : tie.Need-returns-4
 returns-4 c = let p = c .before .before .before .before .before .before .before .before .before .pre in no-triples (c .before .before .before .before .before .before .before .before .before .args .k) (c .before .before .before .before .before .before .before .before .before .args .block) (c .before .before .before .before .before .before .before .before .before .args .block .rule) (sym (c .before .before .before .form-of .ensures) ∙ c .before .enum-told3 .given .1) (p .0 .0 .laid .apart)
 

@@ -13,64 +13,43 @@ use Rattle.part.proofs.Part.{chop-away, stopped, cut-rule, first-named,
 use borrow.Author.Needs.{needs}
 use Rattle.part.proofs.reach_chop.Statement.{statement}
 use Rattle.part.proofs.reach_chop.Tie as tie
-use Rattle.part.proofs.reach_chop.Reads as reads
-use Rattle.part.proofs.reach_chop.Lts as lts
-use Rattle.decode.proofs.interval_at.Reads as interval-at-reads
-use Rattle.node_clauses.proofs.beyond.Reads as beyond-reads
-use Rattle.node_clauses.proofs.triples_of.Reads as triples-of-reads
-use Rattle.own.proofs.done.Reads as done-reads
-use Rattle.part.proofs.among.Reads as among-reads
-use Rattle.triples.proofs.visit_first.Reads as visit-first-reads
-use Rattle.triples.proofs.visit_second.Reads as visit-second-reads
 
--- src/lib.rt:88:44
 beyond-requires : tie.Need-beyond-requires
 beyond-requires c κs = search needs
 
--- src/lib.rt:88:9
 triples-of-requires : tie.Need-triples-of-requires
 triples-of-requires c κs = search needs
 
--- src/lib.rt:89:8
 among-requires : tie.Need-among-requires
 among-requires c κs = search needs
 
--- src/lib.rt:90:61
 sub-interval-at : tie.Need-sub-interval-at
 sub-interval-at c = omega (arith, c .before .among .ensures .here (c .if1 .taken))
 
--- src/lib.rt:90:60
 cast-interval-at : tie.Need-cast-interval-at
 cast-interval-at c = search needs
 
--- src/lib.rt:90:13
 interval-at-requires : tie.Need-interval-at-requires
 interval-at-requires c κs = let p = c .before .before .before .before .before .before .before .pre in (omega (arith, c .before .among .ensures .here (c .if1 .taken), p .0 .1), p .1 .0, p .1 .1)
 
--- src/lib.rt:91:75
 cast-visit-first : tie.Need-cast-visit-first
 cast-visit-first c = search needs
 
--- src/lib.rt:91:87
 cast-visit-first-2 : tie.Need-cast-visit-first-2
 cast-visit-first-2 c = search needs
 
--- src/lib.rt:91:9
 visit-first-requires : tie.Need-visit-first-requires
 visit-first-requires c κs =
     let p = c .before .before .before .before .before .before .before .before .before .before .before .before .pre in
     let o = c .before .before .before .before .interval-at .ensures .0 in
     (triples-stand (p .0 .0) (p .0 .2) (halves (c .before .before .before .before .before .before .before .before .before .before .before .before .args .block) (c .before .before .before .before .before .before .before .before .beyond .ensures) (c .before .before .before .before .before .before .before .triples-of .ensures) refl), p .0 .1, cut-rule (c .before .before .before .before .before .before .before .before .beyond .result) (c .before .before .before .before .before .before .before .before .before .before .before .before .args .block) (c .before .before .before .before .before .before .before .triples-of .ensures), o .starts, o .ends)
 
--- src/lib.rt:91:9
 same-length : tie.Need-same-length
 same-length c = search needs
 
--- src/lib.rt:91:9
 same-length-2 : tie.Need-same-length-2
 same-length-2 c = search needs
 
--- src/lib.rt:91:9
 returns : tie.Need-returns
 returns c =
     let p = c .before .before .before .before .before .before .before .before .before .before .before .before .before .before .before .before .before .pre in
@@ -80,46 +59,36 @@ returns c =
     reached (first-suffices (c .before .before .before .before .before .before .before .before .before .before .before .before .before .before .before .before .before .args .c) (c .before .before .before .before .before .before .before .before .before .before .before .before .before .before .before .before .before .args .k) (c .before .before .before .before .before .before .before .before .before .before .before .before .before .before .before .before .before .args .u) b (p .0 .2) (p .0 .0 .laid) (v .i) (v .j) (o .0 .starts) (o .0 .ends) (omega (arith, c .before .before .before .before .before .before .before .before .before .before .before .among .ensures .here (c .before .before .before .before .before .before .before .before .before .before .if1 .taken), o .1)))
     (visited-named (first-named (c .before .before .before .before .before .before .before .before .before .before .before .before .before .before .before .before .before .args .c) (c .before .before .before .before .before .before .before .before .before .before .before .before .before .before .before .before .before .args .k) b (v .i) (v .j) (c .before .before .before .before .before .before .before .before .before .before .before .before .before .beyond .ensures) (c .before .before .before .before .before .before .before .before .before .before .before .before .triples-of .ensures)) (c .before .before .before .before .visit-first .ensures))
 
--- src/lib.rt:93:8
 among-requires-2 : tie.Need-among-requires-2
 among-requires-2 c κs = search needs
 
--- src/lib.rt:94:61
 sub-interval-at-2 : tie.Need-sub-interval-at-2
 sub-interval-at-2 c = omega (arith, c .before .among2 .ensures .here (c .if2 .taken))
 
--- src/lib.rt:94:60
 cast-interval-at-2 : tie.Need-cast-interval-at-2
 cast-interval-at-2 c = search needs
 
--- src/lib.rt:94:13
 interval-at-requires-2 : tie.Need-interval-at-requires-2
 interval-at-requires-2 c κs = let p = c .before .before .before .before .before .before .before .before .before .pre in (omega (arith, c .before .among2 .ensures .here (c .if2 .taken), p .0 .1), p .1 .0, p .1 .1)
 
--- src/lib.rt:95:76
 cast-visit-second : tie.Need-cast-visit-second
 cast-visit-second c = search needs
 
--- src/lib.rt:95:88
 cast-visit-second-2 : tie.Need-cast-visit-second-2
 cast-visit-second-2 c = search needs
 
--- src/lib.rt:95:9
 visit-second-requires : tie.Need-visit-second-requires
 visit-second-requires c κs =
     let p = c .before .before .before .before .before .before .before .before .before .before .before .before .before .before .pre in
     let o = c .before .before .before .before .interval-at2 .ensures .0 in
     (triples-stand (p .0 .0) (p .0 .2) (halves (c .before .before .before .before .before .before .before .before .before .before .before .before .before .before .args .block) (c .before .before .before .before .before .before .before .before .before .before .beyond .ensures) (c .before .before .before .before .before .before .before .before .before .triples-of .ensures) refl), p .0 .1, cut-rule (c .before .before .before .before .before .before .before .before .before .before .beyond .result) (c .before .before .before .before .before .before .before .before .before .before .before .before .before .before .args .block) (c .before .before .before .before .before .before .before .before .before .triples-of .ensures), o .starts, o .ends)
 
--- src/lib.rt:95:9
 same-length-3 : tie.Need-same-length-3
 same-length-3 c = search needs
 
--- src/lib.rt:95:9
 same-length-4 : tie.Need-same-length-4
 same-length-4 c = search needs
 
--- src/lib.rt:95:9
 returns-2 : tie.Need-returns-2
 returns-2 c =
     let p = c .before .before .before .before .before .before .before .before .before .before .before .before .before .before .before .before .before .before .before .pre in
@@ -129,11 +98,9 @@ returns-2 c =
     reached (second-suffices (c .before .before .before .before .before .before .before .before .before .before .before .before .before .before .before .before .before .before .before .args .c) (c .before .before .before .before .before .before .before .before .before .before .before .before .before .before .before .before .before .before .before .args .k) (c .before .before .before .before .before .before .before .before .before .before .before .before .before .before .before .before .before .before .before .args .u) b (p .0 .2) (p .0 .0 .laid) (v .i) (v .j) (o .0 .starts) (o .0 .ends) (omega (arith, c .before .before .before .before .before .before .before .before .before .before .before .among2 .ensures .here (c .before .before .before .before .before .before .before .before .before .before .if2 .taken), o .1)))
     (visited-named (second-named (c .before .before .before .before .before .before .before .before .before .before .before .before .before .before .before .before .before .before .before .args .c) (c .before .before .before .before .before .before .before .before .before .before .before .before .before .before .before .before .before .before .before .args .k) b (v .i) (v .j) (c .before .before .before .before .before .before .before .before .before .before .before .before .before .before .before .beyond .ensures) (c .before .before .before .before .before .before .before .before .before .before .before .before .before .before .triples-of .ensures)) (c .before .before .before .before .visit-second .ensures))
 
--- src/lib.rt:97:5
 done-requires : tie.Need-done-requires
 done-requires c κs = search needs
 
--- src/lib.rt:81:1
 returns-3 : tie.Need-returns-3
 returns-3 c =
     let p = c .before .before .before .before .before .before .before .before .before .before .pre in

@@ -9,52 +9,37 @@ use Rattle.part.proofs.Part.{level-away, stopped, negated-true, negated
 use borrow.Author.Needs.{needs}
 use Rattle.part.proofs.reach_instant.Statement.{statement}
 use Rattle.part.proofs.reach_instant.Tie as tie
-use Rattle.part.proofs.reach_instant.Reads as reads
-use Rattle.part.proofs.reach_instant.Lts as lts
-use Rattle.own.proofs.done.Reads as done-reads
-use Rattle.own.proofs.rise_of.Reads as rise-of-reads
-use Rattle.part.proofs.among.Reads as among-reads
-use Rattle.walks.proofs.visit_instant.Reads as visit-instant-reads
 
--- src/lib.rt:72:9
 among-requires : tie.Need-among-requires
 among-requires c κs = search needs
 
--- src/lib.rt:73:9
 done-requires : tie.Need-done-requires
 done-requires c κs = search needs
 
--- src/lib.rt:73:9
 returns : tie.Need-returns
 returns c =
     let p = c .before .before .before .before .before .pre in
     let b = c .before .before .before .before .before .args .block in
     stopped (c .done .ensures) (unread (level-away (c .before .before .before .before .before .args .c) (c .before .before .before .before .before .args .k) (c .before .before .before .before .before .args .u) b (p .0 .0 .laid) (p .0 .2) (b .rule) refl (p .1 .0) (p .1 .1) (c .before .before .among .ensures .away (negated-true _ (c .before .if1 .taken)))) (p .0 .0 .trailing))
 
--- src/lib.rt:76:9
 rise-of-requires : tie.Need-rise-of-requires
 rise-of-requires c κs = search needs
 
--- src/lib.rt:77:87
 sub-visit-instant : tie.Need-sub-visit-instant
 sub-visit-instant c = omega (arith, c .before .before .before .before .among .ensures .here (negated-false _ (c .before .before .before .if1 .left)))
 
--- src/lib.rt:77:5
 visit-instant-requires : tie.Need-visit-instant-requires
 visit-instant-requires c κs =
     let p = c .before .before .before .before .before .before .before .pre in
     let f = c .before .before .before .before .among .ensures .here (negated-false _ (c .before .before .before .if1 .left)) in
     (whole-stands (p .0 .0) (p .1 .1), p .0 .1, rising-known (c .before .before .before .before .before .before .before .args .block .rule) (p .1 .0) (p .1 .1) (c .before .before .rise-of .ensures), omega (arith, f))
 
--- src/lib.rt:66:1
 same-length : tie.Need-same-length
 same-length c = search needs
 
--- src/lib.rt:66:1
 same-length-2 : tie.Need-same-length-2
 same-length-2 c = search needs
 
--- src/lib.rt:66:1
 returns-2 : tie.Need-returns-2
 returns-2 c =
     let p = c .before .before .before .before .before .before .before .before .before .before .before .before .pre in

@@ -4,47 +4,34 @@ use Rattle.patterns.proofs.Table.{both-bit}
 use borrow.Author.Needs.{needs}
 use Rattle.patterns.proofs.both_quiet.Statement.{statement}
 use Rattle.patterns.proofs.both_quiet.Tie as tie
-use Rattle.patterns.proofs.both_quiet.Reads as reads
-use Rattle.patterns.proofs.both_quiet.Lts as lts
-use Rattle.patterns.proofs.wide.Reads as wide-reads
 
--- src/lib.rt:369:21
 wide-requires : tie.Need-wide-requires
 wide-requires c κs = search needs
 
--- src/lib.rt:369:35
 wide-requires-2 : tie.Need-wide-requires-2
 wide-requires-2 c κs = search needs
 
--- src/lib.rt:369:31
 mul-result : tie.Need-mul-result
 mul-result c = search needs
 
--- src/lib.rt:369:21
 add-result : tie.Need-add-result
 add-result c = search needs
 
--- src/lib.rt:369:49
 wide-requires-3 : tie.Need-wide-requires-3
 wide-requires-3 c κs = search needs
 
--- src/lib.rt:369:45
 mul-result-2 : tie.Need-mul-result-2
 mul-result-2 c = search needs
 
--- src/lib.rt:369:21
 add-result-2 : tie.Need-add-result-2
 add-result-2 c = search needs
 
--- src/lib.rt:369:21
 cast-result : tie.Need-cast-result
 cast-result c = search needs
 
--- src/lib.rt:369:6
 shr-result : tie.Need-shr-result
 shr-result c = search needs
 
--- src/lib.rt:365:1
 returns : tie.Need-returns
 returns c = both-bit (c .before .before .before .args .a) (c .before .before .before .args .b) (c .before .before .before .args .c) (c .before .before .before .pre .0) (c .before .before .before .pre .1) (c .before .before .before .pre .2) (c .before .before .wide .ensures) (c .before .wide2 .ensures) (c .wide3 .ensures)
 

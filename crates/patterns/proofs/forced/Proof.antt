@@ -1,127 +1,98 @@
 -- Each pattern's table is compared with what its clauses force, entry by entry (Table.antt).
 -- The patterns are 0 to 7, so the last arm is 7.
 use mathlib.Core.Path.{_≡_, refl}
-use Prim.Native.Nat.{ℕ, suc, _≤_, _<_, zero-le}
+use Prim.Native.Nat.{ℕ, suc, _≤_, zero-le}
 use native.Mathlib.Omega.{arith}
 use Rattle.patterns.proofs.Table.{copyTable, inverseTable, bothTable, eitherTable, stepTable, lowTable, highTable, raisedTable, forced-three, forced-four}
 use borrow.Author.Needs.{needs}
 use Rattle.patterns.proofs.forced.Statement.{statement}
 use Rattle.patterns.proofs.forced.Tie as tie
-use Rattle.patterns.proofs.forced.Reads as reads
-use Rattle.patterns.proofs.forced.Lts as lts
-use Rattle.patterns.proofs.wide.Reads as wide-reads
 
--- src/lib.rt:320:13
 up : {n k : ℕ} → n ≤ k → (k ≡ n → ⊥) → suc n ≤ k
 up h f = omega arith
 
 wide-requires : tie.Need-wide-requires
 wide-requires c κs = search needs
 
--- src/lib.rt:320:27
 wide-requires-2 : tie.Need-wide-requires-2
 wide-requires-2 c κs = search needs
 
--- src/lib.rt:320:23
 mul-i : tie.Need-mul-i
 mul-i c = search needs
 
--- src/lib.rt:320:13
 add-i : tie.Need-add-i
 add-i c = search needs
 
--- src/lib.rt:320:41
 wide-requires-3 : tie.Need-wide-requires-3
 wide-requires-3 c κs = search needs
 
--- src/lib.rt:320:37
 mul-i-2 : tie.Need-mul-i-2
 mul-i-2 c = search needs
 
--- src/lib.rt:320:13
 add-i-2 : tie.Need-add-i-2
 add-i-2 c = search needs
 
--- src/lib.rt:322:14
 array-read-result : tie.Need-array-read-result
 array-read-result c = search needs
 
--- src/lib.rt:323:14
 array-read-result-2 : tie.Need-array-read-result-2
 array-read-result-2 c = search needs
 
--- src/lib.rt:324:14
 array-read-result-3 : tie.Need-array-read-result-3
 array-read-result-3 c = search needs
 
--- src/lib.rt:325:14
 array-read-result-4 : tie.Need-array-read-result-4
 array-read-result-4 c = search needs
 
--- src/lib.rt:326:28
 wide-requires-4 : tie.Need-wide-requires-4
 wide-requires-4 c κs = search needs
 
--- src/lib.rt:326:23
 mul-result : tie.Need-mul-result
 mul-result c = search needs
 
--- src/lib.rt:326:19
 add-result : tie.Need-add-result
 add-result c = search needs
 
--- src/lib.rt:326:14
 array-read-result-5 : tie.Need-array-read-result-5
 array-read-result-5 c = search needs
 
--- src/lib.rt:327:14
 array-read-result-6 : tie.Need-array-read-result-6
 array-read-result-6 c = search needs
 
--- src/lib.rt:328:14
 array-read-result-7 : tie.Need-array-read-result-7
 array-read-result-7 c = search needs
 
--- src/lib.rt:329:14
 array-read-result-8 : tie.Need-array-read-result-8
 array-read-result-8 c = search needs
 
--- src/lib.rt:316:1
 returns : tie.Need-returns
 unfolding copyTable
 returns c = let s = c .before .before .before .before .args in let p = c .before .before .before .before .pre in forced-three 0 (s .a) (s .b) (s .c) (s .d) (omega arith) (p .1) (p .2) (p .3) (p .4) (c .match .keys1) refl (c .before .before .before .wide .ensures) (c .before .before .wide2 .ensures) (c .before .wide3 .ensures)
 
--- src/lib.rt:316:1
 returns-2 : tie.Need-returns-2
 unfolding inverseTable
 returns-2 c = let s = c .before .before .before .before .args in let p = c .before .before .before .before .pre in forced-three 1 (s .a) (s .b) (s .c) (s .d) (omega arith) (p .1) (p .2) (p .3) (p .4) (c .match .keys2) refl (c .before .before .before .wide .ensures) (c .before .before .wide2 .ensures) (c .before .wide3 .ensures)
 
--- src/lib.rt:316:1
 returns-3 : tie.Need-returns-3
 unfolding bothTable
 returns-3 c = let s = c .before .before .before .before .args in let p = c .before .before .before .before .pre in forced-three 2 (s .a) (s .b) (s .c) (s .d) (omega arith) (p .1) (p .2) (p .3) (p .4) (c .match .keys3) refl (c .before .before .before .wide .ensures) (c .before .before .wide2 .ensures) (c .before .wide3 .ensures)
 
--- src/lib.rt:316:1
 returns-4 : tie.Need-returns-4
 unfolding eitherTable
 returns-4 c = let s = c .before .before .before .before .args in let p = c .before .before .before .before .pre in forced-three 3 (s .a) (s .b) (s .c) (s .d) (omega arith) (p .1) (p .2) (p .3) (p .4) (c .match .keys4) refl (c .before .before .before .wide .ensures) (c .before .before .wide2 .ensures) (c .before .wide3 .ensures)
 
--- src/lib.rt:316:1
 returns-5 : tie.Need-returns-5
 unfolding stepTable
 returns-5 c = let s = c .before .before .before .before .before .args in let p = c .before .before .before .before .before .pre in forced-four 4 (s .a) (s .b) (s .c) (s .d) (omega arith) (p .1) (p .2) (p .3) (p .4) (c .before .match .keys5) refl (c .before .before .before .before .wide .ensures) (c .before .before .before .wide2 .ensures) (c .before .before .wide3 .ensures) (c .wide4 .ensures)
 
--- src/lib.rt:316:1
 returns-6 : tie.Need-returns-6
 unfolding lowTable
 returns-6 c = let s = c .before .before .before .before .args in let p = c .before .before .before .before .pre in forced-three 5 (s .a) (s .b) (s .c) (s .d) (omega arith) (p .1) (p .2) (p .3) (p .4) (c .match .keys6) refl (c .before .before .before .wide .ensures) (c .before .before .wide2 .ensures) (c .before .wide3 .ensures)
 
--- src/lib.rt:316:1
 returns-7 : tie.Need-returns-7
 unfolding highTable
 returns-7 c = let s = c .before .before .before .before .args in let p = c .before .before .before .before .pre in forced-three 6 (s .a) (s .b) (s .c) (s .d) (omega arith) (p .1) (p .2) (p .3) (p .4) (c .match .keys7) refl (c .before .before .before .wide .ensures) (c .before .before .wide2 .ensures) (c .before .wide3 .ensures)
 
--- src/lib.rt:316:1
 returns-8 : tie.Need-returns-8
 unfolding raisedTable
 returns-8 c = let s = c .before .before .before .before .args in let p = c .before .before .before .before .pre in forced-three 7 (s .a) (s .b) (s .c) (s .d) (omega arith) (p .1) (p .2) (p .3) (p .4) (let q = c .match .rest in omega (arith, p .0, up (up (up (up (up (up (up zero-le (q .0 .0 .0 .0 .0 .0 .1)) (q .0 .0 .0 .0 .0 .1)) (q .0 .0 .0 .0 .1)) (q .0 .0 .0 .1)) (q .0 .0 .1)) (q .0 .1)) (q .1))) refl (c .before .before .before .wide .ensures) (c .before .before .wide2 .ensures) (c .before .wide3 .ensures)

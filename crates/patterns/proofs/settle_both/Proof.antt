@@ -7,51 +7,36 @@ use Rattle.patterns.proofs.Steps.{known, nothing-forced, visits-none, s
 use borrow.Author.Needs.{needs}
 use Rattle.patterns.proofs.settle_both.Statement.{statement}
 use Rattle.patterns.proofs.settle_both.Tie as tie
-use Rattle.patterns.proofs.settle_both.Reads as reads
-use Rattle.patterns.proofs.settle_both.Lts as lts
-use Rattle.patterns.proofs.both_quiet.Reads as both-quiet-reads
-use Rattle.patterns.proofs.settle_on.Reads as settle-on-reads
-use Rattle.patterns.proofs.value.Reads as value-reads
 
--- src/lib.rt:481:9
 value-requires : tie.Need-value-requires
 value-requires c κs = search needs
 
--- src/lib.rt:482:9
 value-requires-2 : tie.Need-value-requires-2
 value-requires-2 c κs = search needs
 
--- src/lib.rt:483:9
 value-requires-3 : tie.Need-value-requires-3
 value-requires-3 c κs = search needs
 
--- src/lib.rt:484:8
 both-quiet-requires : tie.Need-both-quiet-requires
 both-quiet-requires c κs = let t = c .before .before .before .before .before .before .before .before .pre .0 in (omega (arith, c .before .before .before .before .value .ensures, t .small (c .before .before .before .before .before .before .before .before .args .v - 1)), omega (arith, c .before .before .value2 .ensures, t .small (c .before .before .before .before .before .before .before .before .args .x - 1)), omega (arith, c .value3 .ensures, t .small (c .before .before .before .before .before .before .before .before .args .y - 1)))
 
--- src/lib.rt:485:9
 same-length : tie.Need-same-length
 same-length c = search needs
 
--- src/lib.rt:485:9
 returns : tie.Need-returns
 returns c =
     let s = c .before .before .before .before .before .before .before .before .before .before .pre in
     settled-named (patterns (c .before .before .before .before .before .before .before .before .before .before .args .v) (c .before .before .before .before .before .before .before .before .before .before .args .x) (c .before .before .before .before .before .before .before .before .before .before .args .y) 0 .2) (settled (visits-none _ (s .0)) (nothing-forced _ (c .before .before .before .before .before .before .before .before .before .before .args .v) (c .before .before .before .before .before .before .before .before .before .before .args .x) (c .before .before .before .before .before .before .before .before .before .before .args .y) (c .before .before .before .before .before .before .before .before .before .before .args .v) (s .1 .0) (s .2 .0 .0) (s .2 .1 .0) (s .1 .0) 2 (known 2 (c .before .before .before .before .before .before .value .ensures) (c .before .before .before .before .value2 .ensures) (c .before .before .value3 .ensures) (c .before .before .before .before .before .before .value .ensures) refl) (c .before .both-quiet .ensures (c .if1 .taken))))
 
--- src/lib.rt:490:5
 settle-on-requires : tie.Need-settle-on-requires
 settle-on-requires c κs = search needs
 
--- src/lib.rt:470:1
 same-length-2 : tie.Need-same-length-2
 same-length-2 c = search needs
 
--- src/lib.rt:470:1
 same-length-3 : tie.Need-same-length-3
 same-length-3 c = search needs
 
--- src/lib.rt:470:1
 returns-2 : tie.Need-returns-2
 returns-2 c = settled-named (patterns (c .before .before .before .before .before .before .before .before .before .before .before .before .before .before .before .before .before .args .v) (c .before .before .before .before .before .before .before .before .before .before .before .before .before .before .before .before .before .args .x) (c .before .before .before .before .before .before .before .before .before .before .before .before .before .before .before .before .before .args .y) 0 .2) (c .before .before .before .before .settle-on .ensures)
 

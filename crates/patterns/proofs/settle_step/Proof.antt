@@ -7,55 +7,39 @@ use Rattle.patterns.proofs.Steps.{known, nothing-forced, visits-none, s
 use borrow.Author.Needs.{needs}
 use Rattle.patterns.proofs.settle_step.Statement.{statement}
 use Rattle.patterns.proofs.settle_step.Tie as tie
-use Rattle.patterns.proofs.settle_step.Reads as reads
-use Rattle.patterns.proofs.settle_step.Lts as lts
-use Rattle.patterns.proofs.settle_on.Reads as settle-on-reads
-use Rattle.patterns.proofs.step_quiet.Reads as step-quiet-reads
-use Rattle.patterns.proofs.value.Reads as value-reads
 
--- src/lib.rt:506:9
 value-requires : tie.Need-value-requires
 value-requires c κs = search needs
 
--- src/lib.rt:507:9
 value-requires-2 : tie.Need-value-requires-2
 value-requires-2 c κs = search needs
 
--- src/lib.rt:508:9
 value-requires-3 : tie.Need-value-requires-3
 value-requires-3 c κs = search needs
 
--- src/lib.rt:509:9
 value-requires-4 : tie.Need-value-requires-4
 value-requires-4 c κs = search needs
 
--- src/lib.rt:510:8
 step-quiet-requires : tie.Need-step-quiet-requires
 step-quiet-requires c κs = let t = c .before .before .before .before .before .before .before .before .before .before .pre .0 in (omega (arith, c .before .before .before .before .before .before .value .ensures, t .small (c .before .before .before .before .before .before .before .before .before .before .args .v - 1)), omega (arith, c .before .before .before .before .value2 .ensures, t .small (c .before .before .before .before .before .before .before .before .before .before .args .p - 1)), omega (arith, c .before .before .value3 .ensures, t .small (c .before .before .before .before .before .before .before .before .before .before .args .q - 1)), omega (arith, c .value4 .ensures, t .small (c .before .before .before .before .before .before .before .before .before .before .args .s - 1)))
 
--- src/lib.rt:511:9
 same-length : tie.Need-same-length
 same-length c = search needs
 
--- src/lib.rt:511:9
 returns : tie.Need-returns
 returns c =
     let s = c .before .before .before .before .before .before .before .before .before .before .before .before .pre in
     settled-named (patterns (c .before .before .before .before .before .before .before .before .before .before .before .before .args .v) (c .before .before .before .before .before .before .before .before .before .before .before .before .args .p) (c .before .before .before .before .before .before .before .before .before .before .before .before .args .q) (c .before .before .before .before .before .before .before .before .before .before .before .before .args .s) .4) (settled (visits-none _ (s .0)) (nothing-forced _ (c .before .before .before .before .before .before .before .before .before .before .before .before .args .v) (c .before .before .before .before .before .before .before .before .before .before .before .before .args .p) (c .before .before .before .before .before .before .before .before .before .before .before .before .args .q) (c .before .before .before .before .before .before .before .before .before .before .before .before .args .s) (s .1 .0) (s .2 .0 .0) (s .2 .1 .0) (s .2 .2 .0) 4 (known 4 (c .before .before .before .before .before .before .before .before .value .ensures) (c .before .before .before .before .before .before .value2 .ensures) (c .before .before .before .before .value3 .ensures) (c .before .before .value4 .ensures) refl) (c .before .step-quiet .ensures (c .if1 .taken))))
 
--- src/lib.rt:516:5
 settle-on-requires : tie.Need-settle-on-requires
 settle-on-requires c κs = search needs
 
--- src/lib.rt:494:1
 same-length-2 : tie.Need-same-length-2
 same-length-2 c = search needs
 
--- src/lib.rt:494:1
 same-length-3 : tie.Need-same-length-3
 same-length-3 c = search needs
 
--- src/lib.rt:494:1
 returns-2 : tie.Need-returns-2
 returns-2 c = settled-named (patterns (c .before .before .before .before .before .before .before .before .before .before .before .before .before .before .before .before .before .before .before .args .v) (c .before .before .before .before .before .before .before .before .before .before .before .before .before .before .before .before .before .before .before .args .p) (c .before .before .before .before .before .before .before .before .before .before .before .before .before .before .before .before .before .before .before .args .q) (c .before .before .before .before .before .before .before .before .before .before .before .before .before .before .before .before .before .before .before .args .s) .4) (c .before .before .before .before .settle-on .ensures)
 

@@ -10,35 +10,25 @@ use Rattle.queue.proofs.Rows.{some-channel, instant-below, channel-is}
 use borrow.Author.Needs.{needs}
 use Rattle.queue.proofs.reach_channel.Statement.{statement}
 use Rattle.queue.proofs.reach_channel.Tie as tie
-use Rattle.queue.proofs.reach_channel.Reads as reads
-use Rattle.queue.proofs.reach_channel.Lts as lts
-use Rattle.queue.proofs.reach_letters.Reads as reach-letters-reads
 
--- src/lib.rt:117:13
 sub-x : tie.Need-sub-x
 sub-x c = search needs
 
--- src/lib.rt:118:97
 div-reach-letters : tie.Need-div-reach-letters
 div-reach-letters c = let p = c .before .before .before .before .pre .1 in some-channel (c .before .before .before .before .args .c) (c .before .before .before .before .args .k) (c .before .before .before .before .args .u - 1) (omega (arith, p .1, p .2))
 
--- src/lib.rt:118:104
 rem-reach-letters : tie.Need-rem-reach-letters
 rem-reach-letters c = let p = c .before .before .before .before .pre .1 in some-channel (c .before .before .before .before .args .c) (c .before .before .before .before .args .k) (c .before .before .before .before .args .u - 1) (omega (arith, p .1, p .2))
 
--- src/lib.rt:118:5
 reach-letters-requires : tie.Need-reach-letters-requires
 reach-letters-requires c κs = let p = c .before .before .before .before .pre in (p .0, (p .1 .0, instant-below (c .before .before .before .before .args .c) (c .before .before .before .before .args .k) (c .before .before .before .before .args .u - 1) (omega (arith, p .1 .1, p .1 .2))))
 
--- src/lib.rt:98:1
 same-length : tie.Need-same-length
 same-length c = search needs
 
--- src/lib.rt:98:1
 same-length-2 : tie.Need-same-length-2
 same-length-2 c = search needs
 
--- src/lib.rt:98:1
 returns : tie.Need-returns
 returns c =
     let p = c .before .before .before .before .before .before .before .before .before .pre in

@@ -7,17 +7,10 @@ use Rattle.queue.proofs.Rows.{speaks-line, visited-done}
 use borrow.Author.Needs.{needs}
 use Rattle.queue.proofs.reach_letter.Statement.{statement}
 use Rattle.queue.proofs.reach_letter.Tie as tie
-use Rattle.queue.proofs.reach_letter.Reads as reads
-use Rattle.queue.proofs.reach_letter.Lts as lts
-use Rattle.own.proofs.done.Reads as done-reads
-use Rattle.own.proofs.visit_line.Reads as visit-line-reads
-use Rattle.queue.proofs.speaks_of.Reads as speaks-of-reads
 
--- src/lib.rt:58:8
 speaks-of-requires : tie.Need-speaks-of-requires
 speaks-of-requires c κs = search needs
 
--- src/lib.rt:59:9
 visit-line-requires : tie.Need-visit-line-requires
 visit-line-requires c κs =
     let p = c .before .before .before .before .before .before .pre in
@@ -25,23 +18,18 @@ visit-line-requires c κs =
     let l = speaks-line (c .before .before .before .before .before .before .args .c) (c .before .before .before .before .before .before .args .k) b (c .before .before .before .before .before .before .args .e) (b .rule) (sym (c .before .before .before .speaks-of .ensures) ∙ c .before .before .if1 .taken) (p .0 .laid .voiced) in
     (p .0, p .1, l .0, omega (arith, l .1, p .2))
 
--- src/lib.rt:59:9
 same-length : tie.Need-same-length
 same-length c = search needs
 
--- src/lib.rt:59:9
 same-length-2 : tie.Need-same-length-2
 same-length-2 c = search needs
 
--- src/lib.rt:59:9
 returns : tie.Need-returns
 returns c = visited-if _ (c .before .before .before .before .before .before .before .before .speaks-of .ensures) (c .before .before .before .before .before .before .before .if1 .taken) (c .before .before .before .before .visit-line .ensures)
 
--- src/lib.rt:61:5
 done-requires : tie.Need-done-requires
 done-requires c κs = search needs
 
--- src/lib.rt:43:1
 returns-2 : tie.Need-returns-2
 returns-2 c = visited-done (c .done .ensures) (visited-else _ (c .before .before .speaks-of .ensures) (c .before .if1 .left) (c .before .before .before .before .before .pre .0 .trailing))
 

@@ -14,11 +14,6 @@ use Rattle.fanout.proofs.Letters.{letter-row}
 use Rattle.queue.proofs.Rows.{node-at, visited-done}
 use Rattle.queue.proofs.reach_letters.Statement.{statement}
 use Rattle.queue.proofs.reach_letters.Tie as tie
-use Rattle.queue.proofs.reach_letters.Reads as reads
-use Rattle.queue.proofs.reach_letters.Lts as lts
-use Rattle.clause_table.proofs.block_at.Reads as block-at-reads
-use Rattle.own.proofs.done.Reads as done-reads
-use Rattle.queue.proofs.reach_letter.Reads as reach-letter-reads
 
 abbrev Inv-loop : tie.InvT-loop
 Inv-loop values₀ trail₀ top kinds numbers sizes firsts parents count c k all t e last₀ x₀ values trail last x =
@@ -28,58 +23,45 @@ Inv-loop values₀ trail₀ top kinds numbers sizes firsts parents count c k all
 abbrev μ-loop : tie.MeasureT-loop
 μ-loop values₀ trail₀ top kinds numbers sizes firsts parents count c k all t e last₀ x₀ values trail last x = count - x
 
--- src/lib.rt:86:5
 loop-holds : tie.Need-loop-holds Inv-loop μ-loop
 loop-holds c = (refl, refl, omega arith, loop-begun _ (c .before .before .pre .0 .1))
 
--- src/lib.rt:87:13
 block-at-requires : tie.Need-block-at-requires Inv-loop μ-loop
 block-at-requires c κs = let g = c .before .before .before .before .pre .0 .0 in (g .steps, omega (arith, c .loop-test .taken, g .few), g .low)
 
--- src/lib.rt:88:13
 reach-letter-requires : tie.Need-reach-letter-requires Inv-loop μ-loop
 reach-letter-requires c κs =
     let p = c .before .before .before .before .before .before .before .pre in
     let i = c .before .before .before .before .loop .inv in
     (node-at (c .before .before .before .before .loop .x) (p .0 .0) (i .0) (c .before .before .before .loop-test .taken) (c .before .before .block-at .ensures .0) (c .before .before .block-at .ensures .1 (c .before .before .before .before .before .before .before .args .c) (p .0 .0 .channels)) (i .3 .grown .trailing), p .1 .0, p .1 .1)
 
--- src/lib.rt:90:13
 same-length : tie.Need-same-length Inv-loop μ-loop
 same-length c = search needs
 
--- src/lib.rt:90:13
 same-length-2 : tie.Need-same-length-2 Inv-loop μ-loop
 same-length-2 c = search needs
 
--- src/lib.rt:90:13
 returns : tie.Need-returns Inv-loop μ-loop
 returns c = let i = c .before .before .before .before .before .before .before .before .before .before .loop .inv in loop-stop (letterAt (c .before .before .before .before .before .before .before .before .before .before .before .before .before .args .c) (c .before .before .before .before .before .before .before .before .before .before .before .before .before .args .k) (c .before .before .before .before .before .before .before .before .before .before .before .before .before .args .kinds .now) (c .before .before .before .before .before .before .before .before .before .before .before .before .before .args .numbers .now) (c .before .before .before .before .before .before .before .before .before .before .before .before .before .args .sizes .now) (c .before .before .before .before .before .before .before .before .before .before .before .before .before .args .firsts .now) (c .before .before .before .before .before .before .before .before .before .before .before .before .before .args .t) (c .before .before .before .before .before .before .before .before .before .before .before .before .before .args .e)) _ (i .3) (letter-row (c .before .before .before .before .before .before .before .before .before .before .before .before .before .args .c) (c .before .before .before .before .before .before .before .before .before .before .before .before .before .args .k) (c .before .before .before .before .before .before .before .before .before .before .before .before .before .args .kinds .now) (c .before .before .before .before .before .before .before .before .before .before .before .before .before .args .numbers .now) (c .before .before .before .before .before .before .before .before .before .before .before .before .before .args .sizes .now) (c .before .before .before .before .before .before .before .before .before .before .before .before .before .args .firsts .now) (c .before .before .before .before .before .before .before .before .before .before .before .before .before .args .t) (c .before .before .before .before .before .before .before .before .before .before .before .before .before .args .e) (c .before .before .before .before .before .before .before .before .before .before .loop .x) (c .before .before .before .before .before .before .before .before .block-at .result) (c .before .before .before .before .before .before .before .before .block-at .ensures .0)) (c .before .before .before .before .before .reach-letter .ensures) (c .before .before .before .before .before .before .before .before .before .before .before .before .before .args .count) (c .before .before .before .before .before .before .before .before .before .loop-test .taken) (c .if1 .taken)
 
--- src/lib.rt:86:9
 add-x : tie.Need-add-x Inv-loop μ-loop
 add-x c = search needs
 
--- src/lib.rt:86:5
 loop-less : tie.Need-loop-less Inv-loop μ-loop
 loop-less c = omega (arith, c .before .before .before .before .before .before .before .before .before .loop-test .taken)
 
--- src/lib.rt:86:5
 loop-again : tie.Need-loop-again Inv-loop μ-loop
 loop-again c = let i = c .before .before .before .before .before .before .before .before .before .before .loop .inv in let q = c .before .before .before .before .before .reach-letter in (q .kept .0 ∙ i .0, q .kept .1 .0 ∙ i .1, omega (arith, c .before .before .before .before .before .before .before .before .before .loop-test .taken), loop-turn (letterAt (c .before .before .before .before .before .before .before .before .before .before .before .before .before .args .c) (c .before .before .before .before .before .before .before .before .before .before .before .before .before .args .k) (c .before .before .before .before .before .before .before .before .before .before .before .before .before .args .kinds .now) (c .before .before .before .before .before .before .before .before .before .before .before .before .before .args .numbers .now) (c .before .before .before .before .before .before .before .before .before .before .before .before .before .args .sizes .now) (c .before .before .before .before .before .before .before .before .before .before .before .before .before .args .firsts .now) (c .before .before .before .before .before .before .before .before .before .before .before .before .before .args .t) (c .before .before .before .before .before .before .before .before .before .before .before .before .before .args .e)) _ (i .3) (letter-row (c .before .before .before .before .before .before .before .before .before .before .before .before .before .args .c) (c .before .before .before .before .before .before .before .before .before .before .before .before .before .args .k) (c .before .before .before .before .before .before .before .before .before .before .before .before .before .args .kinds .now) (c .before .before .before .before .before .before .before .before .before .before .before .before .before .args .numbers .now) (c .before .before .before .before .before .before .before .before .before .before .before .before .before .args .sizes .now) (c .before .before .before .before .before .before .before .before .before .before .before .before .before .args .firsts .now) (c .before .before .before .before .before .before .before .before .before .before .before .before .before .args .t) (c .before .before .before .before .before .before .before .before .before .before .before .before .before .args .e) (c .before .before .before .before .before .before .before .before .before .before .loop .x) (c .before .before .before .before .before .before .before .before .block-at .result) (c .before .before .before .before .before .before .before .before .block-at .ensures .0)) (q .ensures) (c .if1 .left))
 
--- src/lib.rt:94:5
 done-requires : tie.Need-done-requires Inv-loop μ-loop
 done-requires c κs = search needs
 
--- src/lib.rt:65:1
 same-length-3 : tie.Need-same-length-3 Inv-loop μ-loop
 same-length-3 c = search needs
 
--- src/lib.rt:65:1
 same-length-4 : tie.Need-same-length-4 Inv-loop μ-loop
 same-length-4 c = search needs
 
--- src/lib.rt:65:1
 returns-2 : tie.Need-returns-2 Inv-loop μ-loop
 returns-2 c = let i = c .before .before .loop .inv in visited-done (c .done .ensures) (loop-done (letterAt (c .before .before .before .before .before .args .c) (c .before .before .before .before .before .args .k) (c .before .before .before .before .before .args .kinds .now) (c .before .before .before .before .before .args .numbers .now) (c .before .before .before .before .before .args .sizes .now) (c .before .before .before .before .before .args .firsts .now) (c .before .before .before .before .before .args .t) (c .before .before .before .before .before .args .e)) (c .before .before .before .before .before .args .count) _ (i .2) (omega (arith, c .before .loop-test .left)) (i .3))
 

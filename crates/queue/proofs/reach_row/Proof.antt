@@ -14,24 +14,14 @@ use Rattle.queue.proofs.Rows.{node-at, other-row}
 use borrow.Author.Needs.{needs}
 use Rattle.queue.proofs.reach_row.Statement.{statement}
 use Rattle.queue.proofs.reach_row.Tie as tie
-use Rattle.queue.proofs.reach_row.Reads as reads
-use Rattle.queue.proofs.reach_row.Lts as lts
-use Rattle.clause_table.proofs.block_at.Reads as block-at-reads
-use Rattle.clause_table.proofs.seat.Reads as seat-reads
-use Rattle.decode.proofs.last_from.Reads as last-from-reads
 use Rattle.own.proofs.reach.Reads as reach-reads
-use Rattle.part.proofs.reach.Reads as reach-reads′
-use Rattle.visits.proofs.visit.Reads as visit-reads
 
--- src/lib.rt:143:9
 last-from-requires : tie.Need-last-from-requires
 last-from-requires c κs = let e : length (c .before .before .before .before .before .args .firsts .now) ≡ maxNodes = search needs in let g = c .before .before .before .before .before .pre .0 .0 in (g .some, omega (arith, e, g .few), first-le g (c .before .before .before .before .before .pre .1 .2))
 
--- src/lib.rt:144:9
 block-at-requires : tie.Need-block-at-requires
 block-at-requires c κs = let g = c .before .before .before .before .before .before .pre .0 .0 in (g .steps, omega (arith, (c .last-from .ensures) .below, g .few), g .low)
 
--- src/lib.rt:145:9
 reach-requires : tie.Need-reach-requires
 reach-requires c κs =
     let p = c .before .before .before .before .before .before .before .before .before .pre in
@@ -40,15 +30,12 @@ reach-requires c κs =
     let b = c .before .before .block-at .ensures in
     (node-at (c .before .before .before .last-from .result) g refl (z .below) (b .0) (b .1 (c .before .before .before .before .before .before .before .before .before .args .c) (g .channels)) (p .0 .1), p .1 .1, p .1 .0, in-block (g .grid) _ (z .below) (b .0) (row-found g (p .1 .3) (z .below) (z .from) (z .next)))
 
--- src/lib.rt:147:9
 same-length : tie.Need-same-length
 same-length c = search needs
 
--- src/lib.rt:147:9
 same-length-2 : tie.Need-same-length-2
 same-length-2 c = search needs
 
--- src/lib.rt:147:9
 returns : tie.Need-returns
 returns c =
     let p = c .before .before .before .before .before .before .before .before .before .before .before .before .before .before .before .pre in
@@ -56,19 +43,15 @@ returns c =
     let z = c .before .before .before .before .before .before .before .before .before .last-from .ensures in
     near-stop (g .grid) (c .before .before .before .before .before .before .before .before .before .before .before .before .before .before .before .args .u) (c .before .before .before .before .before .before .before .before .before .last-from .result) (z .below) (row-found g (p .1 .3) (z .below) (z .from) (z .next)) (c .before .before .before .before .before .before .before .before .block-at .ensures .0) (c .before .before .before .before .before .reach .ensures) (c .if1 .taken)
 
--- src/lib.rt:150:17
 element-copy-out-y : tie.Need-element-copy-out-y
 element-copy-out-y c = omega (arith, c .before .before .before .before .before .before .before .before .before .before .last-from .ensures .below, c .before .before .before .before .before .before .before .before .before .before .before .before .before .before .before .before .pre .0 .0 .few)
 
--- src/lib.rt:150:17
 cast-y : tie.Need-cast-y
 cast-y c = let g = c .before .before .before .before .before .before .before .before .before .before .before .before .before .before .before .before .before .pre .0 .0 in omega (arith, g .few, g .grid .upward (c .before .before .before .before .before .before .before .before .before .before .before .last-from .result) (c .before .before .before .before .before .before .before .before .before .before .before .last-from .ensures .below))
 
--- src/lib.rt:151:13
 block-at-requires-2 : tie.Need-block-at-requires-2
 block-at-requires-2 c κs = let g = c .before .before .before .before .before .before .before .before .before .before .before .before .before .before .before .before .before .pre .0 .0 in (g .steps, omega (arith, g .few, g .grid .upward (c .before .before .before .before .before .before .before .before .before .before .before .last-from .result) (c .before .before .before .before .before .before .before .before .before .before .before .last-from .ensures .below)), g .low)
 
--- src/lib.rt:152:9
 reach-requires-2 : tie.Need-reach-requires-2
 reach-requires-2 c κs =
     let p = c .before .before .before .before .before .before .before .before .before .before .before .before .before .before .before .before .before .before .before .before .pre in
@@ -79,15 +62,12 @@ reach-requires-2 c κs =
     let i = row-found g (p .1 .3) (z .below) (z .from) (z .next) in
     ((node-at _ g (c .before .before .before .before .before .before .before .before .before .before .reach .kept .0) l (b .0) (b .1 (c .before .before .before .before .before .before .before .before .before .before .before .before .before .before .before .before .before .before .before .before .args .c) (g .channels)) (c .before .before .before .before .before .before .before .before .before .before .reach .ensures .grown .trailing), p .1 .1, not-own (g .grid) _ l (c .before .before .before .before .before .before .before .before .before .before .before .before .before .before .last-from .result) (c .before .before .before .before .before .before .before .before .before .before .before .before .before .before .before .before .before .before .before .before .args .u) (z .below) i (other-row g (z .below) (c .before .before .before .before .if2 .taken)) (b .0), p .1 .2), (p .1 .0 .room, p .1 .0 .intervals-to))
 
--- src/lib.rt:152:9
 same-length-3 : tie.Need-same-length-3
 same-length-3 c = search needs
 
--- src/lib.rt:152:9
 same-length-4 : tie.Need-same-length-4
 same-length-4 c = search needs
 
--- src/lib.rt:152:9
 returns-2 : tie.Need-returns-2
 returns-2 c =
     let p = c .before .before .before .before .before .before .before .before .before .before .before .before .before .before .before .before .before .before .before .before .before .before .before .before .before .pre in
@@ -95,23 +75,18 @@ returns-2 c =
     let z = c .before .before .before .before .before .before .before .before .before .before .before .before .before .before .before .before .before .before .before .last-from .ensures in
     near-part (g .grid) (c .before .before .before .before .before .before .before .before .before .before .before .before .before .before .before .before .before .before .before .before .before .before .before .before .before .args .u) (c .before .before .before .before .before .before .before .before .before .before .before .before .before .before .before .before .before .before .before .last-from .result) (z .below) (row-found g (p .1 .3) (z .below) (z .from) (z .next)) (c .before .before .before .before .before .before .before .before .before .before .before .before .before .before .before .before .before .before .block-at .ensures .0) (c .before .before .before .before .before .before .before .before .before .before .before .before .before .before .before .reach .ensures) (c .before .before .before .before .before .before .before .before .before .if2 .taken) (c .before .before .before .before .before .before .before .before .before .before .if1 .left) (c .before .before .before .before .before .before .before .block-at2 .ensures .0) (c .before .before .before .before .reach2 .ensures)
 
--- src/lib.rt:154:16
 seat-requires : tie.Need-seat-requires
 seat-requires c κs = let g = c .before .before .before .before .before .before .before .before .before .before .before .before .before .before .before .before .pre .0 .0 in (g .steps, g .low)
 
--- src/lib.rt:154:16
 add-root : tie.Need-add-root
 add-root c = omega (arith, c .before .before .before .before .before .before .before .before .before .before .before .before .before .before .before .before .before .pre .0 .0 .steps, c .seat .ensures)
 
--- src/lib.rt:156:9
 same-length-5 : tie.Need-same-length-5
 same-length-5 c = search needs
 
--- src/lib.rt:156:9
 same-length-6 : tie.Need-same-length-6
 same-length-6 c = search needs
 
--- src/lib.rt:156:9
 returns-3 : tie.Need-returns-3
 returns-3 c =
     let p = c .before .before .before .before .before .before .before .before .before .before .before .before .before .before .before .before .before .before .pre in
@@ -119,19 +94,15 @@ returns-3 c =
     let z = c .before .before .before .before .before .before .before .before .before .before .before .before .last-from .ensures in
     near-alone (g .grid) (c .before .before .before .before .before .before .before .before .before .before .before .before .before .before .before .before .before .before .args .u) (c .before .before .before .before .before .before .before .before .before .before .before .before .last-from .result) (z .below) (row-found g (p .1 .3) (z .below) (z .from) (z .next)) (c .before .before .before .before .before .before .before .before .before .before .before .block-at .ensures .0) (c .before .before .before .before .before .before .before .before .reach .ensures) (c .before .before .if2 .left) (ap (λ (s : ℕ). s + c .before .before .before .before .before .before .before .before .before .before .before .before .before .before .before .before .before .before .args .k) (c .before .seat .ensures .0)) (c .if3 .taken)
 
--- src/lib.rt:158:5
 visit-requires : tie.Need-visit-requires
 visit-requires c κs = (c .before .before .before .before .before .before .before .before .before .before .reach .ensures .grown .trailing, there (c .before .before .before .before .before .before .before .before .before .before .reach .kept .0) (seated _ (c .before .before .before .seat .ensures .0) (c .before .before .before .before .before .before .before .before .before .before .before .before .before .before .before .before .before .before .before .before .pre .0 .0 .root)), tt, tt)
 
--- src/lib.rt:122:1
 same-length-7 : tie.Need-same-length-7
 same-length-7 c = search needs
 
--- src/lib.rt:122:1
 same-length-8 : tie.Need-same-length-8
 same-length-8 c = search needs
 
--- src/lib.rt:122:1
 returns-4 : tie.Need-returns-4
 returns-4 c =
     let p = c .before .before .before .before .before .before .before .before .before .before .before .before .before .before .before .before .before .before .before .before .before .before .before .before .before .pre in

@@ -5,40 +5,28 @@ use Rattle.fanout.proofs.Ground.{ground-still}
 use borrow.Author.Needs.{needs}
 use Rattle.queue.proofs.start.Statement.{statement}
 use Rattle.queue.proofs.start.Tie as tie
-use Rattle.queue.proofs.start.Reads as reads
-use Rattle.queue.proofs.start.Lts as lts
-use Rattle.queue.proofs.close.Reads as close-reads
-use Rattle.sweeps.proofs.sweep.Reads as sweep-reads
 
--- src/lib.rt:232:9
 sweep-requires : tie.Need-sweep-requires
 sweep-requires c κs = let g = c .before .before .before .before .before .before .pre .0 .0 in ((g .channels, g .steps, g .few, g .low, c .before .before .before .before .before .before .pre .1), (g .root, g .mentioned))
 
--- src/lib.rt:234:9
 same-length : tie.Need-same-length
 same-length c = search needs
 
--- src/lib.rt:234:9
 same-length-2 : tie.Need-same-length-2
 same-length-2 c = search needs
 
--- src/lib.rt:234:9
 returns : tie.Need-returns
 returns c = swept-clash (c .before .before .before .before .before .sweep .ensures) (c .if1 .taken)
 
--- src/lib.rt:236:5
 close-requires : tie.Need-close-requires
 close-requires c κs = let p = c .before .before .before .before .before .before .before .before .before .before .before .before .before .before .pre .0 in ((ground-still (c .before .before .before .before .before .before .before .sweep .kept .0) (p .0), p .1), swept-pending (c .before .before .before .before .before .before .before .sweep .ensures) (c .before .before .if1 .left))
 
--- src/lib.rt:214:1
 same-length-3 : tie.Need-same-length-3
 same-length-3 c = search needs
 
--- src/lib.rt:214:1
 same-length-4 : tie.Need-same-length-4
 same-length-4 c = search needs
 
--- src/lib.rt:214:1
 returns-2 : tie.Need-returns-2
 returns-2 c = swept-closed (c .before .before .before .before .before .before .before .before .before .before .before .before .sweep .ensures) (c .before .before .before .before .before .before .before .if1 .left) (c .before .before .before .before .close .ensures)
 
