@@ -1,4 +1,5 @@
--- The table of intervals: the next interval has the next place, and what is stored is read back.
+-- The table of intervals: the next interval has the next place, and what is stored is read back. A triple: its start is the last whose
+-- triples begin at its place or before, and length and cut stand after that as the intervals do from the last to the first.
 use mathlib.Core.Path.{_≡_, sym, ap, _∙_, subst}
 use mathlib.Core.Logic.{by-cases}
 use mathlib.Core.List.{List}
