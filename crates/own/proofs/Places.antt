@@ -275,9 +275,6 @@ module _ (k : ℕ) (b : Block) (w x : ℕ) {t : Block} (e : t ≡ tripleBlock w 
   pub triple-here : (v : Triple) → TripleIn k x v → Placed (t .points) k (t .rule) x (v .i) (v .j - v .i) (v .m - v .i)
   triple-here v o = subst (λ (t : Block). Placed (t .points) k (t .rule) x (v .i) (v .j - v .i) (v .m - v .i)) (sym e) (triple-placed (b .points) k x v o)
 
-  pub triple-no-chop : {X : Type 0} → t .rule ≡ Chop → X
-  triple-no-chop f = let g : Cut ≡ Chop = sym (ap (λ (t : Block). t .rule) e) ∙ f in absurd (false≢true cc)
-
 module _ (k : ℕ) (b : Block) (w : ℕ) {s : Block} (e : s ≡ intervalBlock w b) (v : Interval) where
   pub interval-here : {x : ℕ} → InPlace k x v → Placed (s .points) k (s .rule) x 0 (v .i) (v .j - v .i)
   interval-here {x} o = subst (λ (s : Block). Placed (s .points) k (s .rule) x 0 (v .i) (v .j - v .i)) (sym e) (interval-placed (b .points) k x v o)

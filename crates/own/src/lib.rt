@@ -164,23 +164,8 @@ fn reach_triple(
     let d = t.j as u32 - i;
     let e = t.m as u32 - i;
     let w = node_clauses::beyond(block.first, k);
-    let p = Position {
-        row: i,
-        line: d,
-        cell: e,
-        before: 0,
-    };
-    let r = walks::visit_at(
-        values,
-        trail,
-        top,
-        c,
-        k,
-        all,
-        node_clauses::triples_of(w, block),
-        x,
-        p,
-    );
+    let triples = node_clauses::triples_of(w, block);
+    let r = walks::visit_cut(values, trail, top, c, k, all, triples, x, i, d, e);
     if r.clash {
         return r;
     }

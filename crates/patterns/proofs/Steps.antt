@@ -4,7 +4,7 @@ use mathlib.Core.Path.{_≡_, refl, sym, ap, ap₂, _∙_, subst, fun-ext}
 use mathlib.Core.Bool.{Bool, true, false, true≢false, false≢true}
 use mathlib.Core.List.{List, [], _∷_}
 use mathlib.Core.Option.{Option, none, some}
-use Prim.Native.Nat.{ℕ, zero, suc, _+_, _-_, _*_, _%_, _≤_, _<_}
+use Prim.Native.Nat.{ℕ, zero, suc, _+_, _-_, _*_, _/_, _%_, _^_, _≤_, _<_}
 use native.Mathlib.Omega.{arith}
 use lib.Arith.{lt-of-le-ne}
 use lib.Dec.{eqb}
@@ -21,7 +21,7 @@ use Rattle.closure.proofs.Open.{both-clash}
 use Rattle.closing.specs.Values.{valueFor, held, heldIn, Trailing, Grown, Added}
 use Rattle.closing.specs.declared.Closed.{Closed as Ended}
 use Rattle.closing.proofs.Trail.{held-le, grown-none, grown-length, grown-same, grown-more}
-use Rattle.patterns.specs.Patterns.{valueAt, Settled, patternOf, among, renameBy, renamed, codeOf, fourOf, forcedBy, Forces}
+use Rattle.patterns.specs.Patterns.{valueAt, Settled, patternOf, among, renameBy, renamed, codeOf, fourOf, forcedBy, Forces, endedBy}
 use Rattle.gates.specs.Mentioned.{Variable}
 use Rattle.patterns.specs.declared.Next.the-variants as next
 use Rattle.patterns.proofs.Renamed.{closed-to, closed-from}
@@ -118,6 +118,9 @@ pub visits-none : (T : List Clause) {values trail : List ℕ} {top : ℕ} → Tr
 visits-none T t = record { grown = grown-none t; same = refl }
 
 module _ {T : List Clause} {v₀ t₀ values trail : List ℕ} {top₀ top : ℕ} (P : Visits T v₀ t₀ top₀ values trail top) where
+  pub visits-few : top < 2 ^ 32
+  visits-few = let t = P .grown .trailing in omega (arith, t .full, t .few, held-le values)
+
   pub settled : heldIn values ≡ closure T (heldIn values) → Settled T v₀ t₀ top₀ values trail (record { clash = false; top = top })
   settled c = record { grown = P .grown; same = P .same; calm = λ _. c; clashing = λ e. absurd (false≢true e) }
 
@@ -155,3 +158,14 @@ patterns v x y z = (refl, refl, refl, refl, refl, refl, refl)
 
 pub settled-named : {T P : List Clause} {v₀ t₀ values trail : List ℕ} {top₀ : ℕ} {r : Ended} → T ≡ P → Settled T v₀ t₀ top₀ values trail r → Settled P v₀ t₀ top₀ values trail r
 settled-named {v₀ = v₀} {t₀} {values} {trail} {top₀} {r} e w = subst (λ (P : List Clause). Settled P v₀ t₀ top₀ values trail r) e w
+
+-- ---- how it ended, as one number
+
+pub ended-named : {T : List Clause} {v₀ t₀ values trail : List ℕ} {top₀ : ℕ} {r s : Ended} → r ≡ s → Settled T v₀ t₀ top₀ values trail s → Settled T v₀ t₀ top₀ values trail r
+ended-named {T} {v₀} {t₀} {values} {trail} {top₀} e w = subst (λ (r : Ended). Settled T v₀ t₀ top₀ values trail r) (sym e) w
+
+pub calm-ended : {T : List Clause} {v₀ t₀ values trail : List ℕ} {top₀ t : ℕ} → Settled T v₀ t₀ top₀ values trail (record { clash = false; top = t }) → Settled T v₀ t₀ top₀ values trail (endedBy (2 * t))
+calm-ended {t = t} w = let e : 2 * t % 2 ≡ 0 = omega arith in let f : 2 * t / 2 ≡ t = omega arith in rw (e, f) w
+
+pub clash-ended : {T : List Clause} {v₀ t₀ values trail : List ℕ} {top₀ t : ℕ} → Settled T v₀ t₀ top₀ values trail (record { clash = true; top = t }) → Settled T v₀ t₀ top₀ values trail (endedBy (2 * t + 1))
+clash-ended {t = t} w = let e : (2 * t + 1) % 2 ≡ 1 = omega arith in let f : (2 * t + 1) / 2 ≡ t = omega arith in rw (e, f) w

@@ -3,7 +3,7 @@
 use mathlib.Core.Path.{_≡_, refl, sym, ap, _∙_, subst}
 use mathlib.Core.Bool.{Bool, true, false, cond, not, _&&_, _||_}
 use mathlib.Core.List.{List, [], _∷_, flatMap}
-use Prim.Native.Nat.{ℕ, zero, suc, _+_, _*_, _/_, _%_, _^_, _≤_, _<_}
+use Prim.Native.Nat.{ℕ, zero, suc, _+_, _*_, _/_, _%_, _^_, _≤_, _<_, zero-le}
 use native.Mathlib.Omega.{arith}
 use native.Mathlib.Nat.{eq-or-lt-of-le}
 use mathlib.Core.Logic.{_⊎_, ⊎-elim}
@@ -16,7 +16,7 @@ use Rattle.closure.specs.Closure.{allOpposed, membersOf, membersIn}
 use Rattle.closure.specs.Tree.{firstForced}
 use Rattle.closure.proofs.Sets.{or-cases}
 use Rattle.closing.specs.Values.{heldIn}
-use Rattle.patterns.specs.Patterns.{patternOf, forcedBy}
+use Rattle.patterns.specs.Patterns.{patternOf, forcedBy, Quiets}
 
 unfoldable pub copyTable : List ℕ
 copyTable = 0 ∷ 7 ∷ 6 ∷ 5 ∷ 0 ∷ 5 ∷ 4 ∷ 4 ∷ 0 ∷ 0 ∷ 7 ∷ 6 ∷ 5 ∷ 0 ∷ 5 ∷ 4 ∷ 4 ∷ 0 ∷ 0 ∷ 7 ∷ 6 ∷ 5 ∷ 0 ∷ 5 ∷ 4 ∷ 4 ∷ 0 ∷ []
@@ -94,38 +94,51 @@ module _ (g a b c d : ℕ) (hg : g < 8) (ha : a ≤ 2) (hb : b ≤ 2) (hc : c �
       let x : a + 3 * b + 9 * c + 27 * cond (eqb g 4) d 0 ≡ p + 3 * q + 9 * r + 27 * s = ap (λ (s : Bool). a + 3 * b + 9 * c + 27 * cond s d 0) f ∙ omega (arith, i, j, k, l) in
       subst (λ (h : ℕ). Says h (p + 3 * q + 9 * r + 27 * s)) (sym e) (subst (Says g) x found)
 
+-- the gate that is left
+up : {n k : ℕ} → n ≤ k → (k ≡ n → ⊥) → suc n ≤ k
+up h f = omega arith
+
+pub last-gate : {g : ℕ} → g < 8 → (g ≡ 0 → ⊥) → (g ≡ 1 → ⊥) → (g ≡ 2 → ⊥) → (g ≡ 3 → ⊥) → (g ≡ 4 → ⊥) → (g ≡ 5 → ⊥) → (g ≡ 6 → ⊥) → g ≡ 7
+last-gate h a b c d e f i = omega (arith, h, up (up (up (up (up (up (up zero-le a) b) c) d) e) f) i)
+
 -- ---- where nothing is forced, by the bits
 
 abbrev quiet : ℕ → ℕ → Bool
 quiet m i = eqb (m / 2 ^ i % 2) 1
 
-abbrev pub stepMask : ℕ → ℕ
-stepMask d = getD (71608147 ∷ 71640147 ∷ 71705361 ∷ []) d 0
-
 -- a bit says so only where it is so
 abbrev honest : ℕ → ℕ → ℕ → Bool
 honest m i e = not (quiet m i) || eqb e 0
 
-all-honest : every 3 (λ a. every 3 (λ b. every 3 (λ c. honest 76686093 (a + 3 * b + 9 * c) (forcedBy 2 a b c a) && every 3 (λ d. honest (stepMask d) (a + 3 * b + 9 * c) (forcedBy 4 a b c d))))) ≡ true
-unfolding forcedBy patternOf clausesOf membersIn membersOf flatMap firstForced allOpposed heldIn
-all-honest = refl
-
 by-honest : (m i e : ℕ) → honest m i e ≡ true → quiet m i ≡ true → e ≡ 0
 by-honest m i e h q = eqb-true e 0 (sym (ap (λ (b : Bool). not b || eqb e 0) q) ∙ h)
 
-module _ (a b c : ℕ) (ha : a ≤ 2) (hb : b ≤ 2) (hc : c ≤ 2) where
-  bits : honest 76686093 (a + 3 * b + 9 * c) (forcedBy 2 a b c a) && every 3 (λ d. honest (stepMask d) (a + 3 * b + 9 * c) (forcedBy 4 a b c d)) ≡ true
-  bits =
-      at 3 (λ c. honest 76686093 (a + 3 * b + 9 * c) (forcedBy 2 a b c a) && every 3 (λ d. honest (stepMask d) (a + 3 * b + 9 * c) (forcedBy 4 a b c d)))
-      (at 3 (λ b. every 3 (λ c. honest 76686093 (a + 3 * b + 9 * c) (forcedBy 2 a b c a) && every 3 (λ d. honest (stepMask d) (a + 3 * b + 9 * c) (forcedBy 4 a b c d))))
-      (at 3 (λ a. every 3 (λ b. every 3 (λ c. honest 76686093 (a + 3 * b + 9 * c) (forcedBy 2 a b c a) && every 3 (λ d. honest (stepMask d) (a + 3 * b + 9 * c) (forcedBy 4 a b c d))))) all-honest
-      a (omega arith)) b (omega arith)) c (omega arith)
+-- bits for a gate, or for each value of its fourth variable: tried at each four values
+abbrev tried : (ℕ → ℕ) → ℕ → Bool
+tried f g = every 3 (λ a. every 3 (λ b. every 3 (λ c. every 3 (λ d. honest (f d) (a + 3 * b + 9 * c) (forcedBy g a b c d)))))
 
-  both-bits : (honest 76686093 (a + 3 * b + 9 * c) (forcedBy 2 a b c a) ≡ true) × (every 3 (λ d. honest (stepMask d) (a + 3 * b + 9 * c) (forcedBy 4 a b c d)) ≡ true)
-  both-bits = both _ (every 3 (λ d. honest (stepMask d) (a + 3 * b + 9 * c) (forcedBy 4 a b c d))) bits
+by-tried : (f : ℕ → ℕ) (g : ℕ) → tried f g ≡ true → (a b c d : ℕ) → a ≤ 2 → b ≤ 2 → c ≤ 2 → d ≤ 2 → quiet (f d) (a + 3 * b + 9 * c) ≡ true → forcedBy g a b c d ≡ 0
+by-tried f g t a b c d ha hb hc hd =
+    by-honest (f d) (a + 3 * b + 9 * c) (forcedBy g a b c d) (at 3 (λ d. honest (f d) (a + 3 * b + 9 * c) (forcedBy g a b c d)) (at 3 (λ c. every 3 (λ d. honest (f d) (a + 3 * b + 9 * c) (forcedBy g a b c d)))
+    (at 3 (λ b. every 3 (λ c. every 3 (λ d. honest (f d) (a + 3 * b + 9 * c) (forcedBy g a b c d)))) (at 3 (λ a. every 3 (λ b. every 3 (λ c. every 3 (λ d. honest (f d) (a + 3 * b + 9 * c) (forcedBy g a b c d))))) t
+    a (omega arith)) b (omega arith)) c (omega arith)) d (omega arith))
 
-  pub both-bit : {p q r : ℕ} → p ≡ a → q ≡ b → r ≡ c → quiet 76686093 (p + 3 * q + 9 * r) ≡ true → forcedBy 2 a b c a ≡ 0
-  both-bit i j k q = by-honest 76686093 (a + 3 * b + 9 * c) (forcedBy 2 a b c a) (both-bits .0) (rw (i, j, k) at q)
+abbrev pub bitsOf : ℕ → ℕ
+bitsOf g = getD (71705361 ∷ 42287777 ∷ 76686093 ∷ 71640147 ∷ 71573521 ∷ 76695844 ∷ 38347922 ∷ 122660819 ∷ []) g 0
 
-  pub step-bit : (d : ℕ) → d ≤ 2 → {p q r m : ℕ} → p ≡ a → q ≡ b → r ≡ c → m ≡ stepMask d → quiet m (p + 3 * q + 9 * r) ≡ true → forcedBy 4 a b c d ≡ 0
-  step-bit d h i j k l q = by-honest (stepMask d) (a + 3 * b + 9 * c) (forcedBy 4 a b c d) (at 3 (λ d. honest (stepMask d) (a + 3 * b + 9 * c) (forcedBy 4 a b c d)) (both-bits .1) d (omega arith)) (rw (i, j, k, l) at q)
+all-honest : every 8 (λ g. tried (λ d. bitsOf g) g) ≡ true
+unfolding forcedBy patternOf clausesOf membersIn membersOf flatMap firstForced allOpposed heldIn
+all-honest = refl
+
+pub gate-quiets : (g : ℕ) {gate m : ℕ} → g < 8 → gate ≡ g → m ≡ bitsOf g → Quiets gate m
+gate-quiets g h e f = rw (e, f) (by-tried (λ d. bitsOf g) g (at 8 (λ g. tried (λ d. bitsOf g) g) all-honest g h))
+
+abbrev pub stepMask : ℕ → ℕ
+stepMask d = getD (71608147 ∷ 71640147 ∷ 71705361 ∷ []) d 0
+
+step-honest : tried stepMask 4 ≡ true
+unfolding forcedBy patternOf clausesOf membersIn membersOf flatMap firstForced allOpposed heldIn
+step-honest = refl
+
+pub step-bit : (a b c : ℕ) → a ≤ 2 → b ≤ 2 → c ≤ 2 → (d : ℕ) → d ≤ 2 → {p q r m : ℕ} → p ≡ a → q ≡ b → r ≡ c → m ≡ stepMask d → quiet m (p + 3 * q + 9 * r) ≡ true → forcedBy 4 a b c d ≡ 0
+step-bit a b c ha hb hc d hd i j k l q = by-tried stepMask 4 step-honest a b c d ha hb hc hd (rw (i, j, k, l) at q)

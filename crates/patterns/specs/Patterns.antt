@@ -4,7 +4,8 @@ use mathlib.Core.Path.{_≡_}
 use mathlib.Core.Bool.{true, false}
 use mathlib.Core.List.{List, [], _∷_, map}
 use mathlib.Core.Option.{Option, none, some}
-use Prim.Native.Nat.{ℕ, _+_, _-_, _*_}
+use Prim.Native.Nat.{ℕ, _+_, _-_, _*_, _/_, _%_, _^_, _≤_}
+use lib.Dec.{eqb}
 use lib.ListN.{length, getD}
 use Rattle.meaning.specs.Meaning.{bit}
 use Rattle.circuit.specs.declared.Gate.the-variants.{Constant, Copy, Inverse, Both, Either, Step}
@@ -63,3 +64,11 @@ abbrev pub Forces : List Clause → List ℕ → Next → Type 0
 Forces T values Nothing = heldIn values ≡ closure T (heldIn values)
 Forces T values (Literal u m) =
     Variable (length values) u × (closure T (heldIn values) (literalOf (entry u m)) ≡ true) × (heldIn values (literalOf (entry u m)) ≡ false)
+
+-- bits that say so where the gate's first three variables force nothing, a bit for each three values
+abbrev pub Quiets : ℕ → ℕ → Type 0
+Quiets gate bits = (a b c d : ℕ) → a ≤ 2 → b ≤ 2 → c ≤ 2 → d ≤ 2 → eqb (bits / 2 ^ (a + 3 * b + 9 * c) % 2) 1 ≡ true → forcedBy gate a b c d ≡ 0
+
+-- how a visit ended, and the top then, from one number
+abbrev pub endedBy : ℕ → Closed
+endedBy n = record { clash = eqb (n % 2) 1; top = n / 2 }

@@ -6,7 +6,7 @@ ghost use Prim.Native.Nat.{ℕ, _+_, _*_, _≤_, _<_};
 ghost use lib.ListN.{length, getD};
 ghost use Rattle.meaning.specs.Meaning.{bit};
 ghost use Rattle.closing.specs.Values.{Trailing};
-ghost use Rattle.patterns.specs.Patterns.{valueAt, Settled, patternOf, among, renamed, forcedBy, Forces};
+ghost use Rattle.patterns.specs.Patterns.{valueAt, Settled, patternOf, among, renamed, forcedBy, Forces, Quiets, endedBy};
 ghost use Rattle.gates.specs.Mentioned.{Variable, InputsIn};
 ghost use Rattle.circuit.specs.declared.Gate.the-variants.{Both, Step};
 ghost use Rattle.clauses.specs.Clauses.{clausesOf};
@@ -307,15 +307,29 @@ const RAISED: [u8; 27] = [
     0,
 ];
 
-// Where nothing is forced, a bit for each entry of a table: of both, and of a step for each value of its last variable. A visit looks here
-// first, since mostly nothing is.
+// Where nothing is forced, a bit for each entry of a table; of a step's where that is so whatever its last variable's value is, and for each
+// of that one's values. A visit looks here first, since mostly nothing is.
+const COPY_QUIET: u32 = 71705361;
+
+const INVERSE_QUIET: u32 = 42287777;
+
 const BOTH_QUIET: u32 = 76686093;
+
+const EITHER_QUIET: u32 = 71640147;
+
+const STEP_QUIET: u32 = 71573521;
 
 const STEP_QUIET_0: u32 = 71608147;
 
 const STEP_QUIET_1: u32 = 71640147;
 
 const STEP_QUIET_2: u32 = 71705361;
+
+const LOW_QUIET: u32 = 76695844;
+
+const HIGH_QUIET: u32 = 38347922;
+
+const RAISED_QUIET: u32 = 122660819;
 
 fn wide(x: u8) -> usize
     ensures { λ r. ⌜ r ≡ x ⌝ }
@@ -364,12 +378,29 @@ fn value(values: &[u8], v: u32) -> u8
     values[v as usize - 1]
 }
 
-// Nothing is forced by v, x and y where v is both.
-fn both_quiet(a: u8, b: u8, c: u8) -> bool
-    requires { ⌜ (a ≤ 2) × (b ≤ 2) × (c ≤ 2) ⌝ }
-    ensures { λ r. ⌜ (r ≡ true → forcedBy 2 a b c a ≡ 0) ⌝ }
+// A gate's bits.
+fn quiet_bits(gate: usize) -> u32
+    requires { ⌜ gate < 8 ⌝ }
+    ensures { λ r. ⌜ Quiets gate r ⌝ }
 {
-    (BOTH_QUIET >> (wide(a) + 3 * wide(b) + 9 * wide(c))) % 2 == 1
+    match gate {
+        0 => COPY_QUIET,
+        1 => INVERSE_QUIET,
+        2 => BOTH_QUIET,
+        3 => EITHER_QUIET,
+        4 => STEP_QUIET,
+        5 => LOW_QUIET,
+        6 => HIGH_QUIET,
+        _ => RAISED_QUIET,
+    }
+}
+
+// Nothing is forced by the gate's first three variables, whatever the fourth is.
+fn quiet(gate: usize, a: u8, b: u8, c: u8) -> bool
+    requires { ⌜ (gate < 8) × (a ≤ 2) × (b ≤ 2) × (c ≤ 2) ⌝ }
+    ensures { λ r. ⌜ ((d : ℕ) → d ≤ 2 → r ≡ true → forcedBy gate a b c d ≡ 0) ⌝ }
+{
+    (quiet_bits(gate) >> (wide(a) + 3 * wide(b) + 9 * wide(c))) % 2 == 1
 }
 
 // Nothing is forced by v, p, q and s where v is a step.
@@ -410,7 +441,8 @@ fn next_forced(values: &[u8], gate: usize, v: u32, x: u32, y: u32, z: u32) -> Ne
     Next::Literal(pick(e, v, x, y, z), e)
 }
 
-// One of the gates by its pattern, over these variables, of which something is forced.
+// One of the gates by its pattern, over these variables, of which something is forced: twice the top then, and 1 more for a clash, since a
+// number is handed back quicker than a struct.
 fn settle_on(
     values: &mut [u8],
     trail: &mut [u32],
@@ -420,27 +452,31 @@ fn settle_on(
     x: u32,
     y: u32,
     z: u32,
-) -> Closed
+) -> usize
     requires { ⌜ Trailing (now values) (now trail) top × (gate < 8) ⌝ }
     requires { ⌜ Variable (length (now values)) v × Variable (length (now values)) x × Variable (length (now values)) y × Variable (length (now values)) z ⌝ }
-    ensures { λ r. ⌜ Settled (renamed (among v x y z) (patternOf gate)) (now (values .entry)) (now (trail .entry)) top (now (values .exit)) (now (trail .exit)) r ⌝ }
+    ensures { λ r. ⌜ Settled (renamed (among v x y z) (patternOf gate)) (now (values .entry)) (now (trail .entry)) top (now (values .exit)) (now (trail .exit)) (endedBy r) ⌝ }
 {
     let mut t = top;
     loop {
         let next = next_forced(values, gate, v, x, y, z);
         let Next::Literal(u, e) = next else {
-            return Closed {
-                clash: false,
-                top: t,
-            };
+            return 2 * t;
         };
         if closing::opposed(values, u, e) {
-            return Closed {
-                clash: true,
-                top: t,
-            };
+            return 2 * t + 1;
         }
         t = closing::add(values, trail, t, u, e);
+    }
+}
+
+// How it ended, from that number.
+fn ended(n: usize) -> Closed
+    ensures { λ r. ⌜ r ≡ endedBy n ⌝ }
+{
+    Closed {
+        clash: n % 2 == 1,
+        top: n / 2,
     }
 }
 
@@ -459,17 +495,19 @@ pub fn settle_by(
     requires { ⌜ Variable (length (now values)) v × Variable (length (now values)) x × Variable (length (now values)) y × Variable (length (now values)) z ⌝ }
     ensures { λ r. ⌜ Settled (renamed (among v x y z) (patternOf gate)) (now (values .entry)) (now (trail .entry)) top (now (values .exit)) (now (trail .exit)) r ⌝ }
 {
-    let next = next_forced(values, gate, v, x, y, z);
-    if let Next::Nothing = next {
+    let a = value(values, v);
+    let b = value(values, x);
+    let c = value(values, y);
+    if quiet(gate, a, b, c) {
         return Closed {
             clash: false,
             top: top,
         };
     }
-    settle_on(values, trail, top, gate, v, x, y, z)
+    ended(settle_on(values, trail, top, gate, v, x, y, z))
 }
 
-// v is x and y: mostly nothing is forced.
+// v is x and y.
 pub fn settle_both(
     values: &mut [u8],
     trail: &mut [u32],
@@ -481,19 +519,10 @@ pub fn settle_both(
     requires { ⌜ Trailing (now values) (now trail) top × Variable (length (now values)) v × InputsIn (length (now values)) (Both x y) ⌝ }
     ensures { λ r. ⌜ Settled (clausesOf v (Both x y)) (now (values .entry)) (now (trail .entry)) top (now (values .exit)) (now (trail .exit)) r ⌝ }
 {
-    let a = value(values, v);
-    let b = value(values, x);
-    let c = value(values, y);
-    if both_quiet(a, b, c) {
-        return Closed {
-            clash: false,
-            top: top,
-        };
-    }
-    settle_on(values, trail, top, 2, v, x, y, v)
+    settle_by(values, trail, top, 2, v, x, y, v)
 }
 
-// v is p, or q and s: likewise.
+// v is p, or q and s: mostly nothing is forced.
 pub fn settle_step(
     values: &mut [u8],
     trail: &mut [u32],
@@ -516,5 +545,5 @@ pub fn settle_step(
             top: top,
         };
     }
-    settle_on(values, trail, top, 4, v, p, q, s)
+    ended(settle_on(values, trail, top, 4, v, p, q, s))
 }

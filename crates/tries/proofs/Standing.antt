@@ -210,7 +210,7 @@ module _ (T : List Clause) (channels : ℕ) where
           -- the values before its try low, with the trail as it is now
           back : let k = innermost .choice in Grown (k .values) (k .trail) (k .top) (k .values) trail (k .top)
           back = let k = innermost .choice in let g = innermost .since .grown in record {
-            trailing = record { small = k .ready .trailing .small; full = k .ready .trailing .full; room = omega (arith, grown-length g, g .trailing .room) };
+            trailing = record { small = k .ready .trailing .small; full = k .ready .trailing .full; room = omega (arith, grown-length g, g .trailing .room); few = k .ready .trailing .few };
             more = omega arith;
             same = g .same;
             ranged = record { each = λ j f t. absurd (omega arith) };

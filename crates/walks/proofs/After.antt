@@ -2,7 +2,7 @@
 -- variable are those that the code goes through.
 use mathlib.Core.Path.{_≡_, sym, ap, subst}
 use mathlib.Core.Logic.{inl, inr}
-use mathlib.Core.Bool.{Bool, true, false, cond, false≢true}
+use mathlib.Core.Bool.{Bool, true, false, cond}
 use mathlib.Core.List.{List, _++_}
 use Prim.Native.Nat.{ℕ, _+_, _*_, _≤_, _<_}
 use native.Mathlib.Nat.{suc-mul}
@@ -17,17 +17,13 @@ use Rattle.blocks.specs.Blocks.{shapeOf, definedBy, Placed}
 use Rattle.blocks.specs.declared.Block.{Block}
 use Rattle.blocks.specs.declared.Position.{Position}
 use Rattle.blocks.specs.declared.Rule.{Rule}
-use Rattle.blocks.specs.declared.Rule.the-variants.{Chop, Duration}
+use Rattle.blocks.specs.declared.Rule.the-variants.{Duration}
 use Rattle.clauses.specs.Clauses.{Clause}
 use Rattle.sweeps.specs.Sweeps.{clausesAt}
 use Rattle.visits.proofs.Loops.{rows-rest}
 use Rattle.fanout.specs.Walks.{afterCount, afterPlace, afterClauses}
 use Rattle.fanout.proofs.Fine.{level-place}
 use Rattle.fanout.specs.Fanout.{Levels}
-
-pub no-chop : {X : Type 0} {r : Rule} {n : ℕ} → Levels r n → r ≡ Chop → X
-no-chop (inl e) f = absurd (false≢true cc)
-no-chop (inr e) f = let g = e .0 in absurd (false≢true cc)
 
 longer-next : (k i d : ℕ) → placeOf k (record { i = i; j = i + (d + 1) }) ≡ placeOf k (record { i = i; j = i + d }) + 1
 unfolding placeOf

@@ -1,3 +1,4 @@
 pub mod Places
+pub mod Gates
 pub mod After
 pub mod Rises

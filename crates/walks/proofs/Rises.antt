@@ -1,23 +1,21 @@
 -- The interval that ends a step after instant t is longer than empty, so on a level but the first its gate goes by the place before, the
 -- level below, and the instant; that of `[S]` by the place before and the instant. The next level stands I places further.
-use mathlib.Core.Path.{_≡_, refl, sym, ap, ap₂, _∙_, subst}
+use mathlib.Core.Path.{_≡_, refl, sym, ap, _∙_, subst}
 use mathlib.Core.Logic.{inl, inr}
 use mathlib.Core.List.{List}
 use Prim.Native.Nat.{ℕ, suc, _+_, _-_, _*_, _≤_, _<_}
 use native.Mathlib.Nat.{zero-add, suc-mul, zero-mul, mul-le-mul, mul-le-mul-right}
 use native.Mathlib.Omega.{arith}
 use lib.ListN.{length}
-use borrow.Author.Tests.{ne-eqb}
 use Rattle.interval.specs.Listing.{rows}
 use Rattle.interval.specs.Places.{countOf, placeOf}
 use Rattle.interval.specs.Limits.{maxSteps, maxCount}
 use Rattle.interval.proofs.Shape.{Inside}
 use Rattle.circuit.specs.declared.Gate.the-variants.{Both, Step}
-use Rattle.blocks.specs.Blocks.{shapeOf, gateOf, levelBy, throughoutBy, definedBy, Placed, Bounded, bound}
+use Rattle.blocks.specs.Blocks.{shapeOf, gateOf, definedBy, Placed, Bounded, bound}
 use Rattle.blocks.specs.declared.Block.{Block}
 use Rattle.blocks.specs.declared.Rule.{Rule}
 use Rattle.blocks.specs.declared.Rule.the-variants.{Duration, Throughout}
-use Rattle.blocks.proofs.Positions.{gate-by}
 use Rattle.weights.proofs.Weights.{level-le}
 use Rattle.clauses.specs.Clauses.{clausesOf}
 use Rattle.gates.specs.Mentioned.{Variable, InputsIn}
@@ -27,6 +25,7 @@ use Rattle.fanout.specs.Walks.{Standing, instantPlace, riseClauses}
 use Rattle.fanout.proofs.Fine.{level-place, chop-place}
 use Rattle.fanout.specs.Fanout.{Rising}
 use Rattle.walks.proofs.Places.{interval-small, count-small}
+use Rattle.walks.proofs.Gates.{whole-gate, level-gate}
 
 longer-than-empty : (k i t : ℕ) → i ≤ t → 1 ≤ placeOf k (record { i = i; j = t + 1 })
 unfolding placeOf
@@ -55,18 +54,12 @@ module _ (C k : ℕ) (b : Block) (i t : ℕ) (o : i ≤ t) (l : t < k) where
         let w : Inside (shapeOf (b .points) k (Duration n)) (a, (i, steps)) = (omega arith, (omega arith, omega arith)) in
         subst (λ (r : Rule). Placed (b .points) k r x a i steps) (sym d) (record { inside = w; at = sym (level-place k (b .points) n a i steps w ∙ ap (λ (j : ℕ). a * countOf k + placeOf k (record { i = i; j = j })) end) })
 
-    level-gate : {p q s : ℕ} → p ≡ b .first + (x - 1) → q ≡ b .first + (x - 1 - countOf k) → s ≡ b .left + (i + (steps - 1)) → Step p q s ≡ gateOf C k b x a i steps
-    level-gate {p} {q} {s} e g m = (λ z. Step (e z) (g z) (m z)) ∙ known ∙ gate-by C k b x a i steps d
-      where
-        known : Step (b .first + (x - 1)) (b .first + (x - 1 - countOf k)) (b .left + (i + (steps - 1))) ≡ levelBy k (b .first) (b .left) x a i steps
-        known = simp (ne-eqb a 0 (λ z. omega (arith, f)), ne-eqb steps 0 some)
-
     module _ {v I : ℕ} (e : v ≡ b .first + x) (c : I ≡ countOf k) where
       gate : Step (v - 1) (v - 1 - I) (b .left + t) ≡ gateOf C k b x a i steps
       gate =
           let g = longer-than-empty k i t o in
           let m = mul-le-mul-right {m = 1} {n = a} (countOf k) f in
-          level-gate (omega (arith, e, g)) (omega (arith, e, c, g, m)) (omega arith)
+          level-gate C k b x a i steps d (λ z. omega (arith, f)) some (omega (arith, e, g)) (omega (arith, e, c, g, m)) (omega arith)
 
       level-clauses : clausesOf v (Step (v - 1) (v - 1 - I) (b .left + t)) ≡ clausesAt (definedBy C k b) x
       level-clauses = ap (λ (v′ : ℕ). clausesOf v′ (Step (v - 1) (v - 1 - I) (b .left + t))) e ∙ clauses-here C k b level gate
@@ -81,15 +74,9 @@ module _ (C k : ℕ) (b : Block) (i t : ℕ) (o : i ≤ t) (l : t < k) where
         let w : Inside (shapeOf (b .points) k Throughout) (0, (i, steps)) = (omega arith, (omega arith, omega arith)) in
         subst (λ (r : Rule). Placed (b .points) k r ends 0 i steps) (sym d) (record { inside = w; at = sym (chop-place k (b .points) 0 i steps w ∙ ap (λ (j : ℕ). placeOf k (record { i = i; j = j })) end) })
 
-    line-gate : {p s : ℕ} → p ≡ b .first + (ends - 1) → s ≡ b .left + (i + (steps - 1)) → Both p s ≡ gateOf C k b ends 0 i steps
-    line-gate {p} {s} e m = ap₂ Both e m ∙ known ∙ gate-by C k b ends 0 i steps d
-      where
-        known : Both (b .first + (ends - 1)) (b .left + (i + (steps - 1))) ≡ throughoutBy (b .first) (b .left) ends i steps
-        known = simp (ne-eqb steps 0 some)
-
     module _ {v : ℕ} (e : v ≡ b .first + ends) where
       both : Both (v - 1) (b .left + t) ≡ gateOf C k b ends 0 i steps
-      both = line-gate (omega (arith, e, longer-than-empty k i t o)) (omega arith)
+      both = whole-gate C k b ends 0 i steps d some (omega (arith, e, longer-than-empty k i t o)) (omega arith)
 
       line-clauses : clausesOf v (Both (v - 1) (b .left + t)) ≡ clausesAt (definedBy C k b) ends
       line-clauses = ap (λ (v′ : ℕ). clausesOf v′ (Both (v - 1) (b .left + t))) e ∙ clauses-here C k b line both

@@ -5,10 +5,11 @@ use Prim.Native.Nat.{ℕ, _+_, _-_}
 use native.Mathlib.Omega.{arith}
 use Rattle.interval.specs.Places.{countOf}
 use Rattle.interval.proofs.Laws.{counts-at-32}
+use Rattle.blocks.specs.declared.Block.{Block}
 use Rattle.node_clauses.proofs.Nodes.{halves}
 use Rattle.fanout.proofs.Cover.{reached}
 use Rattle.fanout.proofs.Chops.{triple-suffices}
-use Rattle.own.proofs.Places.{triples-stand, triple-here, triple-no-chop, one-place, one-asks, first-visit, both-visits}
+use Rattle.own.proofs.Places.{triples-stand, triple-here, one-place, one-asks, first-visit, both-visits}
 use borrow.Author.Needs.{needs}
 use Rattle.own.proofs.reach_triple.Statement.{statement}
 use Rattle.own.proofs.reach_triple.Tie as tie
@@ -37,12 +38,12 @@ beyond-requires c κs = search needs
 triples-of-requires : tie.Need-triples-of-requires
 triples-of-requires c κs = search needs
 
-visit-at-requires : tie.Need-visit-at-requires
-visit-at-requires c κs =
+visit-cut-requires : tie.Need-visit-cut-requires
+visit-cut-requires c κs =
     let p = c .before .before .before .before .before .before .before .before .before .before .before .before .pre in
     let b = c .before .before .before .before .before .before .before .before .before .before .before .before .args .block in
-    let h = halves b (c .before .before .before .beyond .ensures) (c .triples-of .ensures) refl in
-    ((triples-stand (p .0) (p .2) h, p .1), (triple-here (c .before .before .before .before .before .before .before .before .before .before .before .before .args .k) b (c .before .before .before .beyond .result) (c .before .before .before .before .before .before .before .before .before .before .before .before .args .x) (c .triples-of .ensures) (c .before .before .before .before .before .before .before .triple-at .result) (c .before .before .before .before .before .before .before .triple-at .ensures), triple-no-chop (c .before .before .before .before .before .before .before .before .before .before .before .before .args .k) b (c .before .before .before .beyond .result) (c .before .before .before .before .before .before .before .before .before .before .before .before .args .x) (c .triples-of .ensures)))
+    let h = halves b (c .before .before .before .beyond .ensures) (c .before .before .triples-of .ensures) refl in
+    ((triples-stand (p .0) (p .2) h, p .1, ap (λ (t : Block). t .rule) (c .before .before .triples-of .ensures)), triple-here (c .before .before .before .before .before .before .before .before .before .before .before .before .args .k) b (c .before .before .before .beyond .result) (c .before .before .before .before .before .before .before .before .before .before .before .before .args .x) (c .before .before .triples-of .ensures) (c .before .before .before .before .before .before .before .triple-at .result) (c .before .before .before .before .before .before .before .triple-at .ensures))
 
 same-length : tie.Need-same-length
 same-length c = search needs
@@ -55,7 +56,7 @@ returns c =
     let p = c .before .before .before .before .before .before .before .before .before .before .before .before .before .before .before .before .before .before .pre in
     let t = c .before .before .before .before .before .before .before .before .before .before .before .before .before .triple-at .result in
     reached (triple-suffices (c .before .before .before .before .before .before .before .before .before .before .before .before .before .before .before .before .before .before .args .c) (c .before .before .before .before .before .before .before .before .before .before .before .before .before .before .before .before .before .before .args .k) _ (c .before .before .before .before .before .before .before .before .before .before .before .before .before .before .before .before .before .before .args .block) (p .2) (p .0 .laid) t (c .before .before .before .before .before .before .before .before .before .before .before .before .before .triple-at .ensures .0) (ap (λ (x : ℕ). c .before .before .before .before .before .before .before .before .before .before .before .before .before .before .before .before .before .before .args .block .first + countOf (c .before .before .before .before .before .before .before .before .before .before .before .before .before .before .before .before .before .before .args .k) + x) (sym (c .before .before .before .before .before .before .before .before .before .before .before .before .before .triple-at .ensures .1))))
-    (first-visit (c .before .before .before .before .before .before .before .before .before .before .before .before .before .before .before .before .before .before .args .c) (c .before .before .before .before .before .before .before .before .before .before .before .before .before .before .before .before .before .before .args .k) (c .before .before .before .before .before .before .before .before .before .before .before .before .before .before .before .before .before .before .args .block) t (c .before .before .before .before .before .before .before .before .before .before .before .before .before .triple-at .ensures) (c .before .before .before .before .before .before .before .before .before .beyond .ensures) (c .before .before .before .before .before .before .triples-of .ensures) (c .if1 .taken) (c .before .before .before .before .before .visit-at .ensures))
+    (first-visit (c .before .before .before .before .before .before .before .before .before .before .before .before .before .before .before .before .before .before .args .c) (c .before .before .before .before .before .before .before .before .before .before .before .before .before .before .before .before .before .before .args .k) (c .before .before .before .before .before .before .before .before .before .before .before .before .before .before .before .before .before .before .args .block) t (c .before .before .before .before .before .before .before .before .before .before .before .before .before .triple-at .ensures) (c .before .before .before .before .before .before .before .before .before .beyond .ensures) (c .before .before .before .before .before .before .before .before .triples-of .ensures) (c .if1 .taken) (c .before .before .before .before .before .visit-cut .ensures))
 
 place-requires : tie.Need-place-requires
 place-requires c κs = let o = c .before .before .before .before .before .before .before .before .before .before .before .before .before .triple-at .ensures .0 in (omega (arith, o .starts, o .cut, o .ends), c .before .before .before .before .before .before .before .before .before .before .before .before .before .before .before .before .before .before .pre .0 .fine .bounded .steps, c .before .before .before .before .before .before .before .before .before .before .before .before .before .before .before .before .before .before .pre .1)
@@ -77,7 +78,7 @@ visit-one-requires c κs =
     let p = c .before .before .before .before .before .before .before .before .before .before .before .before .before .before .before .before .before .before .before .before .before .before .pre in
     let t = c .before .before .before .before .before .before .before .before .before .before .before .before .before .before .before .before .before .triple-at .result in
     let o = c .before .before .before .before .before .before .before .before .before .before .before .before .before .before .before .before .before .triple-at .ensures in
-    one-asks (p .0) (p .2) (c .before .before .before .before .before .before .before .before .before .before .before .before .before .beyond .ensures) t o (c .before .before .before .place .ensures .0) (c .before .before .before .before .before .before .before .before .before .visit-at .kept .0) (c .before .before .before .before .before .before .before .before .before .visit-at .ensures .grown .trailing)
+    one-asks (p .0) (p .2) (c .before .before .before .before .before .before .before .before .before .before .before .before .before .beyond .ensures) t o (c .before .before .before .place .ensures .0) (c .before .before .before .before .before .before .before .before .before .visit-cut .kept .0) (c .before .before .before .before .before .before .before .before .before .visit-cut .ensures .grown .trailing)
 
 same-length-3 : tie.Need-same-length-3
 same-length-3 c = search needs
@@ -90,7 +91,7 @@ returns-2 c =
     let p = c .before .before .before .before .before .before .before .before .before .before .before .before .before .before .before .before .before .before .before .before .before .before .before .before .before .before .before .pre in
     let t = c .before .before .before .before .before .before .before .before .before .before .before .before .before .before .before .before .before .before .before .before .before .before .triple-at .result in
     reached (triple-suffices (c .before .before .before .before .before .before .before .before .before .before .before .before .before .before .before .before .before .before .before .before .before .before .before .before .before .before .before .args .c) (c .before .before .before .before .before .before .before .before .before .before .before .before .before .before .before .before .before .before .before .before .before .before .before .before .before .before .before .args .k) _ (c .before .before .before .before .before .before .before .before .before .before .before .before .before .before .before .before .before .before .before .before .before .before .before .before .before .before .before .args .block) (p .2) (p .0 .laid) t (c .before .before .before .before .before .before .before .before .before .before .before .before .before .before .before .before .before .before .before .before .before .before .triple-at .ensures .0) (ap (λ (x : ℕ). c .before .before .before .before .before .before .before .before .before .before .before .before .before .before .before .before .before .before .before .before .before .before .before .before .before .before .before .args .block .first + countOf (c .before .before .before .before .before .before .before .before .before .before .before .before .before .before .before .before .before .before .before .before .before .before .before .before .before .before .before .args .k) + x) (sym (c .before .before .before .before .before .before .before .before .before .before .before .before .before .before .before .before .before .before .before .before .before .before .triple-at .ensures .1))))
-    (both-visits (c .before .before .before .before .before .before .before .before .before .before .before .before .before .before .before .before .before .before .before .before .before .before .before .before .before .before .before .args .c) (c .before .before .before .before .before .before .before .before .before .before .before .before .before .before .before .before .before .before .before .before .before .before .before .before .before .before .before .args .k) (c .before .before .before .before .before .before .before .before .before .before .before .before .before .before .before .before .before .before .before .before .before .before .before .before .before .before .before .args .block) t (c .before .before .before .before .before .before .before .before .before .before .before .before .before .before .before .before .before .before .before .before .before .before .triple-at .ensures) (c .before .before .before .before .before .before .before .before .before .before .before .before .before .before .before .before .before .before .beyond .ensures) (c .before .before .before .before .before .before .before .before .before .before .before .before .before .before .before .triples-of .ensures) (c .before .before .before .before .before .before .before .before .before .if1 .left) (c .before .before .before .before .before .before .before .before .before .before .before .before .before .before .visit-at .ensures) (c .before .before .before .before .before .before .before .before .place .ensures .0) (c .before .before .before .before .visit-one .ensures))
+    (both-visits (c .before .before .before .before .before .before .before .before .before .before .before .before .before .before .before .before .before .before .before .before .before .before .before .before .before .before .before .args .c) (c .before .before .before .before .before .before .before .before .before .before .before .before .before .before .before .before .before .before .before .before .before .before .before .before .before .before .before .args .k) (c .before .before .before .before .before .before .before .before .before .before .before .before .before .before .before .before .before .before .before .before .before .before .before .before .before .before .before .args .block) t (c .before .before .before .before .before .before .before .before .before .before .before .before .before .before .before .before .before .before .before .before .before .before .triple-at .ensures) (c .before .before .before .before .before .before .before .before .before .before .before .before .before .before .before .before .before .before .beyond .ensures) (c .before .before .before .before .before .before .before .before .before .before .before .before .before .before .before .before .before .triples-of .ensures) (c .before .before .before .before .before .before .before .before .before .if1 .left) (c .before .before .before .before .before .before .before .before .before .before .before .before .before .before .visit-cut .ensures) (c .before .before .before .before .before .before .before .before .place .ensures .0) (c .before .before .before .before .visit-one .ensures))
 
 pub reach-triple-spec : {M : Type 1} → statement M
 reach-triple-spec =
@@ -104,7 +105,7 @@ reach-triple-spec =
     sub-e
     beyond-requires
     triples-of-requires
-    visit-at-requires
+    visit-cut-requires
     same-length
     same-length-2
     returns

@@ -1,15 +1,11 @@
 -- Each pattern's table is compared with what its clauses force, entry by entry (Table.antt).
 -- The patterns are 0 to 7, so the last arm is 7.
-use mathlib.Core.Path.{_≡_, refl}
-use Prim.Native.Nat.{ℕ, suc, _≤_, zero-le}
+use mathlib.Core.Path.{refl}
 use native.Mathlib.Omega.{arith}
-use Rattle.patterns.proofs.Table.{copyTable, inverseTable, bothTable, eitherTable, stepTable, lowTable, highTable, raisedTable, forced-three, forced-four}
+use Rattle.patterns.proofs.Table.{copyTable, inverseTable, bothTable, eitherTable, stepTable, lowTable, highTable, raisedTable, forced-three, forced-four, last-gate}
 use borrow.Author.Needs.{needs}
 use Rattle.patterns.proofs.forced.Statement.{statement}
 use Rattle.patterns.proofs.forced.Tie as tie
-
-up : {n k : ℕ} → n ≤ k → (k ≡ n → ⊥) → suc n ≤ k
-up h f = omega arith
 
 wide-requires : tie.Need-wide-requires
 wide-requires c κs = search needs
@@ -95,7 +91,7 @@ returns-7 c = let s = c .before .before .before .before .args in let p = c .befo
 
 returns-8 : tie.Need-returns-8
 unfolding raisedTable
-returns-8 c = let s = c .before .before .before .before .args in let p = c .before .before .before .before .pre in forced-three 7 (s .a) (s .b) (s .c) (s .d) (omega arith) (p .1) (p .2) (p .3) (p .4) (let q = c .match .rest in omega (arith, p .0, up (up (up (up (up (up (up zero-le (q .0 .0 .0 .0 .0 .0 .1)) (q .0 .0 .0 .0 .0 .1)) (q .0 .0 .0 .0 .1)) (q .0 .0 .0 .1)) (q .0 .0 .1)) (q .0 .1)) (q .1))) refl (c .before .before .before .wide .ensures) (c .before .before .wide2 .ensures) (c .before .wide3 .ensures)
+returns-8 c = let s = c .before .before .before .before .args in let p = c .before .before .before .before .pre in forced-three 7 (s .a) (s .b) (s .c) (s .d) (omega arith) (p .1) (p .2) (p .3) (p .4) (let q = c .match .rest in last-gate (p .0) (q .0 .0 .0 .0 .0 .0 .1) (q .0 .0 .0 .0 .0 .1) (q .0 .0 .0 .0 .1) (q .0 .0 .0 .1) (q .0 .0 .1) (q .0 .1) (q .1)) refl (c .before .before .before .wide .ensures) (c .before .before .wide2 .ensures) (c .before .wide3 .ensures)
 
 pub forced-spec : {M : Type 1} → statement M
 forced-spec =

@@ -1,10 +1,11 @@
 -- Each turn adds a literal of the closure that was not there, until none is forced or one is opposed (Steps.antt).
 use mathlib.Core.Path.{_≡_, refl, sym, _∙_, subst}
 use Prim.Native.Nat.{_-_}
+use native.Mathlib.Omega.{arith}
 use borrow.Author.Needs.{needs}
 use lib.ListN.{length}
 use Rattle.patterns.specs.Patterns.{patternOf, among, renamed, Forces}
-use Rattle.patterns.proofs.Steps.{there, Visits, visits-none, settled, settled-clash, visits-more, visits-fewer}
+use Rattle.patterns.proofs.Steps.{there, Visits, visits-none, visits-few, settled, settled-clash, visits-more, visits-fewer, calm-ended, clash-ended}
 use Rattle.patterns.proofs.settle_on.Statement.{statement}
 use Rattle.patterns.proofs.settle_on.Tie as tie
 
@@ -28,6 +29,9 @@ enum-known-next c = search needs
 enum-told : tie.Need-enum-told Inv-loop μ-loop
 enum-told c = search needs
 
+mul-result : tie.Need-mul-result Inv-loop μ-loop
+mul-result c = omega (arith, visits-few (c .before .before .before .before .loop .inv .2))
+
 same-length : tie.Need-same-length Inv-loop μ-loop
 same-length c = search needs
 
@@ -35,10 +39,16 @@ same-length-2 : tie.Need-same-length-2 Inv-loop μ-loop
 same-length-2 c = search needs
 
 returns : tie.Need-returns Inv-loop μ-loop
-returns c = settled (c .before .before .before .before .loop .inv .2) (subst (Forces _ _) (c .enum-told .given .1) (c .before .before .next-forced .ensures))
+returns c = calm-ended (settled (c .before .before .before .before .loop .inv .2) (subst (Forces _ _) (c .enum-told .given .1) (c .before .before .next-forced .ensures)))
 
 opposed-requires : tie.Need-opposed-requires Inv-loop μ-loop
 opposed-requires c κs = subst (Forces _ _) (c .before .before .next .given .1) (c .before .before .before .before .next-forced .ensures) .0
+
+mul-result-2 : tie.Need-mul-result-2 Inv-loop μ-loop
+mul-result-2 c = omega (arith, visits-few (c .before .before .before .before .before .before .before .before .loop .inv .2))
+
+add-result : tie.Need-add-result Inv-loop μ-loop
+add-result c = omega (arith, visits-few (c .before .before .before .before .before .before .before .before .loop .inv .2))
 
 same-length-3 : tie.Need-same-length-3 Inv-loop μ-loop
 same-length-3 c = search needs
@@ -48,7 +58,7 @@ same-length-4 c = search needs
 
 returns-2 : tie.Need-returns-2 Inv-loop μ-loop
 returns-2 c = let f = subst (Forces _ _) (c .before .before .before .before .next .given .1) (c .before .before .before .before .before .before .next-forced .ensures) in
-    settled-clash (c .before .before .before .before .before .before .before .before .loop .inv .2) _ (f .0) (f .1) (sym (c .before .opposed .ensures) ∙ c .if1 .taken)
+    clash-ended (settled-clash (c .before .before .before .before .before .before .before .before .loop .inv .2) _ (f .0) (f .1) (sym (c .before .opposed .ensures) ∙ c .if1 .taken))
 
 add-requires : tie.Need-add-requires Inv-loop μ-loop
 add-requires c κs = let f = subst (Forces _ _) (c .before .before .before .before .before .before .next .given .1) (c .before .before .before .before .before .before .before .before .next-forced .ensures) in
@@ -72,10 +82,13 @@ settle-on-spec =
     next-forced-requires
     enum-known-next
     enum-told
+    mul-result
     same-length
     same-length-2
     returns
     opposed-requires
+    mul-result-2
+    add-result
     same-length-3
     same-length-4
     returns-2

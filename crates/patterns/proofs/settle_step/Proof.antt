@@ -3,7 +3,7 @@
 use mathlib.Core.Path.{refl}
 use Prim.Native.Nat.{_-_}
 use native.Mathlib.Omega.{arith}
-use Rattle.patterns.proofs.Steps.{known, nothing-forced, visits-none, settled, patterns, settled-named}
+use Rattle.patterns.proofs.Steps.{known, nothing-forced, visits-none, settled, patterns, settled-named, ended-named}
 use borrow.Author.Needs.{needs}
 use Rattle.patterns.proofs.settle_step.Statement.{statement}
 use Rattle.patterns.proofs.settle_step.Tie as tie
@@ -34,6 +34,9 @@ returns c =
 settle-on-requires : tie.Need-settle-on-requires
 settle-on-requires c κs = search needs
 
+ended-requires : tie.Need-ended-requires
+ended-requires c κs = search needs
+
 same-length-2 : tie.Need-same-length-2
 same-length-2 c = search needs
 
@@ -41,7 +44,7 @@ same-length-3 : tie.Need-same-length-3
 same-length-3 c = search needs
 
 returns-2 : tie.Need-returns-2
-returns-2 c = settled-named (patterns (c .before .before .before .before .before .before .before .before .before .before .before .before .before .before .before .before .before .before .before .args .v) (c .before .before .before .before .before .before .before .before .before .before .before .before .before .before .before .before .before .before .before .args .p) (c .before .before .before .before .before .before .before .before .before .before .before .before .before .before .before .before .before .before .before .args .q) (c .before .before .before .before .before .before .before .before .before .before .before .before .before .before .before .before .before .before .before .args .s) .4) (c .before .before .before .before .settle-on .ensures)
+returns-2 c = let s = c .before .before .before .before .before .before .before .before .before .before .before .before .before .before .before .before .before .before .before .before .args in settled-named (patterns (s .v) (s .p) (s .q) (s .s) .4) (ended-named (c .ended .ensures) (c .before .before .before .before .before .settle-on .ensures))
 
 pub settle-step-spec : {M : Type 1} → statement M
 settle-step-spec =
@@ -55,6 +58,7 @@ settle-step-spec =
     same-length
     returns
     settle-on-requires
+    ended-requires
     same-length-2
     same-length-3
     returns-2)

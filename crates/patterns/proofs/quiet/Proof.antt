@@ -1,9 +1,11 @@
--- The bits are compared with what is forced, at each three values (Table.antt).
--- Only one way is told: where a bit is not set, the table is asked.
-use Rattle.patterns.proofs.Table.{both-bit}
+-- The bits of the gate say where it forces nothing; the place of the bit is made of the three values.
+-- Whatever the fourth value is, the gate's bits hold.
 use borrow.Author.Needs.{needs}
-use Rattle.patterns.proofs.both_quiet.Statement.{statement}
-use Rattle.patterns.proofs.both_quiet.Tie as tie
+use Rattle.patterns.proofs.quiet.Statement.{statement}
+use Rattle.patterns.proofs.quiet.Tie as tie
+
+quiet-bits-requires : tie.Need-quiet-bits-requires
+quiet-bits-requires c κs = search needs
 
 wide-requires : tie.Need-wide-requires
 wide-requires c κs = search needs
@@ -33,12 +35,14 @@ shr-result : tie.Need-shr-result
 shr-result c = search needs
 
 returns : tie.Need-returns
-returns c = both-bit (c .before .before .before .args .a) (c .before .before .before .args .b) (c .before .before .before .args .c) (c .before .before .before .pre .0) (c .before .before .before .pre .1) (c .before .before .before .pre .2) (c .before .before .wide .ensures) (c .before .wide2 .ensures) (c .wide3 .ensures)
+returns c = let s = c .before .before .before .before in λ d h e.
+    c .before .before .before .quiet-bits .ensures (s .args .a) (s .args .b) (s .args .c) d (s .pre .1) (s .pre .2) (s .pre .3) h (rw (c .before .before .wide .ensures, c .before .wide2 .ensures, c .wide3 .ensures) at e)
 
-pub both-quiet-spec : {M : Type 1} → statement M
-both-quiet-spec =
+pub quiet-spec : {M : Type 1} → statement M
+quiet-spec =
     tie.close
     (tie.spec
+    quiet-bits-requires
     wide-requires
     wide-requires-2
     mul-result
