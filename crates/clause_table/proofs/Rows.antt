@@ -5,7 +5,9 @@ use mathlib.Core.List.{List, _++_}
 use Prim.Native.Nat.{ℕ, _+_, _*_, _≤_, _<_}
 use native.Mathlib.Nat.{mul-le-mul}
 use native.Mathlib.Omega.{arith}
-use lib.ListN.{getD}
+use lib.ListN.{length, getD, set}
+use lib.Seq.{getD-set-same, getD-set-other}
+use borrow.Author.Count.{below-more}
 use borrow.Author.Tests.{eq-eqb, ne-eqb}
 use Rattle.interval.specs.Listing.{rows}
 use Rattle.interval.specs.Limits.{maxSteps, maxCount}
@@ -20,7 +22,7 @@ use Rattle.clauses.specs.Entries.{Entry}
 use Rattle.literals.specs.Written.{Room, Wrote, runOf}
 use Rattle.literals.proofs.Written.{and-then, named, room-next}
 use Rattle.node_clauses.specs.Nodes.{Fine}
-use Rattle.clause_table.specs.Rows.{seatBy, blockBy, Low}
+use Rattle.clause_table.specs.Rows.{seatBy, blockBy, Low, Seated}
 
 module _ (kinds numbers firsts : List ℕ) (k y : ℕ) {first kind : ℕ} (p : first ≡ getD firsts y 0) (q : kind ≡ getD kinds y 0) where
   pub seat-lasting : {n i : ℕ} → kind ≡ 23 → n ≡ getD numbers y 0 → i ≡ countOf k → first + n * i ≡ seatBy kinds numbers firsts k y
@@ -30,6 +32,15 @@ module _ (kinds numbers firsts : List ℕ) (k y : ℕ) {first kind : ℕ} (p : f
   pub seat-other : (kind ≡ 23 → ⊥) → first ≡ seatBy kinds numbers firsts k y
   unfolding seatBy
   seat-other n = rw (← q, ne-eqb kind 23 n) (omega (arith, p))
+
+-- the column of seats, row after row
+module _ (kinds numbers firsts : List ℕ) (k : ℕ) where
+  abbrev SeatIs : ℕ → ℕ → Type 0
+  SeatIs y s = (s ≡ seatBy kinds numbers firsts k y) × (s < bound)
+
+  pub one-seated : (seats : List ℕ) (n : ℕ) {s : ℕ} → Seated kinds numbers firsts k seats n → n < length seats → SeatIs n s → Seated kinds numbers firsts k (set seats n s) (n + 1)
+  one-seated seats n {s} f l e =
+      below-more (λ y. SeatIs y (getD (set seats n s) y 0)) n (λ y m. subst (SeatIs y) (sym (getD-set-other seats n y s 0 (λ e. omega arith))) (f y m)) (subst (SeatIs n) (sym (getD-set-same seats n s 0 l)) e)
 
 pub level-low : (n i : ℕ) → n ≤ 255 → i ≤ maxCount → n * i ≤ 255 * maxCount
 level-low n i h l = mul-le-mul {n₂ = 255} {m₂ = maxCount} h l

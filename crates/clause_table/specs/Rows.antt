@@ -11,7 +11,7 @@ use Rattle.interval.specs.Places.{countOf}
 use Rattle.grammar.specs.Trees.{Tree}
 use Rattle.grammar.specs.declared.Sort.the-variants.{Formula}
 use Rattle.circuit.specs.Circuit.{Definition}
-use Rattle.blocks.specs.Blocks.{ruleBy, isChop}
+use Rattle.blocks.specs.Blocks.{ruleBy, isChop, bound}
 use Rattle.blocks.specs.declared.Block.{Block}
 use Rattle.weights.specs.Weights.{variableWeight, clauseWeight, literalWeight, pointsBy, weightTo, maxSum}
 use Rattle.clauses.specs.Clauses.{clauseTable}
@@ -56,6 +56,10 @@ tablePlaces C k kinds numbers sizes firsts n = rows n (rowPlaces C k kinds numbe
 -- first variables are below this, whatever the node table says
 abbrev pub Low : List ℕ → Type 0
 Low firsts = (y : ℕ) → getD firsts y 0 ≤ maxSum
+
+-- the first variables of the truths of n rows, all low
+abbrev pub Seated : List ℕ → List ℕ → List ℕ → ℕ → List ℕ → ℕ → Type 0
+Seated kinds numbers firsts k seats n = (y : ℕ) → y < n → (getD seats y 0 ≡ seatBy kinds numbers firsts k y) × (getD seats y 0 < bound)
 
 -- what a node table measures, and the first variable of each node
 pub record Measured (C k : ℕ) (kinds numbers : List ℕ) (n : ℕ) (firsts : List ℕ) (s : Sizes) : Type 0 where

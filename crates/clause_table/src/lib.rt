@@ -20,7 +20,7 @@ ghost use Rattle.blocks.specs.Blocks.{bound};
 ghost use Rattle.literals.specs.Written.{Room, Wrote};
 ghost use Rattle.clause_table.specs.Table.{askRoom, fiveOf, over, tabled};
 ghost use Rattle.node_clauses.specs.Nodes.{Fine};
-ghost use Rattle.clause_table.specs.Rows.{Low, seatBy, blockBy, rowPlaces, tablePlaces, Measured, tabledBy};
+ghost use Rattle.clause_table.specs.Rows.{Low, Seated, seatBy, blockBy, rowPlaces, tablePlaces, Measured, tabledBy};
 
 // What the call answers.
 pub enum Written {
@@ -38,7 +38,7 @@ pub struct Sizes {
 }
 
 // The number at a place, and 0 past the end.
-fn number_at(numbers: &[u32], at: usize) -> u32
+pub fn number_at(numbers: &[u32], at: usize) -> u32
     ensures { λ r. ⌜ r ≡ getD (now (numbers .entry)) at 0 ⌝ }
 {
     if at < numbers.len() { numbers[at] } else { 0 }
@@ -61,6 +61,22 @@ pub fn seat<'a>(
         return first + n * Interval::count(k as usize) as u32;
     }
     first
+}
+
+// The first variables of the truths of all rows, for those who ask often.
+pub fn put_seats<'a>(
+    kinds: &'a [u8; MAX_NODES],
+    numbers: &'a [u8; MAX_NODES],
+    firsts: &[u32; MAX_NODES],
+    k: u32,
+    seats: &mut [u32; MAX_NODES],
+)
+    requires { ⌜ (k ≤ maxSteps) × Low (now firsts) × (length (now seats) ≡ maxNodes) ⌝ }
+    ensures { λ _. ⌜ Seated (now (kinds .entry)) (now (numbers .entry)) (now (firsts .entry)) k (now (seats .exit)) maxNodes ⌝ }
+{
+    for y in 0..MAX_NODES {
+        seats[y] = seat(kinds, numbers, firsts, k, y);
+    }
 }
 
 // The block of the node at row x: its first part is at the next row.

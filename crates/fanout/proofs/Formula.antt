@@ -30,7 +30,7 @@ use Rattle.weights.specs.Weights.{variableWeight, pointsBy, rowWeight}
 use Rattle.weights.proofs.Weights.{suc-le-count}
 use Rattle.weights.proofs.Rows.{points-state, points-formula, row-width}
 use Rattle.clauses.specs.Clauses.{clauseTable}
-use Rattle.clause_table.specs.Rows.{truthBy, seatBy, rowDefinitions, Measured}
+use Rattle.clause_table.specs.Rows.{truthBy, seatBy, Seated, rowDefinitions, Measured}
 use Rattle.clause_table.specs.declared.Sizes.{Sizes}
 use Rattle.clause_table.proofs.Places.{kinds, numbers, sizes, start, first-is}
 use Rattle.clause_table.proofs.Call.{known}
@@ -237,10 +237,10 @@ module _ (C k : ℕ) (f : Tree Formula) {T : NodeTable} (e : T ≡ tableOf (map 
   unfolding tableOf
   table-known = back (λ T n. tableBy C k (T .kinds) (T .numbers) (T .sizes) F n ≡ clauseTable C k f) (table-is C k f F (known C k f e w .first))
 
-  pub ground-of : Letters C f → C ≤ maxChannels → k ≤ maxSteps → T .count ≤ maxNodes → {P : List ℕ} → Nearest (T .sizes) P (T .count) → (values : List ℕ) → length values ≡ s .variables
-      → Ground C k (T .kinds) (T .numbers) (T .sizes) F P (T .count) (length values)
+  pub ground-of : Letters C f → C ≤ maxChannels → k ≤ maxSteps → T .count ≤ maxNodes → {Q P : List ℕ} → Seated (T .kinds) (T .numbers) F k Q maxNodes → Nearest (T .sizes) P (T .count)
+      → (values : List ℕ) → length values ≡ s .variables → Ground C k (T .kinds) (T .numbers) (T .sizes) F Q P (T .count) (length values)
   unfolding tableOf
-  ground-of L c h n {P} m values v =
+  ground-of L c h n {P = P} q m values v =
       let a = table-mentioned C k f e w L values v in
       record {
         channels = c;
@@ -248,6 +248,7 @@ module _ (C k : ℕ) (f : Tree Formula) {T : NodeTable} (e : T ≡ tableOf (map 
         some = back (λ T n. 0 < n) (omega (arith, nodes-count f 0, size-some f));
         few = n;
         low = w .low;
+        seated = q;
         grid = back (λ T n. Grid C k (T .kinds) (T .numbers) (T .sizes) F P n) (grid-of C k f L F P (known C k f e w .first) (there (λ T n. Nearest (T .sizes) P n) m));
         total = v ∙ w .variables;
         root = a .1;

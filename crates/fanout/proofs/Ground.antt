@@ -15,11 +15,11 @@ use Rattle.weights.specs.Weights.{variableWeight, rowWeight, weightTo}
 use Rattle.weights.proofs.Weights.{product-fits}
 use Rattle.fanout.specs.Fanout.{InRow, Ground}
 
-pub ground-still : {C k : ℕ} {kinds numbers sizes firsts parents : List ℕ} {n all more : ℕ} → more ≡ all → Ground C k kinds numbers sizes firsts parents n all
-    → Ground C k kinds numbers sizes firsts parents n more
-ground-still {C} {k} {kinds} {numbers} {sizes} {firsts} {parents} {n} e g = subst (λ (all : ℕ). Ground C k kinds numbers sizes firsts parents n all) (sym e) g
+pub ground-still : {C k : ℕ} {kinds numbers sizes firsts seats parents : List ℕ} {n all more : ℕ} → more ≡ all → Ground C k kinds numbers sizes firsts seats parents n all
+    → Ground C k kinds numbers sizes firsts seats parents n more
+ground-still {C} {k} {kinds} {numbers} {sizes} {firsts} {seats} {parents} {n} e g = subst (λ (all : ℕ). Ground C k kinds numbers sizes firsts seats parents n all) (sym e) g
 
-module _ {C k : ℕ} {kinds numbers sizes firsts parents : List ℕ} {n all : ℕ} (g : Ground C k kinds numbers sizes firsts parents n all) where
+module _ {C k : ℕ} {kinds numbers sizes firsts seats parents : List ℕ} {n all : ℕ} (g : Ground C k kinds numbers sizes firsts seats parents n all) where
   pub few-channels : Fits w32 (k * C)
   few-channels = product-fits k C (omega (arith, g .steps)) (omega (arith, g .channels))
 

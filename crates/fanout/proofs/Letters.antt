@@ -7,13 +7,14 @@ use mathlib.Core.List.{List, [], _++_}
 use Prim.Native.Nat.{ℕ, _+_, _*_, _≤_, _<_}
 use native.Mathlib.Decide.{decLt}
 use native.Mathlib.Omega.{arith}
+use lib.ListN.{getD}
 use borrow.Author.Tests.{eqb-true, eqb-false}
 use Rattle.interval.specs.Listing.{rows, sum}
 use Rattle.interval.proofs.Shape.{place}
 use Rattle.circuit.specs.Circuit.{channelOf}
 use Rattle.circuit.specs.declared.Gate.the-variants.{Constant}
 use Rattle.circuit.proofs.Inputs.{row-lt}
-use Rattle.blocks.specs.Blocks.{shapeOf, definedBy}
+use Rattle.blocks.specs.Blocks.{ruleBy, shapeOf, definedBy}
 use Rattle.blocks.specs.declared.Block.{Block}
 use Rattle.blocks.specs.declared.Rule.{Rule}
 use Rattle.blocks.specs.declared.Rule.the-variants.{Fixed, Letter, Negation, And, Or, Chop, Duration, Throughout, Cut}
@@ -109,15 +110,20 @@ module _ (C k u t e : ℕ) (h : t < k) (l : e < C) (f : u ≡ channelOf C t e) w
       covers = covers-both (covers-rows (row g) n (λ y q. covers-row letters n y q (row-suffices y q .covers))) (covers-none (rows n letters) root-unnamed);
     }
 
--- ---- a row that the code has looked at
+-- ---- a row that the code has looked at, by its rule
 
-module _ (T : List Clause) {v₀ t₀ : List ℕ} {top₀ : ℕ} {b c : Bool} (e : b ≡ c) where
-  pub visited-if : {values trail : List ℕ} {r : Ended} → b ≡ true → Visited T v₀ t₀ top₀ values trail r → Visited (cond c T []) v₀ t₀ top₀ values trail r
-  visited-if {values} {trail} {r} f w = subst (λ (c : Bool). Visited (cond c T []) v₀ t₀ top₀ values trail r) (sym f ∙ e) w
+module _ (C k : ℕ) (kinds numbers sizes firsts : List ℕ) (t e x : ℕ) {s : Bool} (f : s ≡ speaks e (ruleBy (getD kinds x 0) (getD numbers x 0))) where
+  pub letter-speaks : s ≡ true → {b : Block} → b ≡ blockBy kinds numbers sizes firsts k x → speaks e (b .rule) ≡ true
+  unfolding blockBy
+  letter-speaks h g = ap (λ (b : Block). speaks e (b .rule)) g ∙ (sym f ∙ h)
 
-  pub visited-else : b ≡ false → Trailing v₀ t₀ top₀ → Visited (cond c T []) v₀ t₀ top₀ v₀ t₀ (record { clash = false; top = top₀ })
-  visited-else f t = subst (λ (c : Bool). Visited (cond c T []) v₀ t₀ top₀ v₀ t₀ (record { clash = false; top = top₀ })) (sym f ∙ e) (visited-none t)
+  module _ {v₀ t₀ : List ℕ} {top₀ : ℕ} where
+    pub letter-visited : s ≡ true → {b : Block} → b ≡ blockBy kinds numbers sizes firsts k x → {values trail : List ℕ} {r : Ended} → Visited (clausesAt (definedBy C k b) t) v₀ t₀ top₀ values trail r
+        → Visited (letterAt C k kinds numbers sizes firsts t e x) v₀ t₀ top₀ values trail r
+    letter-visited h {b} g {values} {trail} {r} w =
+        subst (λ (b : Block). Visited (cond (speaks e (b .rule)) (clausesAt (definedBy C k b) t) []) v₀ t₀ top₀ values trail r) g
+        (subst (λ (c : Bool). Visited (cond c (clausesAt (definedBy C k b) t) []) v₀ t₀ top₀ values trail r) (sym (letter-speaks h g)) w)
 
-pub letter-row : (C k : ℕ) (kinds numbers sizes firsts : List ℕ) (t e x : ℕ) (b : Block) → b ≡ blockBy kinds numbers sizes firsts k x
-    → cond (speaks e (b .rule)) (clausesAt (definedBy C k b) t) [] ≡ letterAt C k kinds numbers sizes firsts t e x
-letter-row C k kinds numbers sizes firsts t e x b s = ap (λ (b : Block). cond (speaks e (b .rule)) (clausesAt (definedBy C k b) t) []) s
+    pub letter-passed : s ≡ false → Trailing v₀ t₀ top₀ → Visited (letterAt C k kinds numbers sizes firsts t e x) v₀ t₀ top₀ v₀ t₀ (record { clash = false; top = top₀ })
+    unfolding blockBy
+    letter-passed h w = subst (λ (c : Bool). Visited (cond c (clausesAt (definedBy C k (blockBy kinds numbers sizes firsts k x)) t) []) v₀ t₀ top₀ v₀ t₀ (record { clash = false; top = top₀ })) (sym h ∙ f) (visited-none w)

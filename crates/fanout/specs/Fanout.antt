@@ -20,7 +20,7 @@ use Rattle.weights.specs.Weights.{variableWeight, pointsBy, weightBy, rowWeight
 use Rattle.clauses.specs.Clauses.{Clause, clausesBy}
 use Rattle.gates.specs.Mentioned.{Variable, AllMentioned}
 use Rattle.node_clauses.specs.Nodes.{tripleBlock, nodeBy}
-use Rattle.clause_table.specs.Rows.{truthBy, seatBy, blockBy, Low, rowDefinitions}
+use Rattle.clause_table.specs.Rows.{truthBy, seatBy, blockBy, Low, Seated, rowDefinitions}
 use Rattle.closure.specs.Closure.{Literals}
 use Rattle.closure.specs.Tree.{closure}
 use Rattle.closure.specs.Runs.{clashes}
@@ -134,12 +134,13 @@ pub record Grid (C k : ℕ) (kinds numbers sizes firsts parents : List ℕ) (n :
   pub root : InRow k kinds numbers firsts 0 (seatBy kinds numbers firsts k 0 + k)
 
 -- what stays as it is while a formula is searched, `all` being how many variables there are
-pub record Ground (C k : ℕ) (kinds numbers sizes firsts parents : List ℕ) (n all : ℕ) : Type 0 where
+pub record Ground (C k : ℕ) (kinds numbers sizes firsts seats parents : List ℕ) (n all : ℕ) : Type 0 where
   pub channels : C ≤ maxChannels
   pub steps : k ≤ maxSteps
   pub some : 0 < n
   pub few : n ≤ maxNodes
   pub low : Low firsts
+  pub seated : Seated kinds numbers firsts k seats maxNodes
   pub grid : Grid C k kinds numbers sizes firsts parents n
   pub total : all ≡ k * C + weightTo variableWeight k kinds numbers n
   pub root : Variable all (seatBy kinds numbers firsts k 0 + k)

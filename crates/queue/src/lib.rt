@@ -6,21 +6,21 @@ use closing::Closed;
 use grammar::MAX_NODES;
 use interval::Interval;
 ghost use mathlib.Core.Path.{_≡_};
-ghost use mathlib.Core.Bool.{cond};
-ghost use mathlib.Core.List.{[]};
-ghost use Prim.Native.Nat.{_*_, _≤_, _<_};
+ghost use Prim.Native.Nat.{ℕ, _*_, _≤_, _<_};
 ghost use lib.ListN.{length};
+ghost use Rattle.interval.specs.Limits.{maxSteps};
 ghost use Rattle.interval.specs.Listing.{rows};
 ghost use Rattle.interval.specs.Places.{countOf};
-ghost use Rattle.blocks.specs.Blocks.{definedBy};
+ghost use Rattle.grammar.specs.Limits.{maxNodes, maxChannels};
 ghost use Rattle.gates.specs.Mentioned.{Variable};
+ghost use Rattle.node_clauses.specs.Nodes.{Fine};
+ghost use Rattle.clause_table.specs.Rows.{Low, Seated, blockBy};
 ghost use Rattle.closing.specs.Values.{Trailing};
 ghost use Rattle.closing.specs.Closing.{ClosedTo};
 ghost use Rattle.visits.specs.Visits.{Visited};
-ghost use Rattle.sweeps.specs.Sweeps.{clausesAt, tableBy};
+ghost use Rattle.sweeps.specs.Sweeps.{tableBy};
 ghost use Rattle.decode.specs.Decode.{Tables};
 ghost use Rattle.fanout.specs.Fanout.{speaks, letterAt, Ground, Pending, Reached};
-ghost use Rattle.own.specs.Own.{Node};
 
 // Whether a rule is the letter of channel e.
 fn speaks_of(rule: Rule, e: u32) -> bool
@@ -39,23 +39,58 @@ fn speaks_of(rule: Rule, e: u32) -> bool
     }
 }
 
-// The gate at instant t of a node that is the letter of channel e.
-fn reach_letter(
+// The block of the node at row x, from the columns: where its parts' truths begin is put down already.
+fn block_of<'a>(
+    kinds: &'a [u8; MAX_NODES],
+    numbers: &'a [u8; MAX_NODES],
+    sizes: &'a [u8; MAX_NODES],
+    firsts: &[u32; MAX_NODES],
+    seats: &[u32; MAX_NODES],
+    k: u32,
+    x: usize,
+) -> Block
+    requires { ⌜ (k ≤ maxSteps) × (x < maxNodes) × Low (now firsts) × Seated (now kinds) (now numbers) (now firsts) k (now seats) maxNodes ⌝ }
+    ensures { λ r. ⌜ r ≡ blockBy (now (kinds .entry)) (now (numbers .entry)) (now (sizes .entry)) (now (firsts .entry)) k x ⌝ }
+    ensures { λ r. ⌜ ((c : ℕ) → c ≤ maxChannels → Fine c k r) ⌝ }
+{
+    let kind = rows::byte_at(kinds, x);
+    let left = clause_table::number_at(seats, x + 1);
+    let right = clause_table::number_at(seats, nodes::second(sizes, x));
+    Block {
+        rule: blocks::rule_of(kind, rows::byte_at(numbers, x)),
+        points: weights::points_of(kind, k),
+        first: clause_table::number_at(firsts, x),
+        left,
+        right,
+    }
+}
+
+// The gate at instant t of the node at row x, if it is the letter of channel e: most nodes are not, so its block is made last.
+fn reach_letter<'a>(
     values: &mut [u8],
     trail: &mut [u32],
     top: usize,
+    kinds: &'a [u8; MAX_NODES],
+    numbers: &'a [u8; MAX_NODES],
+    sizes: &'a [u8; MAX_NODES],
+    firsts: &[u32; MAX_NODES],
+    seats: &[u32; MAX_NODES],
+    parents: &[u8; MAX_NODES],
+    count: usize,
     c: u32,
     k: u32,
     all: u32,
-    block: Block,
+    x: usize,
     t: u32,
     e: u32,
 ) -> Closed
-    requires { ⌜ Node c k block (now values) (now trail) top × (all ≡ countOf k) × (t < k) ⌝ }
-    ensures { λ r. ⌜ Visited (cond (speaks e (block .rule)) (clausesAt (definedBy c k block) t) []) (now (values .entry)) (now (trail .entry)) top (now (values .exit)) (now (trail .exit)) r ⌝ }
+    requires { ⌜ Ground c k (now kinds) (now numbers) (now sizes) (now firsts) (now seats) (now parents) count (length (now values)) × Trailing (now values) (now trail) top ⌝ }
+    requires { ⌜ (all ≡ countOf k) × (x < count) × (t < k) ⌝ }
+    ensures { λ r. ⌜ Visited (letterAt c k (now (kinds .entry)) (now (numbers .entry)) (now (sizes .entry)) (now (firsts .entry)) t e x) (now (values .entry)) (now (trail .entry)) top (now (values .exit)) (now (trail .exit)) r ⌝ }
 {
-    let rule = block.rule;
+    let rule = blocks::rule_of(kinds[x], numbers[x]);
     if speaks_of(rule, e) {
+        let block = block_of(kinds, numbers, sizes, firsts, seats, k, x);
         return own::visit_line(values, trail, top, c, k, all, block, t);
     }
     own::done(top)
@@ -70,6 +105,7 @@ fn reach_letters<'a>(
     numbers: &'a [u8; MAX_NODES],
     sizes: &'a [u8; MAX_NODES],
     firsts: &[u32; MAX_NODES],
+    seats: &[u32; MAX_NODES],
     parents: &[u8; MAX_NODES],
     count: usize,
     c: u32,
@@ -78,14 +114,30 @@ fn reach_letters<'a>(
     t: u32,
     e: u32,
 ) -> Closed
-    requires { ⌜ Ground c k (now kinds) (now numbers) (now sizes) (now firsts) (now parents) count (length (now values)) × Trailing (now values) (now trail) top ⌝ }
+    requires { ⌜ Ground c k (now kinds) (now numbers) (now sizes) (now firsts) (now seats) (now parents) count (length (now values)) × Trailing (now values) (now trail) top ⌝ }
     requires { ⌜ (all ≡ countOf k) × (t < k) ⌝ }
     ensures { λ r. ⌜ Visited (rows count (letterAt c k (now (kinds .entry)) (now (numbers .entry)) (now (sizes .entry)) (now (firsts .entry)) t e)) (now (values .entry)) (now (trail .entry)) top (now (values .exit)) (now (trail .exit)) r ⌝ }
 {
     let mut last = top;
     for x in 0..count {
-        let block = clause_table::block_at(kinds, numbers, sizes, firsts, k, x);
-        let r = reach_letter(values, trail, last, c, k, all, block, t, e);
+        let r = reach_letter(
+            values,
+            trail,
+            last,
+            kinds,
+            numbers,
+            sizes,
+            firsts,
+            seats,
+            parents,
+            count,
+            c,
+            k,
+            all,
+            x,
+            t,
+            e,
+        );
         if r.clash {
             return r;
         }
@@ -103,6 +155,7 @@ fn reach_channel<'a>(
     numbers: &'a [u8; MAX_NODES],
     sizes: &'a [u8; MAX_NODES],
     firsts: &[u32; MAX_NODES],
+    seats: &[u32; MAX_NODES],
     parents: &[u8; MAX_NODES],
     count: usize,
     c: u32,
@@ -110,7 +163,7 @@ fn reach_channel<'a>(
     all: u32,
     u: u32,
 ) -> Closed
-    requires { ⌜ Ground c k (now kinds) (now numbers) (now sizes) (now firsts) (now parents) count (length (now values)) × Trailing (now values) (now trail) top ⌝ }
+    requires { ⌜ Ground c k (now kinds) (now numbers) (now sizes) (now firsts) (now seats) (now parents) count (length (now values)) × Trailing (now values) (now trail) top ⌝ }
     requires { ⌜ (all ≡ countOf k) × (1 ≤ u) × (u ≤ k * c) ⌝ }
     ensures { λ r. ⌜ Reached (tableBy c k (now (kinds .entry)) (now (numbers .entry)) (now (sizes .entry)) (now (firsts .entry)) count) u (now (values .entry)) (now (trail .entry)) top (now (values .exit)) (now (trail .exit)) r ⌝ }
 {
@@ -123,6 +176,7 @@ fn reach_channel<'a>(
         numbers,
         sizes,
         firsts,
+        seats,
         parents,
         count,
         c,
@@ -142,6 +196,7 @@ fn reach_row<'a>(
     numbers: &'a [u8; MAX_NODES],
     sizes: &'a [u8; MAX_NODES],
     firsts: &[u32; MAX_NODES],
+    seats: &[u32; MAX_NODES],
     parents: &[u8; MAX_NODES],
     intervals: &[u16],
     starts: &[u32],
@@ -151,22 +206,22 @@ fn reach_row<'a>(
     all: u32,
     u: u32,
 ) -> Closed
-    requires { ⌜ Ground c k (now kinds) (now numbers) (now sizes) (now firsts) (now parents) count (length (now values)) × Trailing (now values) (now trail) top ⌝ }
+    requires { ⌜ Ground c k (now kinds) (now numbers) (now sizes) (now firsts) (now seats) (now parents) count (length (now values)) × Trailing (now values) (now trail) top ⌝ }
     requires { ⌜ Tables k (now intervals) (now starts) × (all ≡ countOf k) × (k * c < u) × (u ≤ length (now values)) ⌝ }
     ensures { λ r. ⌜ Reached (tableBy c k (now (kinds .entry)) (now (numbers .entry)) (now (sizes .entry)) (now (firsts .entry)) count) u (now (values .entry)) (now (trail .entry)) top (now (values .exit)) (now (trail .exit)) r ⌝ }
 {
     let z = decode::last_from(firsts, count, u);
-    let block = clause_table::block_at(kinds, numbers, sizes, firsts, k, z);
+    let block = block_of(kinds, numbers, sizes, firsts, seats, k, z);
     let r = own::reach(values, trail, top, intervals, starts, c, k, all, block, u);
     if r.clash {
         return r;
     }
     if z != 0 {
         let y = parents[z] as usize;
-        let up = clause_table::block_at(kinds, numbers, sizes, firsts, k, y);
+        let up = block_of(kinds, numbers, sizes, firsts, seats, k, y);
         return part::reach(values, trail, r.top, intervals, c, k, all, up, u);
     }
-    let root = clause_table::seat(kinds, numbers, firsts, k, 0) + k;
+    let root = seats[0] + k;
     if u != root {
         return r;
     }
@@ -182,6 +237,7 @@ fn reach<'a>(
     numbers: &'a [u8; MAX_NODES],
     sizes: &'a [u8; MAX_NODES],
     firsts: &[u32; MAX_NODES],
+    seats: &[u32; MAX_NODES],
     parents: &[u8; MAX_NODES],
     intervals: &[u16],
     starts: &[u32],
@@ -191,7 +247,7 @@ fn reach<'a>(
     all: u32,
     u: u32,
 ) -> Closed
-    requires { ⌜ Ground c k (now kinds) (now numbers) (now sizes) (now firsts) (now parents) count (length (now values)) × Trailing (now values) (now trail) top ⌝ }
+    requires { ⌜ Ground c k (now kinds) (now numbers) (now sizes) (now firsts) (now seats) (now parents) count (length (now values)) × Trailing (now values) (now trail) top ⌝ }
     requires { ⌜ Tables k (now intervals) (now starts) × (all ≡ countOf k) × Variable (length (now values)) u ⌝ }
     ensures { λ r. ⌜ Reached (tableBy c k (now (kinds .entry)) (now (numbers .entry)) (now (sizes .entry)) (now (firsts .entry)) count) u (now (values .entry)) (now (trail .entry)) top (now (values .exit)) (now (trail .exit)) r ⌝ }
 {
@@ -204,6 +260,7 @@ fn reach<'a>(
             numbers,
             sizes,
             firsts,
+            seats,
             parents,
             count,
             c,
@@ -220,6 +277,7 @@ fn reach<'a>(
         numbers,
         sizes,
         firsts,
+        seats,
         parents,
         intervals,
         starts,
@@ -241,6 +299,7 @@ pub fn close<'a>(
     numbers: &'a [u8; MAX_NODES],
     sizes: &'a [u8; MAX_NODES],
     firsts: &[u32; MAX_NODES],
+    seats: &[u32; MAX_NODES],
     parents: &[u8; MAX_NODES],
     intervals: &[u16],
     starts: &[u32],
@@ -248,7 +307,7 @@ pub fn close<'a>(
     c: u32,
     k: u32,
 ) -> Closed
-    requires { ⌜ Ground c k (now kinds) (now numbers) (now sizes) (now firsts) (now parents) count (length (now values)) × Tables k (now intervals) (now starts) ⌝ }
+    requires { ⌜ Ground c k (now kinds) (now numbers) (now sizes) (now firsts) (now seats) (now parents) count (length (now values)) × Tables k (now intervals) (now starts) ⌝ }
     requires { ⌜ Pending (tableBy c k (now kinds) (now numbers) (now sizes) (now firsts) count) (now values) (now trail) head top ⌝ }
     ensures { λ r. ⌜ ClosedTo (tableBy c k (now (kinds .entry)) (now (numbers .entry)) (now (sizes .entry)) (now (firsts .entry)) count) (now (values .entry)) (now (trail .entry)) top (now (values .exit)) (now (trail .exit)) r ⌝ }
 {
@@ -265,6 +324,7 @@ pub fn close<'a>(
             numbers,
             sizes,
             firsts,
+            seats,
             parents,
             intervals,
             starts,
@@ -294,6 +354,7 @@ pub fn start<'a>(
     numbers: &'a [u8; MAX_NODES],
     sizes: &'a [u8; MAX_NODES],
     firsts: &[u32; MAX_NODES],
+    seats: &[u32; MAX_NODES],
     parents: &[u8; MAX_NODES],
     intervals: &[u16],
     starts: &[u32],
@@ -301,7 +362,7 @@ pub fn start<'a>(
     c: u32,
     k: u32,
 ) -> Closed
-    requires { ⌜ Ground c k (now kinds) (now numbers) (now sizes) (now firsts) (now parents) count (length (now values)) × Tables k (now intervals) (now starts) ⌝ }
+    requires { ⌜ Ground c k (now kinds) (now numbers) (now sizes) (now firsts) (now seats) (now parents) count (length (now values)) × Tables k (now intervals) (now starts) ⌝ }
     requires { ⌜ Trailing (now values) (now trail) 0 ⌝ }
     ensures { λ r. ⌜ ClosedTo (tableBy c k (now (kinds .entry)) (now (numbers .entry)) (now (sizes .entry)) (now (firsts .entry)) count) (now (values .entry)) (now (trail .entry)) 0 (now (values .exit)) (now (trail .exit)) r ⌝ }
 {
@@ -318,6 +379,7 @@ pub fn start<'a>(
         numbers,
         sizes,
         firsts,
+        seats,
         parents,
         intervals,
         starts,

@@ -25,7 +25,7 @@ use Rattle.rows.specs.declared.NodeTable.{NodeTable}
 use Rattle.nodes.proofs.Standing.{nodes-count, stands}
 use Rattle.clauses.specs.Clauses.{Clause}
 use Rattle.clause_table.specs.Table.{over}
-use Rattle.clause_table.specs.Rows.{Measured}
+use Rattle.clause_table.specs.Rows.{Seated, Measured}
 use Rattle.clause_table.specs.declared.Sizes.{Sizes}
 use Rattle.clause_table.proofs.Places.{first-is}
 use Rattle.clause_table.proofs.Call.{variables-known, literals-known}
@@ -134,11 +134,11 @@ module _ (C k : ℕ) (f : Tree Formula) {T : NodeTable} (e : T ≡ tableOf (map 
     values-taken = length-take-le (s .variables) values v
 
     -- what the tree of tries asks for
-    pub parts-fit : Letters C f → C ≤ maxChannels → k ≤ maxSteps → T .count ≤ maxNodes → {P : List ℕ} → Nearest (T .sizes) P (T .count) → {I S : List ℕ} → Tables k I S
-        → (Ground C k (T .kinds) (T .numbers) (T .sizes) G P (T .count) (length (take (s .variables) values)) × Tables k I S)
+    pub parts-fit : Letters C f → C ≤ maxChannels → k ≤ maxSteps → T .count ≤ maxNodes → {Q P : List ℕ} → Seated (T .kinds) (T .numbers) G k Q maxNodes → Nearest (T .sizes) P (T .count) → {I S : List ℕ} → Tables k I S
+        → (Ground C k (T .kinds) (T .numbers) (T .sizes) G Q P (T .count) (length (take (s .variables) values)) × Tables k I S)
         × ((length (take (s .variables) values) ≤ length (take (s .variables) trail)) × (length (take k recording) ≡ k))
-    parts-fit L c k n p i = (
-      (ground-of C _ f e w L c k n p (take (s .variables) values) values-taken, i),
+    parts-fit L c k n q p i = (
+      (ground-of C _ f e w L c k n q p (take (s .variables) values) values-taken, i),
       (omega (arith, values-taken, length-take-le (s .variables) trail t), length-take-le _ recording h),
     )
 

@@ -62,6 +62,7 @@ fn draw<'a>(
     numbers: &'a [u8; MAX_NODES],
     sizes: &'a [u8; MAX_NODES],
     firsts: &[u32; MAX_NODES],
+    seats: &[u32; MAX_NODES],
     parents: &[u8; MAX_NODES],
     intervals: &[u16],
     starts: &[u32],
@@ -70,7 +71,7 @@ fn draw<'a>(
     k: u32,
     limit: u32,
 ) -> Answer
-    requires { ⌜ Ground c k (now kinds) (now numbers) (now sizes) (now firsts) (now parents) count (length (now values)) × Tables k (now intervals) (now starts) ⌝ }
+    requires { ⌜ Ground c k (now kinds) (now numbers) (now sizes) (now firsts) (now seats) (now parents) count (length (now values)) × Tables k (now intervals) (now starts) ⌝ }
     requires { ⌜ (length (now values) ≤ length (now trail)) × (length (now recording) ≡ k) ⌝ }
     ensures { λ r. ⌜ record { answer = r; recording = now (recording .exit) } ≡ limited c k limit (now (recording .entry)) (tree (tableBy c k (now (kinds .entry)) (now (numbers .entry)) (now (sizes .entry)) (now (firsts .entry)) count) (length (now (values .entry))) (k * c)) ⌝ }
 {
@@ -81,6 +82,7 @@ fn draw<'a>(
         numbers,
         sizes,
         firsts,
+        seats,
         parents,
         intervals,
         starts,
@@ -116,6 +118,8 @@ fn search_lent(
     requires { ⌜ (s .variables ≤ length (now values)) × (s .variables ≤ length (now trail)) × (k ≤ length (now recording)) ⌝ }
     ensures { λ r. ⌜ ((f : Tree Formula) → table ≡ tableOf (map rowOf (nodesOf f 0)) → record { answer = r; recording = now (recording .exit) } ≡ limited c k limit (now (recording .entry)) (treeOf c k f)) ⌝ }
 {
+    let mut seats = [0; MAX_NODES];
+    clause_table::put_seats(&table.kinds, &table.numbers, firsts, k, &mut seats);
     let mut parents = [0; MAX_NODES];
     parents::put_parents(&table.sizes, table.count, &mut parents);
     let steps = k as usize;
@@ -132,6 +136,7 @@ fn search_lent(
         &table.numbers,
         &table.sizes,
         firsts,
+        &seats,
         &parents,
         &intervals,
         &starts,

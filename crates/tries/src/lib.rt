@@ -50,6 +50,7 @@ fn try_literal<'a>(
     numbers: &'a [u8; MAX_NODES],
     sizes: &'a [u8; MAX_NODES],
     firsts: &[u32; MAX_NODES],
+    seats: &[u32; MAX_NODES],
     parents: &[u8; MAX_NODES],
     intervals: &[u16],
     starts: &[u32],
@@ -59,7 +60,7 @@ fn try_literal<'a>(
     v: u32,
     mark: u8,
 ) -> Closed
-    requires { ⌜ Ground c k (now kinds) (now numbers) (now sizes) (now firsts) (now parents) count (length (now values)) × Tables k (now intervals) (now starts) ⌝ }
+    requires { ⌜ Ground c k (now kinds) (now numbers) (now sizes) (now firsts) (now seats) (now parents) count (length (now values)) × Tables k (now intervals) (now starts) ⌝ }
     requires { ⌜ Ready (tableBy c k (now kinds) (now numbers) (now sizes) (now firsts) count) (now values) (now trail) top v ⌝ }
     ensures { λ r. ⌜ Tried (tableBy c k (now (kinds .entry)) (now (numbers .entry)) (now (sizes .entry)) (now (firsts .entry)) count) (literalOf (entry v mark)) (now (values .entry)) (now (trail .entry)) top (now (values .exit)) (now (trail .exit)) r ⌝ }
 {
@@ -73,6 +74,7 @@ fn try_literal<'a>(
         numbers,
         sizes,
         firsts,
+        seats,
         parents,
         intervals,
         starts,
@@ -92,6 +94,7 @@ fn try_high<'a>(
     numbers: &'a [u8; MAX_NODES],
     sizes: &'a [u8; MAX_NODES],
     firsts: &[u32; MAX_NODES],
+    seats: &[u32; MAX_NODES],
     parents: &[u8; MAX_NODES],
     intervals: &[u16],
     starts: &[u32],
@@ -99,7 +102,7 @@ fn try_high<'a>(
     c: u32,
     k: u32,
 ) -> Closed
-    requires { ⌜ Ground c k (now kinds) (now numbers) (now sizes) (now firsts) (now parents) count (length (now values)) × Tables k (now intervals) (now starts) ⌝ }
+    requires { ⌜ Ground c k (now kinds) (now numbers) (now sizes) (now firsts) (now seats) (now parents) count (length (now values)) × Tables k (now intervals) (now starts) ⌝ }
     requires { ⌜ Undoable (tableBy c k (now kinds) (now numbers) (now sizes) (now firsts) count) (now values) (now trail) from to ⌝ }
     ensures { λ r. ⌜ Tried (tableBy c k (now (kinds .entry)) (now (numbers .entry)) (now (sizes .entry)) (now (firsts .entry)) count) (plain (getD (now (trail .entry)) from 0)) (undone (now (trail .entry)) from (to - from) (now (values .entry))) (now (trail .entry)) from (now (values .exit)) (now (trail .exit)) r ⌝ }
 {
@@ -113,6 +116,7 @@ fn try_high<'a>(
         numbers,
         sizes,
         firsts,
+        seats,
         parents,
         intervals,
         starts,
@@ -135,6 +139,7 @@ fn descend<'a>(
     numbers: &'a [u8; MAX_NODES],
     sizes: &'a [u8; MAX_NODES],
     firsts: &[u32; MAX_NODES],
+    seats: &[u32; MAX_NODES],
     parents: &[u8; MAX_NODES],
     intervals: &[u16],
     starts: &[u32],
@@ -143,7 +148,7 @@ fn descend<'a>(
     k: u32,
     limit: u32,
 ) -> Below
-    requires { ⌜ Ground c k (now kinds) (now numbers) (now sizes) (now firsts) (now parents) count (length (now values)) × Tables k (now intervals) (now starts) ⌝ }
+    requires { ⌜ Ground c k (now kinds) (now numbers) (now sizes) (now firsts) (now seats) (now parents) count (length (now values)) × Tables k (now intervals) (now starts) ⌝ }
     requires { ⌜ Holding (tableBy c k (now kinds) (now numbers) (now sizes) (now firsts) count) nothing (now values) (now trail) closed ⌝ }
     ensures { λ r. ⌜ Started (tableBy c k (now (kinds .entry)) (now (numbers .entry)) (now (sizes .entry)) (now (firsts .entry)) count) (length (now (values .entry))) (k * c) limit (now (values .exit)) r ⌝ }
 {
@@ -170,6 +175,7 @@ fn descend<'a>(
                 numbers,
                 sizes,
                 firsts,
+                seats,
                 parents,
                 intervals,
                 starts,
@@ -197,6 +203,7 @@ fn descend<'a>(
             numbers,
             sizes,
             firsts,
+            seats,
             parents,
             intervals,
             starts,
@@ -227,6 +234,7 @@ pub fn start<'a>(
     numbers: &'a [u8; MAX_NODES],
     sizes: &'a [u8; MAX_NODES],
     firsts: &[u32; MAX_NODES],
+    seats: &[u32; MAX_NODES],
     parents: &[u8; MAX_NODES],
     intervals: &[u16],
     starts: &[u32],
@@ -235,7 +243,7 @@ pub fn start<'a>(
     k: u32,
     limit: u32,
 ) -> Below
-    requires { ⌜ Ground c k (now kinds) (now numbers) (now sizes) (now firsts) (now parents) count (length (now values)) × Tables k (now intervals) (now starts) ⌝ }
+    requires { ⌜ Ground c k (now kinds) (now numbers) (now sizes) (now firsts) (now seats) (now parents) count (length (now values)) × Tables k (now intervals) (now starts) ⌝ }
     requires { ⌜ length (now values) ≤ length (now trail) ⌝ }
     ensures { λ r. ⌜ Started (tableBy c k (now (kinds .entry)) (now (numbers .entry)) (now (sizes .entry)) (now (firsts .entry)) count) (length (now (values .entry))) (k * c) limit (now (values .exit)) r ⌝ }
 {
@@ -247,6 +255,7 @@ pub fn start<'a>(
         numbers,
         sizes,
         firsts,
+        seats,
         parents,
         intervals,
         starts,
@@ -262,6 +271,7 @@ pub fn start<'a>(
         numbers,
         sizes,
         firsts,
+        seats,
         parents,
         intervals,
         starts,

@@ -16,13 +16,13 @@ use Rattle.queue.proofs.close.Statement.{statement}
 use Rattle.queue.proofs.close.Tie as tie
 
 abbrev Inv-loop : tie.InvT-loop
-Inv-loop values₀ trail₀ head top kinds numbers sizes firsts parents intervals starts count c k all t₀ h₀ values trail t h =
+Inv-loop values₀ trail₀ head top kinds numbers sizes firsts seats parents intervals starts count c k all t₀ h₀ values trail t h =
     (length values ≡ length values₀) × (length trail ≡ length trail₀) × Grown values₀ trail₀ top values trail t
     × (closure (tableBy c k kinds numbers sizes firsts count) (heldIn values) ≡ closure (tableBy c k kinds numbers sizes firsts count) (heldIn values₀))
     × Pending (tableBy c k kinds numbers sizes firsts count) values trail h t × (all ≡ countOf k)
 
 abbrev μ-loop : tie.MeasureT-loop
-μ-loop values₀ trail₀ head top kinds numbers sizes firsts parents intervals starts count c k all t₀ h₀ values trail t h = length values₀ - h
+μ-loop values₀ trail₀ head top kinds numbers sizes firsts seats parents intervals starts count c k all t₀ h₀ values trail t h = length values₀ - h
 
 count-requires : tie.Need-count-requires Inv-loop μ-loop
 count-requires c κs = c .before .before .before .before .pre .0 .0 .steps

@@ -21,7 +21,7 @@ returns : tie.Need-returns
 returns c = search needs
 
 reach-row-requires : tie.Need-reach-row-requires
-reach-row-requires c κs = search needs
+reach-row-requires c κs = let p = c .before .before .before .before .before .before .before .pre in (p .0, (p .1 .0, p .1 .1, c .before .before .if1 .left, p .1 .2 .1))
 
 same-length-3 : tie.Need-same-length-3
 same-length-3 c = search needs

@@ -1,5 +1,5 @@
 -- Row after row is visited at the instant, if it is a letter of the channel.
--- Each row's block is the node's own.
+-- The ground stays, since the list of values keeps its length.
 use mathlib.Core.Path.{_≡_, refl, _∙_}
 use mathlib.Core.Bool.{false}
 use Prim.Native.Nat.{_-_, _≤_}
@@ -10,30 +10,24 @@ use Rattle.interval.specs.Listing.{rows}
 use Rattle.visits.specs.Visits.{Visited}
 use Rattle.visits.proofs.Loops.{loop-begun, loop-turn, loop-stop, loop-done}
 use Rattle.fanout.specs.Fanout.{letterAt}
-use Rattle.fanout.proofs.Letters.{letter-row}
-use Rattle.queue.proofs.Rows.{node-at, visited-done}
+use Rattle.fanout.proofs.Ground.{ground-still}
+use Rattle.queue.proofs.Rows.{visited-done}
 use Rattle.queue.proofs.reach_letters.Statement.{statement}
 use Rattle.queue.proofs.reach_letters.Tie as tie
 
 abbrev Inv-loop : tie.InvT-loop
-Inv-loop values₀ trail₀ top kinds numbers sizes firsts parents count c k all t e last₀ x₀ values trail last x =
+Inv-loop values₀ trail₀ top kinds numbers sizes firsts seats parents count c k all t e last₀ x₀ values trail last x =
     (length values ≡ length values₀) × (length trail ≡ length trail₀) × (x ≤ count)
     × Visited (rows x (letterAt c k kinds numbers sizes firsts t e)) values₀ trail₀ top values trail (record { clash = false; top = last })
 
 abbrev μ-loop : tie.MeasureT-loop
-μ-loop values₀ trail₀ top kinds numbers sizes firsts parents count c k all t e last₀ x₀ values trail last x = count - x
+μ-loop values₀ trail₀ top kinds numbers sizes firsts seats parents count c k all t e last₀ x₀ values trail last x = count - x
 
 loop-holds : tie.Need-loop-holds Inv-loop μ-loop
 loop-holds c = (refl, refl, omega arith, loop-begun _ (c .before .before .pre .0 .1))
 
-block-at-requires : tie.Need-block-at-requires Inv-loop μ-loop
-block-at-requires c κs = let g = c .before .before .before .before .pre .0 .0 in (g .steps, omega (arith, c .loop-test .taken, g .few), g .low)
-
 reach-letter-requires : tie.Need-reach-letter-requires Inv-loop μ-loop
-reach-letter-requires c κs =
-    let p = c .before .before .before .before .before .before .before .pre in
-    let i = c .before .before .before .before .loop .inv in
-    (node-at (c .before .before .before .before .loop .x) (p .0 .0) (i .0) (c .before .before .before .loop-test .taken) (c .before .before .block-at .ensures .0) (c .before .before .block-at .ensures .1 (c .before .before .before .before .before .before .before .args .c) (p .0 .0 .channels)) (i .3 .grown .trailing), p .1 .0, p .1 .1)
+reach-letter-requires c κs = let p = c .before .before .before .before .before .before .pre in let i = c .before .before .before .loop .inv in ((ground-still (i .0) (p .0 .0), i .3 .grown .trailing), (p .1 .0, c .before .before .loop-test .taken, p .1 .1))
 
 same-length : tie.Need-same-length Inv-loop μ-loop
 same-length c = search needs
@@ -42,16 +36,16 @@ same-length-2 : tie.Need-same-length-2 Inv-loop μ-loop
 same-length-2 c = search needs
 
 returns : tie.Need-returns Inv-loop μ-loop
-returns c = let i = c .before .before .before .before .before .before .before .before .before .before .loop .inv in loop-stop (letterAt (c .before .before .before .before .before .before .before .before .before .before .before .before .before .args .c) (c .before .before .before .before .before .before .before .before .before .before .before .before .before .args .k) (c .before .before .before .before .before .before .before .before .before .before .before .before .before .args .kinds .now) (c .before .before .before .before .before .before .before .before .before .before .before .before .before .args .numbers .now) (c .before .before .before .before .before .before .before .before .before .before .before .before .before .args .sizes .now) (c .before .before .before .before .before .before .before .before .before .before .before .before .before .args .firsts .now) (c .before .before .before .before .before .before .before .before .before .before .before .before .before .args .t) (c .before .before .before .before .before .before .before .before .before .before .before .before .before .args .e)) _ (i .3) (letter-row (c .before .before .before .before .before .before .before .before .before .before .before .before .before .args .c) (c .before .before .before .before .before .before .before .before .before .before .before .before .before .args .k) (c .before .before .before .before .before .before .before .before .before .before .before .before .before .args .kinds .now) (c .before .before .before .before .before .before .before .before .before .before .before .before .before .args .numbers .now) (c .before .before .before .before .before .before .before .before .before .before .before .before .before .args .sizes .now) (c .before .before .before .before .before .before .before .before .before .before .before .before .before .args .firsts .now) (c .before .before .before .before .before .before .before .before .before .before .before .before .before .args .t) (c .before .before .before .before .before .before .before .before .before .before .before .before .before .args .e) (c .before .before .before .before .before .before .before .before .before .before .loop .x) (c .before .before .before .before .before .before .before .before .block-at .result) (c .before .before .before .before .before .before .before .before .block-at .ensures .0)) (c .before .before .before .before .before .reach-letter .ensures) (c .before .before .before .before .before .before .before .before .before .before .before .before .before .args .count) (c .before .before .before .before .before .before .before .before .before .loop-test .taken) (c .if1 .taken)
+returns c = let a = c .before .before .before .before .before .before .before .before .before .before .before .before .args in let i = c .before .before .before .before .before .before .before .before .before .loop .inv in loop-stop (letterAt (a .c) (a .k) (a .kinds .now) (a .numbers .now) (a .sizes .now) (a .firsts .now) (a .t) (a .e)) _ (i .3) refl (c .before .before .before .before .before .reach-letter .ensures) (a .count) (c .before .before .before .before .before .before .before .before .loop-test .taken) (c .if1 .taken)
 
 add-x : tie.Need-add-x Inv-loop μ-loop
 add-x c = search needs
 
 loop-less : tie.Need-loop-less Inv-loop μ-loop
-loop-less c = omega (arith, c .before .before .before .before .before .before .before .before .before .loop-test .taken)
+loop-less c = omega (arith, c .before .before .before .before .before .before .before .before .loop-test .taken)
 
 loop-again : tie.Need-loop-again Inv-loop μ-loop
-loop-again c = let i = c .before .before .before .before .before .before .before .before .before .before .loop .inv in let q = c .before .before .before .before .before .reach-letter in (q .kept .0 ∙ i .0, q .kept .1 .0 ∙ i .1, omega (arith, c .before .before .before .before .before .before .before .before .before .loop-test .taken), loop-turn (letterAt (c .before .before .before .before .before .before .before .before .before .before .before .before .before .args .c) (c .before .before .before .before .before .before .before .before .before .before .before .before .before .args .k) (c .before .before .before .before .before .before .before .before .before .before .before .before .before .args .kinds .now) (c .before .before .before .before .before .before .before .before .before .before .before .before .before .args .numbers .now) (c .before .before .before .before .before .before .before .before .before .before .before .before .before .args .sizes .now) (c .before .before .before .before .before .before .before .before .before .before .before .before .before .args .firsts .now) (c .before .before .before .before .before .before .before .before .before .before .before .before .before .args .t) (c .before .before .before .before .before .before .before .before .before .before .before .before .before .args .e)) _ (i .3) (letter-row (c .before .before .before .before .before .before .before .before .before .before .before .before .before .args .c) (c .before .before .before .before .before .before .before .before .before .before .before .before .before .args .k) (c .before .before .before .before .before .before .before .before .before .before .before .before .before .args .kinds .now) (c .before .before .before .before .before .before .before .before .before .before .before .before .before .args .numbers .now) (c .before .before .before .before .before .before .before .before .before .before .before .before .before .args .sizes .now) (c .before .before .before .before .before .before .before .before .before .before .before .before .before .args .firsts .now) (c .before .before .before .before .before .before .before .before .before .before .before .before .before .args .t) (c .before .before .before .before .before .before .before .before .before .before .before .before .before .args .e) (c .before .before .before .before .before .before .before .before .before .before .loop .x) (c .before .before .before .before .before .before .before .before .block-at .result) (c .before .before .before .before .before .before .before .before .block-at .ensures .0)) (q .ensures) (c .if1 .left))
+loop-again c = let a = c .before .before .before .before .before .before .before .before .before .before .before .before .args in let i = c .before .before .before .before .before .before .before .before .before .loop .inv in let q = c .before .before .before .before .before .reach-letter in (q .kept .0 ∙ i .0, q .kept .1 .0 ∙ i .1, omega (arith, c .before .before .before .before .before .before .before .before .loop-test .taken), loop-turn (letterAt (a .c) (a .k) (a .kinds .now) (a .numbers .now) (a .sizes .now) (a .firsts .now) (a .t) (a .e)) _ (i .3) refl (q .ensures) (c .if1 .left))
 
 done-requires : tie.Need-done-requires Inv-loop μ-loop
 done-requires c κs = search needs
@@ -63,7 +57,7 @@ same-length-4 : tie.Need-same-length-4 Inv-loop μ-loop
 same-length-4 c = search needs
 
 returns-2 : tie.Need-returns-2 Inv-loop μ-loop
-returns-2 c = let i = c .before .before .loop .inv in visited-done (c .done .ensures) (loop-done (letterAt (c .before .before .before .before .before .args .c) (c .before .before .before .before .before .args .k) (c .before .before .before .before .before .args .kinds .now) (c .before .before .before .before .before .args .numbers .now) (c .before .before .before .before .before .args .sizes .now) (c .before .before .before .before .before .args .firsts .now) (c .before .before .before .before .before .args .t) (c .before .before .before .before .before .args .e)) (c .before .before .before .before .before .args .count) _ (i .2) (omega (arith, c .before .loop-test .left)) (i .3))
+returns-2 c = let a = c .before .before .before .before .before .args in let i = c .before .before .loop .inv in visited-done (c .done .ensures) (loop-done (letterAt (a .c) (a .k) (a .kinds .now) (a .numbers .now) (a .sizes .now) (a .firsts .now) (a .t) (a .e)) (a .count) _ (i .2) (omega (arith, c .before .loop-test .left)) (i .3))
 
 pub reach-letters-spec : {M : Type 1} → statement M
 reach-letters-spec =
@@ -72,7 +66,6 @@ reach-letters-spec =
     Inv-loop
     μ-loop
     loop-holds
-    block-at-requires
     reach-letter-requires
     same-length
     same-length-2

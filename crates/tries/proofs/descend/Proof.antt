@@ -15,11 +15,11 @@ use Rattle.tries.proofs.descend.Statement.{statement}
 use Rattle.tries.proofs.descend.Tie as tie
 
 abbrev Inv-loop : tie.InvT-loop
-Inv-loop values₀ trail₀ kinds numbers sizes firsts parents intervals starts count c k limit channels levels₀ last₀ depth₀ n₀ values trail levels last depth n =
+Inv-loop values₀ trail₀ kinds numbers sizes firsts seats parents intervals starts count c k limit channels levels₀ last₀ depth₀ n₀ values trail levels last depth n =
     (length trail ≡ length trail₀) × (length levels ≡ maxSteps * maxChannels) × Standing (tableBy c k kinds numbers sizes firsts count) channels (length values₀) limit values trail levels last depth n
 
 abbrev μ-loop : tie.MeasureT-loop
-μ-loop values₀ trail₀ kinds numbers sizes firsts parents intervals starts count c k limit channels levels₀ last₀ depth₀ n₀ values trail levels last depth n = limit - n
+μ-loop values₀ trail₀ kinds numbers sizes firsts seats parents intervals starts count c k limit channels levels₀ last₀ depth₀ n₀ values trail levels last depth n = limit - n
 
 mul-channels : tie.Need-mul-channels Inv-loop μ-loop
 mul-channels c = few-channels (c .before .before .before .before .pre .0 .0)
