@@ -3,7 +3,7 @@
 use mathlib.Core.Path.{_≡_, sym, ap, ap₂, _∙_, subst}
 use mathlib.Core.Logic.{_≢_}
 use mathlib.Core.List.{List, [], _∷_, _++_, append-nil, map}
-use Prim.Native.Nat.{ℕ, _*_, _≤_, _<_}
+use Prim.Native.Nat.{ℕ, _*_, _^_, _≤_, _<_}
 use native.Mathlib.Omega.{arith}
 use lib.Dec.{leb}
 use lib.ListN.{length, getD, take, drop, length-map, take-append-drop}
@@ -134,12 +134,12 @@ module _ (C k : ℕ) (f : Tree Formula) {T : NodeTable} (e : T ≡ tableOf (map 
     values-taken = length-take-le (s .variables) values v
 
     -- what the tree of tries asks for
-    pub parts-fit : Letters C f → C ≤ maxChannels → k ≤ maxSteps → T .count ≤ maxNodes → {Q P : List ℕ} → Seated (T .kinds) (T .numbers) G k Q maxNodes → Nearest (T .sizes) P (T .count) → {I S : List ℕ} → Tables k I S
+    pub parts-fit : s .variables < 2 ^ 32 → Letters C f → C ≤ maxChannels → k ≤ maxSteps → T .count ≤ maxNodes → {Q P : List ℕ} → Seated (T .kinds) (T .numbers) G k Q maxNodes → Nearest (T .sizes) P (T .count) → {I S : List ℕ} → Tables k I S
         → (Ground C k (T .kinds) (T .numbers) (T .sizes) G Q P (T .count) (length (take (s .variables) values)) × Tables k I S)
-        × ((length (take (s .variables) values) ≤ length (take (s .variables) trail)) × (length (take k recording) ≡ k))
-    parts-fit L c k n q p i = (
+        × ((length (take (s .variables) values) ≤ length (take (s .variables) trail)) × (length (take (s .variables) values) < 2 ^ 32) × (length (take k recording) ≡ k))
+    parts-fit l L c k n q p i = (
       (ground-of C _ f e w L c k n q p (take (s .variables) values) values-taken, i),
-      (omega (arith, values-taken, length-take-le (s .variables) trail t), length-take-le _ recording h),
+      (omega (arith, values-taken, length-take-le (s .variables) trail t), omega (arith, values-taken, l), length-take-le _ recording h),
     )
 
     -- and what it comes to

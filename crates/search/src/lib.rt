@@ -8,7 +8,7 @@ use rows::NodeTable;
 use tries::Below;
 ghost use mathlib.Core.Path.{_≡_};
 ghost use mathlib.Core.List.{map};
-ghost use Prim.Native.Nat.{_*_, _≤_};
+ghost use Prim.Native.Nat.{_*_, _^_, _≤_, _<_};
 ghost use lib.ListN.{length};
 ghost use Rattle.interval.specs.Limits.{maxSteps};
 ghost use Rattle.grammar.specs.Limits.{maxNodes, maxChannels};
@@ -72,7 +72,7 @@ fn draw<'a>(
     limit: u32,
 ) -> Answer
     requires { ⌜ Ground c k (now kinds) (now numbers) (now sizes) (now firsts) (now seats) (now parents) count (length (now values)) × Tables k (now intervals) (now starts) ⌝ }
-    requires { ⌜ (length (now values) ≤ length (now trail)) × (length (now recording) ≡ k) ⌝ }
+    requires { ⌜ (length (now values) ≤ length (now trail)) × (length (now values) < 2 ^ 32) × (length (now recording) ≡ k) ⌝ }
     ensures { λ r. ⌜ record { answer = r; recording = now (recording .exit) } ≡ limited c k limit (now (recording .entry)) (tree (tableBy c k (now (kinds .entry)) (now (numbers .entry)) (now (sizes .entry)) (now (firsts .entry)) count) (length (now (values .entry))) (k * c)) ⌝ }
 {
     let below = tries::start(

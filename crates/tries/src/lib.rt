@@ -5,7 +5,7 @@ use grammar::MAX_CHANNELS;
 use grammar::MAX_NODES;
 use interval::Interval;
 ghost use mathlib.Core.Path.{_≡_};
-ghost use Prim.Native.Nat.{ℕ, _-_, _*_, _≤_};
+ghost use Prim.Native.Nat.{ℕ, _-_, _*_, _^_, _≤_, _<_};
 ghost use lib.ListN.{length, getD};
 ghost use Rattle.clauses.specs.Clauses.{plain};
 ghost use Rattle.clauses.specs.Entries.{entry, literalOf};
@@ -244,7 +244,7 @@ pub fn start<'a>(
     limit: u32,
 ) -> Below
     requires { ⌜ Ground c k (now kinds) (now numbers) (now sizes) (now firsts) (now seats) (now parents) count (length (now values)) × Tables k (now intervals) (now starts) ⌝ }
-    requires { ⌜ length (now values) ≤ length (now trail) ⌝ }
+    requires { ⌜ (length (now values) ≤ length (now trail)) × (length (now values) < 2 ^ 32) ⌝ }
     ensures { λ r. ⌜ Started (tableBy c k (now (kinds .entry)) (now (numbers .entry)) (now (sizes .entry)) (now (firsts .entry)) count) (length (now (values .entry))) (k * c) limit (now (values .exit)) r ⌝ }
 {
     clear(values);

@@ -8,7 +8,7 @@ use Rattle.search.proofs.draw.Statement.{statement}
 use Rattle.search.proofs.draw.Tie as tie
 
 start-requires : tie.Need-start-requires
-start-requires c κs = let p = c .before .before .before .before .before .before .before .pre in (p .0, p .1 .0)
+start-requires c κs = let p = c .before .before .before .before .before .before .before .pre in (p .0, (p .1 .0, p .1 .1))
 
 enum-known-below : tie.Need-enum-known-below
 enum-known-below c = search needs
@@ -18,7 +18,7 @@ enum-known-below-2 c = search needs
 
 put-recording-requires : tie.Need-put-recording-requires
 put-recording-requires c κs =
-    let s = c .before .before .before .before .before .before .before .before .before .before .before .before .before .before .before .before .before in let g = s .pre .0 .0 in let n = s .pre .1 .1 in
+    let s = c .before .before .before .before .before .before .before .before .before .before .before .before .before .before .before .before .before in let g = s .pre .0 .0 in let n = s .pre .1 .2 in
     search (g .channels, g .steps, g .total, n, ap (λ (n : ℕ). n * s .args .c) n, c .before .before .before .before .before .before .before .before .before .start .kept .0, needs)
 
 enum-told : tie.Need-enum-told
@@ -43,7 +43,7 @@ same-length-5 : tie.Need-same-length-5
 same-length-5 c = search needs
 
 returns-2 : tie.Need-returns-2
-returns-2 c = drawn-found (c .before .before .before .before .before .before .before .before .before .before .before .before .start .ensures) _ _ (c .before .before .before .before .before .before .before .before .before .before .before .before .before .before .before .before .before .before .before .before .args .recording .now) (c .before .before .before .before .before .before .below2 .given .1) (c .before .before .before .before .before .before .before .before .before .before .before .before .before .before .before .before .before .before .before .before .pre .1 .1) (c .before .before .put-recording .ensures)
+returns-2 c = drawn-found (c .before .before .before .before .before .before .before .before .before .before .before .before .start .ensures) _ _ (c .before .before .before .before .before .before .before .before .before .before .before .before .before .before .before .before .before .before .before .before .args .recording .now) (c .before .before .before .before .before .before .below2 .given .1) (c .before .before .before .before .before .before .before .before .before .before .before .before .before .before .before .before .before .before .before .before .pre .1 .2) (c .before .before .put-recording .ensures)
 
 same-length-6 : tie.Need-same-length-6
 same-length-6 c = search needs
