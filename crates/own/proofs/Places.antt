@@ -60,9 +60,6 @@ module _ (points k x : ℕ) (h : x < points) where
   line-placed Throughout e = absurd (false≢true cc)
   line-placed Cut e = absurd (false≢true cc)
 
-pub line-no-chop : {X : Type 0} (r : Rule) → formOf r ≡ Line → r ≡ Chop → X
-line-no-chop r e f = let g : formOf Chop ≡ Line = sym (ap formOf f) ∙ e in absurd (false≢true cc)
-
 pub line-whole : (r : Rule) → formOf r ≡ Line → isChop r ≡ false
 line-whole (Fixed v) e = refl
 line-whole (Letter c) e = refl

@@ -65,13 +65,7 @@ pub fn visit_line(
     requires { ⌜ Node c k block (now values) (now trail) top × (all ≡ countOf k) × (formOf (block .rule) ≡ Line) × (x < block .points) ⌝ }
     ensures { λ r. ⌜ Visited (clausesAt (definedBy c k block) x) (now (values .entry)) (now (trail .entry)) top (now (values .exit)) (now (trail .exit)) r ⌝ }
 {
-    let p = Position {
-        row: 0,
-        line: 0,
-        cell: x,
-        before: 0,
-    };
-    walks::visit_at(values, trail, top, c, k, all, block, x, p)
+    walks::visit_line(values, trail, top, c, k, block, x)
 }
 
 // A duration's or `[S]`'s own variable in place x.
@@ -100,7 +94,7 @@ fn reach_level(
         cell: v.j as u32 - i,
         before: 0,
     };
-    walks::visit_after(
+    levels::visit_after(
         values,
         trail,
         top,

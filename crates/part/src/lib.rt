@@ -92,7 +92,7 @@ fn reach_instant(
     }
     let rule = block.rule;
     let rise = own::rise_of(rule);
-    walks::visit_instant(
+    levels::visit_instant(
         values,
         trail,
         top,

@@ -289,7 +289,8 @@ fn reach<'a>(
     )
 }
 
-// The trail from head on, until all of it is taken or a clash is met.
+// The trail from head on, until all of it is taken or a clash is met. A clash is handed on field by field: where the answer is copied whole,
+// the compiler keeps every answer below it whole, and that is slower.
 pub fn close<'a>(
     values: &mut [u8],
     trail: &mut [u32],
@@ -335,7 +336,10 @@ pub fn close<'a>(
             u,
         );
         if r.clash {
-            return r;
+            return Closed {
+                clash: r.clash,
+                top: r.top,
+            };
         }
         t = r.top;
         h += 1;

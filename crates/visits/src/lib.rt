@@ -132,7 +132,7 @@ pub fn visit_one(
 }
 
 // The pattern of a constant.
-fn constant(up: bool) -> usize
+pub fn constant(up: bool) -> usize
     ensures { λ r. ⌜ ((r ≡ 6) × (up ≡ true)) ⊎ ((r ≡ 5) × (up ≡ false)) ⌝ }
 {
     if up { 6 } else { 5 }

@@ -1,4 +1,2 @@
 pub mod Places
 pub mod Gates
-pub mod After
-pub mod Rises

@@ -4,11 +4,12 @@ use mathlib.Core.Path.{refl}
 use native.Mathlib.Omega.{arith}
 use Rattle.blocks.proofs.Positions.{throughout-position, level-position}
 use Rattle.patterns.proofs.Steps.{patterns, settled-named}
 use Rattle.walks.proofs.Places.{place-small}
-use Rattle.walks.proofs.Gates.{whole-rule, level-rule, whole-empty, whole-gate, level-true, level-empty, level-gate, variable-here, inputs-here, visited-here}
+use Rattle.walks.proofs.Gates.{variable-here, inputs-here, visited-here}
+use Rattle.levels.proofs.Gates.{whole-rule, level-rule, whole-empty, whole-gate, level-true, level-empty, level-gate}
 use borrow.Author.Needs.{needs}
-use Rattle.walks.proofs.visit_level.Statement.{statement}
-use Rattle.walks.proofs.visit_level.Tie as tie
+use Rattle.levels.proofs.visit_level.Statement.{statement}
+use Rattle.levels.proofs.visit_level.Tie as tie
 
 add-v : tie.Need-add-v
 add-v c = let p = c .before .before .pre in omega (arith, place-small (p .0 .0) (p .1), p .0 .0 .bounded .first)

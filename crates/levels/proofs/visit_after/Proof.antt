@@ -2,10 +2,10 @@
 use borrow.Author.Needs.{needs}
 use native.Mathlib.Omega.{arith}
 use Rattle.visits.proofs.Parts.{visited-named, visited-stop, visited-then}
 use Rattle.walks.proofs.Places.{place-small, stands}
-use Rattle.walks.proofs.After.{interval-here, longer-placed, above-placed, after-one, after-two, after-three, after-first, after-second}
-use Rattle.walks.proofs.visit_after.Statement.{statement}
-use Rattle.walks.proofs.visit_after.Tie as tie
+use Rattle.levels.proofs.After.{interval-here, longer-placed, above-placed, after-one, after-two, after-three, after-first, after-second}
+use Rattle.levels.proofs.visit_after.Statement.{statement}
+use Rattle.levels.proofs.visit_after.Tie as tie
 
 visit-level-requires : tie.Need-visit-level-requires
 visit-level-requires c κs = let s = c .before .before .before .before .pre in ((s .0 .0, s .0 .1, (_, s .0 .2)), s .1)

@@ -1,0 +1,35 @@
+-- The gate goes by its pattern and its inputs, and the clauses of the pattern are those in its place (Gates.antt).
+-- They are settled.
+use mathlib.Core.Path.{refl}
+use native.Mathlib.Omega.{arith}
+use Rattle.patterns.proofs.Steps.{settled-named}
+use Rattle.walks.proofs.Places.{place-small}
+use Rattle.walks.proofs.Gates.{variable-here, inputs-here, visited-here}
+use borrow.Author.Needs.{needs}
+use Rattle.walks.proofs.visit_line.Statement.{statement}
+use Rattle.walks.proofs.visit_line.Tie as tie
+
+add-v : tie.Need-add-v
+add-v c = let p = c .before .before .before .pre in omega (arith, place-small (p .0 .0) (p .1), p .0 .0 .bounded .first)
+
+inputs-of-requires : tie.Need-inputs-of-requires
+inputs-of-requires c κs = let p = c .before .before .before .pre in (p .0 .0 .bounded, omega (arith, place-small (p .0 .0) (p .1)), p .0 .1)
+
+settle-by-requires : tie.Need-settle-by-requires
+settle-by-requires c κs = let p = c .before .before .before .before .before .before .pre in let g = c .before .before .inputs-of .ensures in
+    let v = variable-here (p .0 .0) (p .1) in let i = g .inputs _ v (inputs-here (p .0 .0) (p .1) refl) in
+    ((p .0 .0 .trailing, g .gate), (v, i .0, i .1, v))
+
+same-length : tie.Need-same-length
+same-length c = search needs
+
+same-length-2 : tie.Need-same-length-2
+same-length-2 c = search needs
+
+returns : tie.Need-returns
+returns c = let p = c .before .before .before .before .before .before .before .before .before .before .before .pre in visited-here (p .0 .0) (p .1) refl (settled-named (c .before .before .before .before .before .before .before .inputs-of .ensures .clauses) (c .before .before .before .before .settle-by .ensures))
+
+pub visit-line-spec : {M : Type 1} → statement M
+visit-line-spec =
+    tie.close
+    (tie.spec add-v inputs-of-requires settle-by-requires same-length same-length-2 returns)
