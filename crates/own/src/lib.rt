@@ -58,11 +58,10 @@ pub fn visit_line(
     top: usize,
     c: u32,
     k: u32,
-    all: u32,
     block: Block,
     x: u32,
 ) -> Closed
-    requires { ⌜ Node c k block (now values) (now trail) top × (all ≡ countOf k) × (formOf (block .rule) ≡ Line) × (x < block .points) ⌝ }
+    requires { ⌜ Node c k block (now values) (now trail) top × (formOf (block .rule) ≡ Line) × (x < block .points) ⌝ }
     ensures { λ r. ⌜ Visited (clausesAt (definedBy c k block) x) (now (values .entry)) (now (trail .entry)) top (now (values .exit)) (now (trail .exit)) r ⌝ }
 {
     walks::visit_line(values, trail, top, c, k, block, x)
@@ -222,7 +221,7 @@ pub fn reach(
         return reach_chop(values, trail, top, intervals, starts, c, k, all, block, x);
     }
     match blocks::form_of(rule) {
-        Form::Line => visit_line(values, trail, top, c, k, all, block, x),
+        Form::Line => visit_line(values, trail, top, c, k, block, x),
         Form::Intervals => reach_level(values, trail, top, intervals, c, k, all, block, x),
         Form::Triples => done(top),
     }

@@ -50,11 +50,10 @@ fn reach_line(
     top: usize,
     c: u32,
     k: u32,
-    all: u32,
     block: Block,
     u: u32,
 ) -> Closed
-    requires { ⌜ Node c k block (now values) (now trail) top × (all ≡ countOf k) × (formOf (block .rule) ≡ Line) × (InBlock k block u → ⊥) × (k * c < u) ⌝ }
+    requires { ⌜ Node c k block (now values) (now trail) top × (formOf (block .rule) ≡ Line) × (InBlock k block u → ⊥) × (k * c < u) ⌝ }
     ensures { λ r. ⌜ Reached (nodeClauses c k block) u (now (values .entry)) (now (trail .entry)) top (now (values .exit)) (now (trail .exit)) r ⌝ }
 {
     let rule = block.rule;
@@ -63,10 +62,10 @@ fn reach_line(
     let points = block.points;
     let parts = parts_of(rule);
     if (1 <= parts) & among(left, points, u) {
-        return own::visit_line(values, trail, top, c, k, all, block, u - left);
+        return own::visit_line(values, trail, top, c, k, block, u - left);
     }
     if (2 <= parts) & among(right, points, u) {
-        return own::visit_line(values, trail, top, c, k, all, block, u - right);
+        return own::visit_line(values, trail, top, c, k, block, u - right);
     }
     own::done(top)
 }
@@ -177,7 +176,7 @@ pub fn reach(
         return reach_chop(values, trail, top, intervals, c, k, all, block, u);
     }
     match blocks::form_of(rule) {
-        Form::Line => reach_line(values, trail, top, c, k, all, block, u),
+        Form::Line => reach_line(values, trail, top, c, k, block, u),
         Form::Intervals => reach_instant(values, trail, top, c, k, all, block, u),
         Form::Triples => own::done(top),
     }

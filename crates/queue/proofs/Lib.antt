@@ -1,2 +1,1 @@
 pub mod Swept
-pub mod Rows

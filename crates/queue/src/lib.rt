@@ -1,191 +1,18 @@
 // Closing by the trail as a queue: each variable of it in turn, and the gates that mention it.
-use blocks::Block;
-use blocks::Rule;
 use circuit::Gate;
 use closing::Closed;
 use grammar::MAX_NODES;
 use interval::Interval;
 ghost use mathlib.Core.Path.{_≡_};
-ghost use Prim.Native.Nat.{ℕ, _*_, _≤_, _<_};
+ghost use Prim.Native.Nat.{_*_, _≤_, _<_};
 ghost use lib.ListN.{length};
-ghost use Rattle.interval.specs.Limits.{maxSteps};
-ghost use Rattle.interval.specs.Listing.{rows};
 ghost use Rattle.interval.specs.Places.{countOf};
-ghost use Rattle.grammar.specs.Limits.{maxNodes, maxChannels};
 ghost use Rattle.gates.specs.Mentioned.{Variable};
-ghost use Rattle.node_clauses.specs.Nodes.{Fine};
-ghost use Rattle.clause_table.specs.Rows.{Low, Seated, blockBy};
 ghost use Rattle.closing.specs.Values.{Trailing};
 ghost use Rattle.closing.specs.Closing.{ClosedTo};
-ghost use Rattle.visits.specs.Visits.{Visited};
 ghost use Rattle.sweeps.specs.Sweeps.{tableBy};
 ghost use Rattle.decode.specs.Decode.{Tables};
-ghost use Rattle.fanout.specs.Fanout.{speaks, letterAt, Ground, Pending, Reached};
-
-// Whether a rule is the letter of channel e.
-fn speaks_of(rule: Rule, e: u32) -> bool
-    ensures { λ r. ⌜ r ≡ speaks e rule ⌝ }
-{
-    match rule {
-        Rule::Fixed(_) => false,
-        Rule::Letter(c) => c == e,
-        Rule::Negation => false,
-        Rule::And => false,
-        Rule::Or => false,
-        Rule::Chop => false,
-        Rule::Duration(_) => false,
-        Rule::Throughout => false,
-        Rule::Cut => false,
-    }
-}
-
-// The block of the node at row x, from the columns: where its parts' truths begin is put down already.
-fn block_of<'a>(
-    kinds: &'a [u8; MAX_NODES],
-    numbers: &'a [u8; MAX_NODES],
-    sizes: &'a [u8; MAX_NODES],
-    firsts: &[u32; MAX_NODES],
-    seats: &[u32; MAX_NODES],
-    k: u32,
-    x: usize,
-) -> Block
-    requires { ⌜ (k ≤ maxSteps) × (x < maxNodes) × Low (now firsts) × Seated (now kinds) (now numbers) (now firsts) k (now seats) maxNodes ⌝ }
-    ensures { λ r. ⌜ r ≡ blockBy (now (kinds .entry)) (now (numbers .entry)) (now (sizes .entry)) (now (firsts .entry)) k x ⌝ }
-    ensures { λ r. ⌜ ((c : ℕ) → c ≤ maxChannels → Fine c k r) ⌝ }
-{
-    let kind = rows::byte_at(kinds, x);
-    let left = clause_table::number_at(seats, x + 1);
-    let right = clause_table::number_at(seats, nodes::second(sizes, x));
-    Block {
-        rule: blocks::rule_of(kind, rows::byte_at(numbers, x)),
-        points: weights::points_of(kind, k),
-        first: clause_table::number_at(firsts, x),
-        left,
-        right,
-    }
-}
-
-// The gate at instant t of the node at row x, if it is the letter of channel e: most nodes are not, so its block is made last.
-fn reach_letter<'a>(
-    values: &mut [u8],
-    trail: &mut [u32],
-    top: usize,
-    kinds: &'a [u8; MAX_NODES],
-    numbers: &'a [u8; MAX_NODES],
-    sizes: &'a [u8; MAX_NODES],
-    firsts: &[u32; MAX_NODES],
-    seats: &[u32; MAX_NODES],
-    parents: &[u8; MAX_NODES],
-    count: usize,
-    c: u32,
-    k: u32,
-    all: u32,
-    x: usize,
-    t: u32,
-    e: u32,
-) -> Closed
-    requires { ⌜ Ground c k (now kinds) (now numbers) (now sizes) (now firsts) (now seats) (now parents) count (length (now values)) × Trailing (now values) (now trail) top ⌝ }
-    requires { ⌜ (all ≡ countOf k) × (x < count) × (t < k) ⌝ }
-    ensures { λ r. ⌜ Visited (letterAt c k (now (kinds .entry)) (now (numbers .entry)) (now (sizes .entry)) (now (firsts .entry)) t e x) (now (values .entry)) (now (trail .entry)) top (now (values .exit)) (now (trail .exit)) r ⌝ }
-{
-    let rule = blocks::rule_of(kinds[x], numbers[x]);
-    if speaks_of(rule, e) {
-        let block = block_of(kinds, numbers, sizes, firsts, seats, k, x);
-        return own::visit_line(values, trail, top, c, k, all, block, t);
-    }
-    own::done(top)
-}
-
-// The letters of channel e at instant t.
-fn reach_letters<'a>(
-    values: &mut [u8],
-    trail: &mut [u32],
-    top: usize,
-    kinds: &'a [u8; MAX_NODES],
-    numbers: &'a [u8; MAX_NODES],
-    sizes: &'a [u8; MAX_NODES],
-    firsts: &[u32; MAX_NODES],
-    seats: &[u32; MAX_NODES],
-    parents: &[u8; MAX_NODES],
-    count: usize,
-    c: u32,
-    k: u32,
-    all: u32,
-    t: u32,
-    e: u32,
-) -> Closed
-    requires { ⌜ Ground c k (now kinds) (now numbers) (now sizes) (now firsts) (now seats) (now parents) count (length (now values)) × Trailing (now values) (now trail) top ⌝ }
-    requires { ⌜ (all ≡ countOf k) × (t < k) ⌝ }
-    ensures { λ r. ⌜ Visited (rows count (letterAt c k (now (kinds .entry)) (now (numbers .entry)) (now (sizes .entry)) (now (firsts .entry)) t e)) (now (values .entry)) (now (trail .entry)) top (now (values .exit)) (now (trail .exit)) r ⌝ }
-{
-    let mut last = top;
-    for x in 0..count {
-        let r = reach_letter(
-            values,
-            trail,
-            last,
-            kinds,
-            numbers,
-            sizes,
-            firsts,
-            seats,
-            parents,
-            count,
-            c,
-            k,
-            all,
-            x,
-            t,
-            e,
-        );
-        if r.clash {
-            return r;
-        }
-        last = r.top;
-    }
-    own::done(last)
-}
-
-// A channel's variable: its letters at its instant.
-fn reach_channel<'a>(
-    values: &mut [u8],
-    trail: &mut [u32],
-    top: usize,
-    kinds: &'a [u8; MAX_NODES],
-    numbers: &'a [u8; MAX_NODES],
-    sizes: &'a [u8; MAX_NODES],
-    firsts: &[u32; MAX_NODES],
-    seats: &[u32; MAX_NODES],
-    parents: &[u8; MAX_NODES],
-    count: usize,
-    c: u32,
-    k: u32,
-    all: u32,
-    u: u32,
-) -> Closed
-    requires { ⌜ Ground c k (now kinds) (now numbers) (now sizes) (now firsts) (now seats) (now parents) count (length (now values)) × Trailing (now values) (now trail) top ⌝ }
-    requires { ⌜ (all ≡ countOf k) × (1 ≤ u) × (u ≤ k * c) ⌝ }
-    ensures { λ r. ⌜ Reached (tableBy c k (now (kinds .entry)) (now (numbers .entry)) (now (sizes .entry)) (now (firsts .entry)) count) u (now (values .entry)) (now (trail .entry)) top (now (values .exit)) (now (trail .exit)) r ⌝ }
-{
-    let x = u - 1;
-    reach_letters(
-        values,
-        trail,
-        top,
-        kinds,
-        numbers,
-        sizes,
-        firsts,
-        seats,
-        parents,
-        count,
-        c,
-        k,
-        all,
-        x / c,
-        x % c,
-    )
-}
+ghost use Rattle.fanout.specs.Fanout.{Ground, Pending, Reached};
 
 // A node's variable: the gates of its own node, and of the node that it is a part of; the root's is a clause of its own.
 fn reach_row<'a>(
@@ -211,14 +38,14 @@ fn reach_row<'a>(
     ensures { λ r. ⌜ Reached (tableBy c k (now (kinds .entry)) (now (numbers .entry)) (now (sizes .entry)) (now (firsts .entry)) count) u (now (values .entry)) (now (trail .entry)) top (now (values .exit)) (now (trail .exit)) r ⌝ }
 {
     let z = decode::last_from(firsts, count, u);
-    let block = block_of(kinds, numbers, sizes, firsts, seats, k, z);
+    let block = letters::block_of(kinds, numbers, sizes, firsts, seats, k, z);
     let r = own::reach(values, trail, top, intervals, starts, c, k, all, block, u);
     if r.clash {
         return r;
     }
     if z != 0 {
         let y = parents[z] as usize;
-        let up = block_of(kinds, numbers, sizes, firsts, seats, k, y);
+        let up = letters::block_of(kinds, numbers, sizes, firsts, seats, k, y);
         return part::reach(values, trail, r.top, intervals, c, k, all, up, u);
     }
     let root = seats[0] + k;
@@ -252,7 +79,7 @@ fn reach<'a>(
     ensures { λ r. ⌜ Reached (tableBy c k (now (kinds .entry)) (now (numbers .entry)) (now (sizes .entry)) (now (firsts .entry)) count) u (now (values .entry)) (now (trail .entry)) top (now (values .exit)) (now (trail .exit)) r ⌝ }
 {
     if u <= k * c {
-        return reach_channel(
+        return letters::reach_channel(
             values,
             trail,
             top,
@@ -265,7 +92,6 @@ fn reach<'a>(
             count,
             c,
             k,
-            all,
             u,
         );
     }

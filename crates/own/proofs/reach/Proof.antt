@@ -44,7 +44,7 @@ visit-line-requires c κs =
     let p = c .before .before .before .before .before .before .before .before .before .before .before .before .pre in
     let b = c .before .before .before .before .before .before .before .before .before .before .before .before .args .block in
     let e = sym (c .before .before .before .before .form-of .ensures) ∙ c .before .before .enum-told .given .1 in
-    (p .0, p .1, e, line-below (c .before .before .before .before .before .before .before .before .before .before .before .before .args .k) b (p .3) (omega (arith, p .3)) e)
+    (p .0, e, line-below (c .before .before .before .before .before .before .before .before .before .before .before .before .args .k) b (p .3) (omega (arith, p .3)) e)
 
 enum-told-2 : tie.Need-enum-told-2
 enum-told-2 c = search needs

@@ -9,7 +9,7 @@ visit-line-requires : tie.Need-visit-line-requires
 visit-line-requires c κs =
     let p = c .before .before .before .before .pre in
     let b = c .before .before .before .before .args .block in
-    ((whole-stands (p .0) (line-whole (b .rule) (p .2)), p .2), line-placed (b .points) (c .before .before .before .before .args .k) (c .before .before .before .before .args .x) (p .3) (b .rule) (p .2))
+    ((whole-stands (p .0) (line-whole (b .rule) (p .1)), p .1), line-placed (b .points) (c .before .before .before .before .args .k) (c .before .before .before .before .args .x) (p .2) (b .rule) (p .1))
 
 same-length : tie.Need-same-length
 same-length c = search needs

@@ -19,7 +19,7 @@ sub-visit-line : tie.Need-sub-visit-line
 sub-visit-line c = let w = tested _ (c .before .before .before .before .parts-of .result) (c .before .before .before .among .result) (c .before .before .if1 .taken) in omega (arith, c .before .before .before .among .ensures .here (w .1))
 
 visit-line-requires : tie.Need-visit-line-requires
-visit-line-requires c κs = let p = c .before .before .before .before .before .before .before .pre in let w = tested _ (c .before .before .before .before .parts-of .result) (c .before .before .before .among .result) (c .before .before .if1 .taken) in (p .0, p .1, p .2, omega (arith, c .before .before .before .among .ensures .here (w .1)))
+visit-line-requires c κs = let p = c .before .before .before .before .before .before .before .pre in let w = tested _ (c .before .before .before .before .parts-of .result) (c .before .before .before .among .result) (c .before .before .if1 .taken) in (p .0, p .1, omega (arith, c .before .before .before .among .ensures .here (w .1)))
 
 same-length : tie.Need-same-length
 same-length c = search needs
@@ -42,7 +42,7 @@ sub-visit-line-2 : tie.Need-sub-visit-line-2
 sub-visit-line-2 c = let w = tested _ (c .before .before .before .before .before .before .parts-of .result) (c .before .before .before .among2 .result) (c .before .before .if2 .taken) in omega (arith, c .before .before .before .among2 .ensures .here (w .1))
 
 visit-line-requires-2 : tie.Need-visit-line-requires-2
-visit-line-requires-2 c κs = let p = c .before .before .before .before .before .before .before .before .before .pre in let w = tested _ (c .before .before .before .before .before .before .parts-of .result) (c .before .before .before .among2 .result) (c .before .before .if2 .taken) in (p .0, p .1, p .2, omega (arith, c .before .before .before .among2 .ensures .here (w .1)))
+visit-line-requires-2 c κs = let p = c .before .before .before .before .before .before .before .before .before .pre in let w = tested _ (c .before .before .before .before .before .before .parts-of .result) (c .before .before .before .among2 .result) (c .before .before .if2 .taken) in (p .0, p .1, omega (arith, c .before .before .before .among2 .ensures .here (w .1)))
 
 same-length-3 : tie.Need-same-length-3
 same-length-3 c = search needs
@@ -65,7 +65,7 @@ returns-3 : tie.Need-returns-3
 returns-3 c =
     let p = c .before .before .before .before .before .before .before .before .pre in
     let b = c .before .before .before .before .before .before .before .before .args .block in
-    stopped (c .done .ensures) (unread (line-away (c .before .before .before .before .before .before .before .before .args .c) (c .before .before .before .before .before .before .before .before .args .k) (c .before .before .before .before .before .before .before .before .args .u) b (p .0 .laid) (p .3) (b .rule) refl (p .2) (p .4) (c .before .before .before .before .before .parts-of .ensures)
+    stopped (c .done .ensures) (unread (line-away (c .before .before .before .before .before .before .before .before .args .c) (c .before .before .before .before .before .before .before .before .args .k) (c .before .before .before .before .before .before .before .before .args .u) b (p .0 .laid) (p .2) (b .rule) refl (p .1) (p .3) (c .before .before .before .before .before .parts-of .ensures)
     (λ h. c .before .before .before .before .among .ensures .away (untested _ (c .before .before .before .before .before .parts-of .result) (c .before .before .before .before .among .result) (c .before .before .before .if1 .left) (omega (arith, h)))) (λ h. c .before .before .among2 .ensures .away (untested _ (c .before .before .before .before .before .parts-of .result) (c .before .before .among2 .result) (c .before .if2 .left) (omega (arith, h))))) (p .0 .trailing))
 
 pub reach-line-spec : {M : Type 1} → statement M

@@ -10,7 +10,7 @@ use Rattle.sweeps.proofs.Table.{seated}
 use Rattle.fanout.proofs.Ground.{first-le, row-found}
 use Rattle.fanout.proofs.Rows.{in-block, not-own}
 use Rattle.fanout.proofs.Joint.{near-stop, near-part, near-root, near-alone}
-use Rattle.queue.proofs.Rows.{node-at, other-row}
+use Rattle.letters.proofs.Rows.{node-at, other-row}
 use borrow.Author.Needs.{needs}
 use Rattle.queue.proofs.reach_row.Statement.{statement}
 use Rattle.queue.proofs.reach_row.Tie as tie

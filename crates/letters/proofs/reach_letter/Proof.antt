@@ -4,10 +4,10 @@ use mathlib.Core.Path.{refl, ap, _∙_}
 use native.Mathlib.Omega.{arith}
 use Rattle.fanout.specs.Fanout.{speaks}
 use Rattle.fanout.proofs.Letters.{letter-speaks, letter-visited, letter-passed}
-use Rattle.queue.proofs.Rows.{node-at, speaks-line, visited-done}
+use Rattle.letters.proofs.Rows.{node-at, speaks-line, visited-done}
 use borrow.Author.Needs.{needs}
-use Rattle.queue.proofs.reach_letter.Statement.{statement}
-use Rattle.queue.proofs.reach_letter.Tie as tie
+use Rattle.letters.proofs.reach_letter.Statement.{statement}
+use Rattle.letters.proofs.reach_letter.Tie as tie
 
 element-copy-out-rule-of : tie.Need-element-copy-out-rule-of
 element-copy-out-rule-of c = search needs
@@ -27,9 +27,9 @@ block-of-requires c κs = search needs
 visit-line-requires : tie.Need-visit-line-requires
 visit-line-requires c κs =
     let a = c .before .before .before .before .before .before .before .before .before .before .args in let p = c .before .before .before .before .before .before .before .before .before .before .pre in let b = c .before .before .block-of .ensures in
-    let n = node-at (a .x) (p .0 .0) refl (p .1 .1) (b .0) (b .1 (a .c) (p .0 .0 .channels)) (p .0 .1) in
+    let n = node-at (a .x) (p .0 .0) refl (p .1 .0) (b .0) (b .1 (a .c) (p .0 .0 .channels)) (p .0 .1) in
     let l = speaks-line (a .c) (a .k) (c .before .before .block-of .result) (a .e) (c .before .before .block-of .result .rule) (letter-speaks (a .c) (a .k) (a .kinds .now) (a .numbers .now) (a .sizes .now) (a .firsts .now) (a .t) (a .e) (a .x) (c .before .before .before .before .speaks-of .ensures ∙ ap (speaks (a .e)) (c .before .before .before .before .before .rule-of .ensures)) (c .before .before .before .if1 .taken) (b .0)) (n .laid .voiced) in
-    (n, p .1 .0, l .0, omega (arith, l .1, p .1 .2))
+    (n, l .0, omega (arith, l .1, p .1 .1))
 
 same-length : tie.Need-same-length
 same-length c = search needs

@@ -3,8 +3,8 @@
 use mathlib.Core.Path.{sym, ap}
 use Rattle.fanout.specs.Fanout.{speaks}
 use borrow.Author.Needs.{needs}
-use Rattle.queue.proofs.speaks_of.Statement.{statement}
-use Rattle.queue.proofs.speaks_of.Tie as tie
+use Rattle.letters.proofs.speaks_of.Statement.{statement}
+use Rattle.letters.proofs.speaks_of.Tie as tie
 
 enum-told : tie.Need-enum-told
 enum-told c = search needs

@@ -11,23 +11,23 @@ use Rattle.visits.specs.Visits.{Visited}
 use Rattle.visits.proofs.Loops.{loop-begun, loop-turn, loop-stop, loop-done}
 use Rattle.fanout.specs.Fanout.{letterAt}
 use Rattle.fanout.proofs.Ground.{ground-still}
-use Rattle.queue.proofs.Rows.{visited-done}
-use Rattle.queue.proofs.reach_letters.Statement.{statement}
-use Rattle.queue.proofs.reach_letters.Tie as tie
+use Rattle.letters.proofs.Rows.{visited-done}
+use Rattle.letters.proofs.reach_letters.Statement.{statement}
+use Rattle.letters.proofs.reach_letters.Tie as tie
 
 abbrev Inv-loop : tie.InvT-loop
-Inv-loop values₀ trail₀ top kinds numbers sizes firsts seats parents count c k all t e last₀ x₀ values trail last x =
+Inv-loop values₀ trail₀ top kinds numbers sizes firsts seats parents count c k t e last₀ x₀ values trail last x =
     (length values ≡ length values₀) × (length trail ≡ length trail₀) × (x ≤ count)
     × Visited (rows x (letterAt c k kinds numbers sizes firsts t e)) values₀ trail₀ top values trail (record { clash = false; top = last })
 
 abbrev μ-loop : tie.MeasureT-loop
-μ-loop values₀ trail₀ top kinds numbers sizes firsts seats parents count c k all t e last₀ x₀ values trail last x = count - x
+μ-loop values₀ trail₀ top kinds numbers sizes firsts seats parents count c k t e last₀ x₀ values trail last x = count - x
 
 loop-holds : tie.Need-loop-holds Inv-loop μ-loop
 loop-holds c = (refl, refl, omega arith, loop-begun _ (c .before .before .pre .0 .1))
 
 reach-letter-requires : tie.Need-reach-letter-requires Inv-loop μ-loop
-reach-letter-requires c κs = let p = c .before .before .before .before .before .before .pre in let i = c .before .before .before .loop .inv in ((ground-still (i .0) (p .0 .0), i .3 .grown .trailing), (p .1 .0, c .before .before .loop-test .taken, p .1 .1))
+reach-letter-requires c κs = let p = c .before .before .before .before .before .before .pre in let i = c .before .before .before .loop .inv in ((ground-still (i .0) (p .0 .0), i .3 .grown .trailing), (c .before .before .loop-test .taken, p .1))
 
 same-length : tie.Need-same-length Inv-loop μ-loop
 same-length c = search needs

@@ -5,9 +5,9 @@ use lib.ListN.{length}
 use borrow.Author.Needs.{needs}
 use Rattle.grammar.specs.Limits.{maxNodes}
 use Rattle.clause_table.proofs.Rows.{block-read, block-fine}
-use Rattle.queue.proofs.Rows.{seat-told}
-use Rattle.queue.proofs.block_of.Statement.{statement}
-use Rattle.queue.proofs.block_of.Tie as tie
+use Rattle.letters.proofs.Rows.{seat-told}
+use Rattle.letters.proofs.block_of.Statement.{statement}
+use Rattle.letters.proofs.block_of.Tie as tie
 
 byte-at-requires : tie.Need-byte-at-requires
 byte-at-requires c κs = search needs
