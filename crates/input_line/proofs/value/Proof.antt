@@ -10,9 +10,9 @@ use borrow.Author.Tests.{lt-leb, leb-false}
 use lib.Dec.{leb}
 use lib.ListN.{length, getD, drop, drop-of-length-le}
 use Rattle.reader.proofs.Parts.{at-byte}
-use Rattle.arguments.specs.Number.{maxTries, cappedTries, valueFrom}
-use Rattle.arguments.proofs.value.Statement.{statement}
-use Rattle.arguments.proofs.value.Tie as tie
+use Rattle.input_line.specs.Number.{maxTries, cappedTries, valueFrom}
+use Rattle.input_line.proofs.value.Statement.{statement}
+use Rattle.input_line.proofs.value.Tie as tie
 
 passed : (n : ℕ) → maxTries < n → cappedTries n ≡ suc maxTries
 passed n h = rw (lt-leb n maxTries h)

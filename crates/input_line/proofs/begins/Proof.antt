@@ -4,8 +4,8 @@ use mathlib.Core.Path.{_≡_}
 use Prim.Native.Nat.{_≤_, _-_}
 use lib.ListN.{length}
 use borrow.Author.Needs.{needs}
-use Rattle.arguments.proofs.begins.Statement.{statement}
-use Rattle.arguments.proofs.begins.Tie as tie
+use Rattle.input_line.proofs.begins.Statement.{statement}
+use Rattle.input_line.proofs.begins.Tie as tie
 
 abbrev Inv-loop : tie.InvT-loop
 Inv-loop line word at₀ at-end at = (at ≤ at-end) × (at-end ≡ length word) × (at-end ≤ length line)

@@ -4,9 +4,9 @@ use Prim.Native.Nat.{ℕ, suc, _+_, _*_, _≤_, _<_}
 use native.Mathlib.Omega.{arith}
 use borrow.Author.Needs.{needs}
 use borrow.Author.Tests.{le-leb, lt-leb}
-use Rattle.arguments.specs.Number.{maxTries, cappedTries}
-use Rattle.arguments.proofs.with_digit.Statement.{statement}
-use Rattle.arguments.proofs.with_digit.Tie as tie
+use Rattle.input_line.specs.Number.{maxTries, cappedTries}
+use Rattle.input_line.proofs.with_digit.Statement.{statement}
+use Rattle.input_line.proofs.with_digit.Tie as tie
 
 within : (n m : ℕ) → n ≡ m → n ≤ maxTries → n ≡ cappedTries m
 within n m e h = rw (le-leb m maxTries (omega arith)) e

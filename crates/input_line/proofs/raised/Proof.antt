@@ -1,9 +1,9 @@
 -- `raised` is its definition: the test picks the case.
 -- On each way `eqb` is what the test found.
 use borrow.Author.Tests.{eq-eqb, ne-eqb}
-use Rattle.arguments.specs.Levels.{raisedBy}
-use Rattle.arguments.proofs.raised.Statement.{statement}
-use Rattle.arguments.proofs.raised.Tie as tie
+use Rattle.input_line.specs.Levels.{raisedBy}
+use Rattle.input_line.proofs.raised.Statement.{statement}
+use Rattle.input_line.proofs.raised.Tie as tie
 
 returns : tie.Need-returns
 unfolding raisedBy
