@@ -1,13 +1,13 @@
 -- A copy of the file's variables, each being the number at its place
 -- (Stored.antt; crate literals, Written.antt).
 use Rattle.literals.proofs.Written.{Copied, same, copy-begun, same-turn, same-done}
-use Rattle.clause_file.specs.File.{variablesAt}
-use Rattle.clause_file.proofs.Stored.{variables-count, variable-at}
+use Rattle.file_numbers.specs.File.{variablesAt}
+use Rattle.file_numbers.proofs.Stored.{variables-count, variable-at}
 use Prim.Native.Nat.{_-_}
 use native.Mathlib.Omega.{arith}
 use borrow.Author.Needs.{needs}
-use Rattle.clause_file.proofs.numbers.read_numbers.Statement.{statement}
-use Rattle.clause_file.proofs.numbers.read_numbers.Tie as tie
+use Rattle.file_numbers.proofs.read_numbers.Statement.{statement}
+use Rattle.file_numbers.proofs.read_numbers.Tie as tie
 
 abbrev Inv-loop : tie.InvT-loop
 Inv-loop variables₀ file e₀ e-end variables e = Copied same variables₀ 0 (variablesAt file) e-end variables e

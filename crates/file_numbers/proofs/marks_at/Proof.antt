@@ -1,9 +1,9 @@
 -- The marks stand after the variables:
 -- what is left of the file from 20 + 4L on (Stored.antt).
-use Rattle.clause_file.proofs.Stored.{marks-are}
+use Rattle.file_numbers.proofs.Stored.{marks-are}
 use borrow.Author.Needs.{needs}
-use Rattle.clause_file.proofs.numbers.marks_at.Statement.{statement}
-use Rattle.clause_file.proofs.numbers.marks_at.Tie as tie
+use Rattle.file_numbers.proofs.marks_at.Statement.{statement}
+use Rattle.file_numbers.proofs.marks_at.Tie as tie
 
 cast-from : tie.Need-cast-from
 cast-from c = search needs

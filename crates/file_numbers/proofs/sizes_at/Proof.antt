@@ -1,9 +1,9 @@
 -- The five numbers at 0, 4, 8, 12 and 16:
 -- they are the sizes by definition (Stored.antt).
-use Rattle.clause_file.proofs.Stored.{sizes-are}
+use Rattle.file_numbers.proofs.Stored.{sizes-are}
 use borrow.Author.Needs.{needs}
-use Rattle.clause_file.proofs.numbers.sizes_at.Statement.{statement}
-use Rattle.clause_file.proofs.numbers.sizes_at.Tie as tie
+use Rattle.file_numbers.proofs.sizes_at.Statement.{statement}
+use Rattle.file_numbers.proofs.sizes_at.Tie as tie
 
 number-at-requires : tie.Need-number-at-requires
 number-at-requires c κs = search needs

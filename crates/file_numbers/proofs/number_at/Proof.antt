@@ -1,9 +1,9 @@
 -- The number of the four bytes that stand at the place and after it;
 -- it is the number there by definition.
-use Rattle.clause_file.specs.File.{numberAt}
+use Rattle.file_numbers.specs.File.{numberAt}
 use borrow.Author.Needs.{needs}
-use Rattle.clause_file.proofs.numbers.number_at.Statement.{statement}
-use Rattle.clause_file.proofs.numbers.number_at.Tie as tie
+use Rattle.file_numbers.proofs.number_at.Statement.{statement}
+use Rattle.file_numbers.proofs.number_at.Tie as tie
 
 shared-slice-read-number-of : tie.Need-shared-slice-read-number-of
 shared-slice-read-number-of c = search needs

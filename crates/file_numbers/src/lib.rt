@@ -5,8 +5,15 @@ ghost use mathlib.Core.List.{flatMap};
 ghost use Prim.Native.Nat.{_+_, _*_, _≤_};
 ghost use lib.ListN.{length};
 ghost use lib.Seq.{sets};
-ghost use Rattle.clause_file.specs.File.{byteOf, bytesOf, numberOf, numberAt, sizesAt, variablesAt, marksAt};
-ghost use Rattle.clause_file.specs.Held.{Held};
+ghost use Rattle.file_numbers.specs.File.{byteOf, bytesOf, fileLength, numberOf, numberAt, sizesAt, variablesAt, marksAt};
+ghost use Rattle.file_numbers.specs.Held.{Held};
+
+// How many bytes the file of so many literals has.
+pub fn file_length(literals: u32) -> usize
+    ensures { λ r. ⌜ r ≡ fileLength literals ⌝ }
+{
+    20 + 5 * (literals as usize)
+}
 
 // A number's byte of a weight.
 fn byte_of(n: u32, weight: u32) -> u8

@@ -1,14 +1,14 @@
 -- After e turns the bytes of the first e numbers are stored, and the place is 4e further
 -- (crate literals, Written.antt).
 use Rattle.literals.proofs.Written.{Copied, copy-begun, copy-turn, copy-done}
-use Rattle.clause_file.specs.File.{bytesOf}
-use Rattle.clause_file.proofs.Stored.{four}
+use Rattle.file_numbers.specs.File.{bytesOf}
+use Rattle.file_numbers.proofs.Stored.{four}
 use Prim.Native.Nat.{_+_, _*_, _-_}
 use mathlib.Core.Path.{_≡_, refl}
 use native.Mathlib.Omega.{arith}
 use borrow.Author.Needs.{needs}
-use Rattle.clause_file.proofs.numbers.put_numbers.Statement.{statement}
-use Rattle.clause_file.proofs.numbers.put_numbers.Tie as tie
+use Rattle.file_numbers.proofs.put_numbers.Statement.{statement}
+use Rattle.file_numbers.proofs.put_numbers.Tie as tie
 
 abbrev Inv-loop : tie.InvT-loop
 Inv-loop file₀ at new b₀ e₀ e-end file b e = Copied bytesOf file₀ at new e-end file e × (b ≡ at + e * 4)

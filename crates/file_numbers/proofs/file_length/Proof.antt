@@ -2,8 +2,8 @@
 -- nothing wraps, since L has 32 bits and the sum 64.
 use native.Mathlib.Omega.{arith}
 use borrow.Author.Needs.{needs}
-use Rattle.clause_file.proofs.file_length.Statement.{statement}
-use Rattle.clause_file.proofs.file_length.Tie as tie
+use Rattle.file_numbers.proofs.file_length.Statement.{statement}
+use Rattle.file_numbers.proofs.file_length.Tie as tie
 
 mul-result : tie.Need-mul-result
 mul-result c = search needs

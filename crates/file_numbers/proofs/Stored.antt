@@ -9,8 +9,8 @@ use lib.Seq.{sets, length-sets, take-all}
 use Rattle.interval.proofs.Listing.{length-tab, getD-tab}
 use Rattle.literals.proofs.Written.{sets-append, flat-length}
 use Rattle.clause_table.specs.declared.Sizes.{Sizes}
-use Rattle.clause_file.specs.Held.{Held}
-use Rattle.clause_file.specs.File.{byteOf, bytesOf, fileOf, numberAt, sizesAt, variablesAt, marksAt}
+use Rattle.file_numbers.specs.Held.{Held}
+use Rattle.file_numbers.specs.File.{byteOf, bytesOf, fileOf, numberAt, sizesAt, variablesAt, marksAt}
 
 pub bytes-are : (n : ℕ) {a b c d : ℕ} → a ≡ byteOf n 1 → b ≡ byteOf n 256 → c ≡ byteOf n 65536 → d ≡ byteOf n 16777216 → a ∷ b ∷ c ∷ d ∷ [] ≡ bytesOf n
 unfolding bytesOf

@@ -8,8 +8,8 @@ use lib.ListN.{length, getD, take, drop}
 use lib.Seq.{drop-cons, drop-drop, take-add, getD-append-add}
 use Rattle.interval.specs.Listing.{rows, tab}
 use Rattle.formula.proofs.Lists.{flat-append}
-use Rattle.clause_file.specs.File.{bytesOf, numberOf, numberAt, Words, Octets}
-use Rattle.clause_file.proofs.Stored.{four}
+use Rattle.file_numbers.specs.File.{bytesOf, numberOf, numberAt, Words, Octets}
+use Rattle.file_numbers.proofs.Stored.{four}
 
 -- ---- numbers from their bytes
 

@@ -4,7 +4,7 @@ use mathlib.Core.List.{List}
 use Prim.Native.Nat.{ℕ}
 use lib.ListN.{length}
 use Rattle.clause_table.specs.declared.Sizes.{Sizes}
-use Rattle.clause_file.specs.File.{fileLength, sizesAt}
+use Rattle.file_numbers.specs.File.{fileLength, sizesAt}
 
 -- these are the file's sizes, and it is as long as they say
 pub record Held (file : List ℕ) (s : Sizes) : Type 0 where

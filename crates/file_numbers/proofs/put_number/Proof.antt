@@ -1,11 +1,11 @@
 -- The four bytes of a number, stored from the place on:
 -- they are its bytes by definition (Stored.antt).
-use Rattle.clause_file.proofs.Stored.{bytes-are}
+use Rattle.file_numbers.proofs.Stored.{bytes-are}
 use lib.Seq.{sets}
 use mathlib.Core.Path.{ap, _∙_}
 use borrow.Author.Needs.{needs}
-use Rattle.clause_file.proofs.numbers.put_number.Statement.{statement}
-use Rattle.clause_file.proofs.numbers.put_number.Tie as tie
+use Rattle.file_numbers.proofs.put_number.Statement.{statement}
+use Rattle.file_numbers.proofs.put_number.Tie as tie
 
 byte-of-requires : tie.Need-byte-of-requires
 byte-of-requires c κs = search needs
