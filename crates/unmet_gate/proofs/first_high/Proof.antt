@@ -7,8 +7,8 @@ use mathlib.Core.Bool.{false}
 use mathlib.Core.Path.{_≡_}
 use borrow.Author.Count.{below-none, below-more}
 use Rattle.assignments.specs.Extension.{valueIn}
-use Rattle.unmet.proofs.first_high.Statement.{statement}
-use Rattle.unmet.proofs.first_high.Tie as tie
+use Rattle.unmet_gate.proofs.first_high.Statement.{statement}
+use Rattle.unmet_gate.proofs.first_high.Tie as tie
 
 abbrev Inv-loop : tie.InvT-loop
 Inv-loop assignment w n e₀ e = (e ≤ n) × ((k : ℕ) → k < e → valueIn assignment (w + k) ≡ false)

@@ -1,10 +1,10 @@
 -- Each arm computes its gate's value as the definition says it;
 -- of any number of inputs one is high where the first high one is among them (Gates.antt).
 use Rattle.circuit.specs.Gates.{valueOf}
-use Rattle.unmet.proofs.Gates.{first-some}
+use Rattle.unmet_gate.proofs.Gates.{first-some}
 use borrow.Author.Needs.{needs}
-use Rattle.unmet.proofs.value.Statement.{statement}
-use Rattle.unmet.proofs.value.Tie as tie
+use Rattle.unmet_gate.proofs.value.Statement.{statement}
+use Rattle.unmet_gate.proofs.value.Tie as tie
 
 enum-known-gate : tie.Need-enum-known-gate
 enum-known-gate c = search needs

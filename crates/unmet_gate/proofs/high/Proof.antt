@@ -3,8 +3,8 @@
 use mathlib.Core.Path.{refl}
 use Rattle.assignments.specs.Extension.{valueIn}
 use borrow.Author.Needs.{needs}
-use Rattle.unmet.proofs.high.Statement.{statement}
-use Rattle.unmet.proofs.high.Tie as tie
+use Rattle.unmet_gate.proofs.high.Statement.{statement}
+use Rattle.unmet_gate.proofs.high.Tie as tie
 
 sub-result : tie.Need-sub-result
 sub-result c = search needs

@@ -23,7 +23,7 @@ use Rattle.clauses.proofs.Meets.{beq-exactly, by-table, any-some, meets-exactly
 use Rattle.refusal.specs.declared.Reply.{Reply}
 use Rattle.refusal.specs.declared.Reply.the-variants.{Yes, No}
 use Rattle.assignments.specs.Calls.{askClauses}
-use Rattle.unmet.specs.Walk.{FirstHigh}
+use Rattle.unmet_gate.specs.First.{FirstHigh}
 
 -- the first unmet clause's number, from 0, of a gate whose variable is high or low (up) where its value is not
 abbrev pub At : Assignment → Bool → Gate → ℕ → Type 0

@@ -4,8 +4,8 @@ use native.Mathlib.Omega.{arith}
 use Rattle.weights.specs.Weights.{clauseWeight, weightOf}
 use mathlib.Core.Path.{ap}
 use borrow.Author.Needs.{needs}
-use Rattle.unmet.proofs.clause_count.Statement.{statement}
-use Rattle.unmet.proofs.clause_count.Tie as tie
+use Rattle.unmet_gate.proofs.clause_count.Statement.{statement}
+use Rattle.unmet_gate.proofs.clause_count.Tie as tie
 
 enum-told : tie.Need-enum-told
 enum-told c = search needs

@@ -2,10 +2,10 @@
 -- that this is the first unmet clause's is shown there (Gates.antt).
 use mathlib.Core.Path.{refl, sym}
 use borrow.Author.Tests.{not-true, not-false}
-use Rattle.unmet.proofs.Gates.{unmet-known}
+use Rattle.unmet_gate.proofs.Gates.{unmet-known}
 use borrow.Author.Needs.{needs}
-use Rattle.unmet.proofs.first_unmet.Statement.{statement}
-use Rattle.unmet.proofs.first_unmet.Tie as tie
+use Rattle.unmet_gate.proofs.first_unmet.Statement.{statement}
+use Rattle.unmet_gate.proofs.first_unmet.Tie as tie
 
 enum-told : tie.Need-enum-told
 enum-told c = search needs

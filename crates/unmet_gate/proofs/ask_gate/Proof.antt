@@ -2,11 +2,11 @@
 -- its number is one of the gate's, so the sum fits (Gates.antt).
 use native.Mathlib.Omega.{arith}
 use mathlib.Core.Path.{sym, _∙_}
-use Rattle.unmet.proofs.Gates.{differ, gate-met, place-within}
+use Rattle.unmet_gate.proofs.Gates.{differ, gate-met, place-within}
 use Rattle.clauses.proofs.Meets.{beq-exactly}
 use borrow.Author.Needs.{needs}
-use Rattle.unmet.proofs.ask_gate.Statement.{statement}
-use Rattle.unmet.proofs.ask_gate.Tie as tie
+use Rattle.unmet_gate.proofs.ask_gate.Statement.{statement}
+use Rattle.unmet_gate.proofs.ask_gate.Tie as tie
 
 high-requires : tie.Need-high-requires
 high-requires c κs = search needs
