@@ -1,14 +1,14 @@
 -- The parts' truth is taken from the assignment, and the block is handed the part that it fills;
 -- once that is back, the block's values are stored there (Blocks.antt).
-use Rattle.extension.proofs.Blocks.{few-first, few-second, block-put}
+use Rattle.node_values.proofs.Blocks.{few-first, few-second, block-put}
 use Rattle.values.specs.Values.{Fits}
 use borrow.Rule.Slice.PartMut.{mid-len}
 use mathlib.Core.Path.{sym, subst}
 use Prim.Native.Nat.{_-_}
 use native.Mathlib.Omega.{arith}
 use borrow.Author.Needs.{needs}
-use Rattle.extension.proofs.put_node.Statement.{statement}
-use Rattle.extension.proofs.put_node.Tie as tie
+use Rattle.node_values.proofs.put_node.Statement.{statement}
+use Rattle.node_values.proofs.put_node.Tie as tie
 
 cast-start : tie.Need-cast-start
 cast-start c = search needs

@@ -35,8 +35,8 @@ use Rattle.cuts.specs.Cuts.{onPlaces}
 use Rattle.values.specs.Values.{valuesBy, Fits}
 use Rattle.values.proofs.Tables.{few-intervals}
 use Rattle.table.specs.Table.{highAt}
-use Rattle.extension.specs.Rows.{firstPoints, secondPoints, Makes}
-use Rattle.extension.proofs.Sets.{part-stored}
+use Rattle.node_values.specs.Parts.{firstPoints, secondPoints, Makes}
+use Rattle.node_values.proofs.Sets.{part-stored}
 
 -- ---- the same at every point, the same values
 
