@@ -21,7 +21,7 @@ use Rattle.clause_table.proofs.Gives.{room-gives}
 use Rattle.assignments.specs.Extension.{valueIn}
 use Rattle.assignments.specs.Calls.{askAssignment, askValues, askClauses, askPlaces, clausesIn, extensionQuestions, proposalQuestions}
 use Rattle.assignments.proofs.Gives.{assignment-gives, clauses-gives, places-gives}
-use Rattle.clause_file.specs.File.{sizesAt, variablesAt, marksAt}
+use Rattle.file_numbers.specs.File.{sizesAt, variablesAt, marksAt}
 use Rattle.clause_file.specs.Questions.{askFileRoom}
 use Rattle.clause_file.specs.Calls.{arrayQuestions, fileQuestions}
 use Rattle.clause_file.proofs.Gives.{file-gives, arrays-gives, entries-gives, closed-gives, bytes-gives}

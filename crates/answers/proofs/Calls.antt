@@ -29,7 +29,7 @@ use Rattle.evaluator.specs.Evaluation.{recordingQuestions, readHolds, evaluated
 use Rattle.clause_table.specs.Table.{After, askRoom, tableQuestions, tabled}
 use Rattle.clause_table.specs.declared.Sizes.{Sizes}
 use Rattle.assignments.specs.Calls.{extensionQuestions, Extended, extended, proposalQuestions, Proposed, proposed}
-use Rattle.clause_file.specs.File.{sizesAt}
+use Rattle.file_numbers.specs.File.{sizesAt}
 use Rattle.clause_file.specs.Questions.{askFileRoom}
 use Rattle.clause_file.specs.Calls.{FileAfter, arrayQuestions, fileWritten, fileQuestions, fileRead}
 use Rattle.search.specs.Search.{searchQuestions, Searched, treeIn, searched}

@@ -15,11 +15,11 @@ use Rattle.grammar.proofs.Bytes.{both}
 use Rattle.formula.proofs.Asked.{test-yes}
 use Rattle.clause_table.specs.Table.{fiveOf}
 use Rattle.clause_table.specs.declared.Sizes.{Sizes}
-use Rattle.clause_file.specs.File.{fileOf, fileLength, sizesAt, variablesAt, marksAt}
-use Rattle.clause_file.specs.Held.{Held}
+use Rattle.file_numbers.specs.File.{fileOf, fileLength, sizesAt, variablesAt, marksAt}
+use Rattle.file_numbers.specs.Held.{Held}
 use Rattle.clause_file.specs.Questions.{allPass, askFile, askArrays, inLimits, isVariable, isMark, askEntries, askFileRoom, entryQuestions}
 use Rattle.clause_file.specs.Calls.{arrayQuestions, fileQuestions}
-use Rattle.clause_file.proofs.Stored.{length-file}
+use Rattle.file_numbers.proofs.Stored.{length-file}
 
 -- question 16, by its three tests
 pub entries-asked : (s : Sizes) (variables marks : List ℕ) {a b c : Bool} {r : Reply} → a ≡ inLimits s → b ≡ allPass (isVariable (s .variables)) variables

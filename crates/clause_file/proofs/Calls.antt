@@ -16,10 +16,10 @@ use Rattle.clause_table.specs.declared.Sizes.{Sizes}
 use Rattle.clause_table.specs.declared.Written.the-variants.{Done}
 use Rattle.clause_table.proofs.Call.{room-enough}
 use Rattle.clause_table.proofs.Measure.{stored-over}
-use Rattle.clause_file.specs.File.{fileOf, sizesAt, variablesAt, marksAt}
+use Rattle.file_numbers.specs.File.{fileOf, sizesAt, variablesAt, marksAt}
 use Rattle.clause_file.specs.Questions.{askFileRoom}
 use Rattle.clause_file.specs.Calls.{FileAfter, fileRefused, arrayQuestions, fileWritten, fileQuestions, fileRead}
-use Rattle.clause_file.proofs.Stored.{variables-count, marks-count}
+use Rattle.file_numbers.proofs.Stored.{variables-count, marks-count}
 use Rattle.clause_file.proofs.Asking.{file-held, asked-file, room-written}
 
 -- ---- the writer

@@ -8,7 +8,7 @@ use lib.ListN.{length}
 use Rattle.refusal.specs.Asked.{Gives}
 use Rattle.refusal.proofs.Numbers.{question-gives}
 use Rattle.clause_table.specs.declared.Sizes.{Sizes}
-use Rattle.clause_file.specs.File.{fileLength, sizesAt}
+use Rattle.file_numbers.specs.File.{fileLength, sizesAt}
 use Rattle.clause_file.specs.Questions.{allPass, howMany, inLimits, isVariable, isMark, closes, endsClosed, askFile, askArrays, askEntries, askClosed, askFileRoom}
 
 pub file-gives : (file : List ℕ) → Gives 15 (askFile file)

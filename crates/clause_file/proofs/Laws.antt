@@ -15,13 +15,13 @@ use Rattle.interval.specs.Listing.{rows}
 use Rattle.clause_table.specs.Table.{fiveOf, over, askRoom, refused, written}
 use Rattle.clause_table.specs.declared.Sizes.{Sizes}
 use Rattle.clause_table.specs.declared.Written.the-variants.{Done}
-use Rattle.clause_file.specs.File.{bytesOf, fileOf, fileLength, numberAt, sizesAt, variablesAt, marksAt, Words, Octets}
-use Rattle.clause_file.specs.Held.{Held}
+use Rattle.file_numbers.specs.File.{bytesOf, fileOf, fileLength, numberAt, sizesAt, variablesAt, marksAt, Words, Octets}
+use Rattle.file_numbers.specs.Held.{Held}
 use Rattle.clause_file.specs.Questions.{askFile, askArrays, askFileRoom, entryQuestions}
 use Rattle.clause_file.specs.Calls.{fileRefused, arrayQuestions, fileWritten, fileQuestions, fileRead}
-use Rattle.clause_file.proofs.Stored.{length-bytes, variables-count, marks-count, variable-at}
+use Rattle.file_numbers.proofs.Stored.{length-bytes, variables-count, marks-count, variable-at}
 use Rattle.clause_file.proofs.Asking.{rest-yes, file-held, asked-file, length-written, arrays-long}
-use Rattle.clause_file.proofs.Bytes.{number-after, numbers-back, all-bytes-back}
+use Rattle.file_numbers.proofs.Bytes.{number-after, numbers-back, all-bytes-back}
 
 -- ---- what was written is read
 

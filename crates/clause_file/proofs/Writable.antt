@@ -34,7 +34,7 @@ use Rattle.clause_table.specs.declared.Sizes.{Sizes}
 use Rattle.clause_table.specs.declared.Written.the-variants.{Done}
 use Rattle.clause_table.proofs.Laws.{table-all, places-named, last-mark}
 use Rattle.clause_file.specs.Questions.{allPass, howMany, askArrays, inLimits, isVariable, isMark, askEntries, closes, endsClosed, askClosed, askFileRoom}
-use Rattle.clause_file.specs.File.{fileOf, sizesBy, fileLength}
+use Rattle.file_numbers.specs.File.{fileOf, sizesBy, fileLength}
 use Rattle.clause_file.specs.Calls.{FileAfter, fileRefused, arrayQuestions, fileWritten}
 
 -- ---- lists that are tested

@@ -9,7 +9,7 @@ use Rattle.clause_table.specs.Table.{After, fiveOf, over, askRoom, refused, wri
 use Rattle.clause_table.specs.declared.Sizes.{Sizes}
 use Rattle.clause_table.specs.declared.Written.{Written}
 use Rattle.clause_table.specs.declared.Written.the-variants.{Done, Refused}
-use Rattle.clause_file.specs.File.{fileOf, sizesAt, variablesAt, marksAt}
+use Rattle.file_numbers.specs.File.{fileOf, sizesAt, variablesAt, marksAt}
 use Rattle.clause_file.specs.Questions.{askFile, askArrays, askFileRoom, entryQuestions}
 
 -- the writer's answer, and the file's bytes after it

@@ -1,4 +1,2 @@
 pub mod Calls
-pub mod File
-pub mod Held
 pub mod Questions

@@ -10,7 +10,7 @@ use Rattle.interval.specs.Limits.{askSteps}
 use Rattle.formula.specs.Questions.{askChannels}
 use Rattle.meaning.specs.Meaning.{every, highs}
 use Rattle.clause_table.specs.declared.Sizes.{Sizes}
-use Rattle.clause_file.specs.File.{fileLength, sizesAt}
+use Rattle.file_numbers.specs.File.{fileLength, sizesAt}
 
 -- a test passes at every entry; at how many
 abbrev pub allPass : (ℕ → Bool) → List ℕ → Bool

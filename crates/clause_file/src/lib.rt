@@ -1,5 +1,4 @@
 // The clause file: a table in memory to bytes, and bytes to a table in memory.
-mod numbers;
 mod questions;
 
 use clause_table::Sizes;
@@ -10,15 +9,8 @@ ghost use Prim.Native.Nat.{_≤_};
 ghost use lib.ListN.{length};
 ghost use lib.Seq.{sets};
 ghost use Rattle.clause_table.specs.Table.{fiveOf};
-ghost use Rattle.clause_file.specs.File.{fileOf, fileLength};
+ghost use Rattle.file_numbers.specs.File.{fileOf};
 ghost use Rattle.clause_file.specs.Calls.{fileWritten, fileRead};
-
-// How many bytes the file of so many literals has.
-pub fn file_length(literals: u32) -> usize
-    ensures { λ r. ⌜ r ≡ fileLength literals ⌝ }
-{
-    20 + 5 * (literals as usize)
-}
 
 // The bytes of a file, from the first place on.
 fn put_file(file: &mut [u8], s: Sizes, variables: &[u32], marks: &[u8])
@@ -26,8 +18,8 @@ fn put_file(file: &mut [u8], s: Sizes, variables: &[u32], marks: &[u8])
     ensures { λ _. ⌜ now (file .exit) ≡ sets (now (file .entry)) 0 (fileOf (fiveOf s) (now (variables .entry)) (now (marks .entry))) ⌝ }
 {
     let sizes = [s.channels, s.steps, s.variables, s.clauses, s.literals];
-    let at = numbers::put_numbers(file, 0, &sizes);
-    let end = numbers::put_numbers(file, at, variables);
+    let at = file_numbers::put_numbers(file, 0, &sizes);
+    let end = file_numbers::put_numbers(file, at, variables);
     literals::put_bytes(file, end, marks);
 }
 
@@ -52,7 +44,7 @@ pub fn read(file: &[u8], sizes: &mut [u32], variables: &mut [u32], marks: &mut [
     if let Reply::No(r) = questions::ask_file(file) {
         return Written::Refused(r);
     }
-    let s = numbers::sizes_at(file);
+    let s = file_numbers::sizes_at(file);
     if let Reply::No(r) = clause_table::ask_room(
         s.literals,
         sizes.len(),
@@ -62,7 +54,7 @@ pub fn read(file: &[u8], sizes: &mut [u32], variables: &mut [u32], marks: &mut [
         return Written::Refused(r);
     }
     clause_table::put_sizes(sizes, s);
-    numbers::read_numbers(variables, file, s);
-    literals::put_bytes(marks, 0, numbers::marks_at(file, s));
+    file_numbers::read_numbers(variables, file, s);
+    literals::put_bytes(marks, 0, file_numbers::marks_at(file, s));
     Written::Done
 }

@@ -1,5 +1,4 @@
 // Questions 15 to 18 of the file's writer and of its reader.
-use crate::numbers;
 use clause_table::Sizes;
 use interval::Interval;
 use refusal::Reply;
@@ -7,8 +6,8 @@ ghost use mathlib.Core.Path.{_≡_};
 ghost use mathlib.Core.List.{List};
 ghost use Prim.Native.Nat.{ℕ};
 ghost use Rattle.refusal.specs.Asked.{asked};
-ghost use Rattle.clause_file.specs.File.{variablesAt};
-ghost use Rattle.clause_file.specs.Held.{Held};
+ghost use Rattle.file_numbers.specs.File.{variablesAt};
+ghost use Rattle.file_numbers.specs.Held.{Held};
 ghost use Rattle.clause_file.specs.Questions.{allPass, howMany, askFile, askArrays, inLimits, isVariable, isMark, askEntries, closes, endsClosed, askClosed, askFileRoom, entryQuestions};
 ghost use Rattle.clause_file.specs.Calls.{arrayQuestions, fileQuestions};
 
@@ -50,7 +49,7 @@ fn are_variables_at(file: &[u8], s: Sizes) -> bool
     ensures { λ r. ⌜ r ≡ allPass (isVariable (s .variables)) (variablesAt (now (file .entry))) ⌝ }
 {
     for e in 0..s.literals as usize {
-        if !is_variable(numbers::number_at(file, 20 + 4 * e), s.variables) {
+        if !is_variable(file_numbers::number_at(file, 20 + 4 * e), s.variables) {
             return false;
         }
     }
@@ -150,7 +149,7 @@ fn ask_length(file: &[u8]) -> Reply
     ensures { λ r. ⌜ r ≡ askFile (now (file .entry)) ⌝ }
 {
     if file.len() >= 20 {
-        let long = crate::file_length(numbers::number_at(file, 16));
+        let long = file_numbers::file_length(file_numbers::number_at(file, 16));
         return refusal::ask(15, file.len() == long);
     }
     refusal::ask(15, false)
@@ -163,13 +162,17 @@ pub fn ask_file(file: &[u8]) -> Reply
     if let Reply::No(r) = ask_length(file) {
         return Reply::No(r);
     }
-    let s = numbers::sizes_at(file);
-    ask_table(s, are_variables_at(file, s), numbers::marks_at(file, s))
+    let s = file_numbers::sizes_at(file);
+    ask_table(
+        s,
+        are_variables_at(file, s),
+        file_numbers::marks_at(file, s),
+    )
 }
 
 // Question 18 of the writer.
 pub fn ask_bytes(literals: u32, file: usize) -> Reply
     ensures { λ r. ⌜ r ≡ askFileRoom literals file ⌝ }
 {
-    refusal::ask(18, crate::file_length(literals) <= file)
+    refusal::ask(18, file_numbers::file_length(literals) <= file)
 }

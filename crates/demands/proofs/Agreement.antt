@@ -4,7 +4,7 @@
 use mathlib.Core.Path.{_≡_, sym, _∙_}
 use mathlib.Core.List.{List}
 use Prim.Native.Nat.{ℕ}
-use Rattle.clause_file.specs.File.{Octets}
+use Rattle.file_numbers.specs.File.{Octets}
 use Rattle.nodes.specs.Calls.{nodePlaceOf}
 use Rattle.evaluator.specs.Evaluation.{evaluated}
 use Rattle.clause_table.specs.Table.{tabled}

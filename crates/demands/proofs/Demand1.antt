@@ -23,7 +23,7 @@ use Rattle.assignments.specs.declared.Checked.the-variants as checked
 use Rattle.search.specs.Search.{Searched, unwritten, lentOf, searchQuestions, searched}
 use Rattle.search.specs.declared.Answer.the-variants as answer
 use Rattle.search.specs.declared.Lent.{Lent}
-use Rattle.clause_file.specs.File.{fileLength, sizesAt}
+use Rattle.file_numbers.specs.File.{fileLength, sizesAt}
 use Rattle.clause_file.specs.Questions.{askFileRoom}
 use Rattle.clause_file.specs.Calls.{FileAfter, fileRefused, arrayQuestions, fileWritten, fileQuestions, fileRead}
 use Rattle.answers.specs.Answers.{Told, packVerdict, verdictBy, packWritten, writtenBy, packChecked, checkedBy, packAnswer, answerBy, packLocated, locatedBy}

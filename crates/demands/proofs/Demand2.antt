@@ -26,7 +26,7 @@ use Rattle.evaluator.specs.Evaluation.{askRecording, askBytes, verdictOf, evalu
 use Rattle.assignments.specs.Extension.{valueIn, extensionOf, recordingOf, EachBelow, meetsLast}
 use Rattle.assignments.specs.Calls.{askPlaces, extended, notAccepted, proposed}
 use Rattle.assignments.specs.declared.Checked.the-variants.{Accepted}
-use Rattle.clause_file.specs.File.{fileOf, fileLength, sizesBy, sizesAt, variablesAt, marksAt, Words, Octets}
+use Rattle.file_numbers.specs.File.{fileOf, fileLength, sizesBy, sizesAt, variablesAt, marksAt, Words, Octets}
 use Rattle.clause_file.specs.Questions.{askFileRoom}
 use Rattle.clause_file.specs.Calls.{fileRefused, arrayQuestions, fileWritten, fileQuestions, fileRead}
 use Rattle.clause_file.proofs.Laws.{read-written, write-read}

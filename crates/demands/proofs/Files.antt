@@ -21,13 +21,13 @@ use Rattle.clauses.specs.Entries.{flat, variablesIn, marksIn}
 use Rattle.clause_table.specs.Table.{onTree, sizesOf, sizesIn, placesIn, fiveOf, askRoom, After, refused, written}
 use Rattle.clause_table.specs.declared.Sizes.{Sizes}
 use Rattle.clause_table.specs.declared.Written.the-variants.{Done, Refused}
-use Rattle.clause_file.specs.File.{bytesOf, fileOf, numberAt, sizesAt, variablesAt, marksAt, Words, Octets}
+use Rattle.file_numbers.specs.File.{bytesOf, fileOf, numberAt, sizesAt, variablesAt, marksAt, Words, Octets}
 use Rattle.clause_file.specs.Questions.{askArrays, entryQuestions}
-use Rattle.clause_file.specs.Held.{Held}
+use Rattle.file_numbers.specs.Held.{Held}
 use Rattle.clause_file.specs.Calls.{FileAfter, fileWritten, fileQuestions, fileRead}
-use Rattle.clause_file.proofs.Stored.{variables-count, marks-count}
+use Rattle.file_numbers.proofs.Stored.{variables-count, marks-count}
 use Rattle.clause_file.proofs.Asking.{file-held}
-use Rattle.clause_file.proofs.Bytes.{all-bytes-back}
+use Rattle.file_numbers.proofs.Bytes.{all-bytes-back}
 use Rattle.clause_file.proofs.Laws.{read-written}
 use Rattle.demands.specs.Calls.{Obeys}
 use Rattle.file_line.specs.Line.{Line, line, other, lineOf, readLine}

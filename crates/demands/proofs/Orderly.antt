@@ -41,11 +41,11 @@ use Rattle.clauses.specs.Entries.{Entry, variablesIn, marksIn}
 use Rattle.clause_table.specs.declared.Sizes.{Sizes}
 use Rattle.evaluator.specs.Evaluation.{recordingQuestions, readHolds, verdictOf, evaluated}
 use Rattle.assignments.proofs.Values.{extension-length}
-use Rattle.clause_file.specs.File.{fileOf, fileLength, sizesAt, variablesAt, marksAt}
+use Rattle.file_numbers.specs.File.{fileOf, fileLength, sizesAt, variablesAt, marksAt}
 use Rattle.clause_file.specs.Questions.{askFileRoom}
 use Rattle.clause_file.specs.Calls.{FileAfter, fileRefused, arrayQuestions, fileWritten, fileQuestions, fileRead}
 use Rattle.clause_file.proofs.Asking.{length-written, room-written, file-held}
-use Rattle.clause_file.proofs.Stored.{variables-count, marks-count}
+use Rattle.file_numbers.proofs.Stored.{variables-count, marks-count}
 use Rattle.clause_file.proofs.Writable.{five-sizes}
 use Rattle.answers.specs.Numbers.{nodeNumbers, evaluationNumbers, tableNumbers, searchNumbers, extensionNumbers, proposalNumbers, fileNumbers}
 use Rattle.answers.proofs.Asks.{node-asks, evaluation-asks, table-asks, search-asks, extension-asks, proposal-asks, writer-asks, reader-asks}

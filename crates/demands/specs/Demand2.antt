@@ -26,7 +26,7 @@ use Rattle.evaluator.specs.declared.Verdict.the-variants as verdict
 use Rattle.assignments.specs.Extension.{valueIn, EachBelow, MeetsButLast}
 use Rattle.assignments.specs.Calls.{askAssignment, askValues, askClauses, askPlaces, Extended, notExtended, Proposed, notAccepted}
 use Rattle.assignments.specs.declared.Checked.the-variants as checked
-use Rattle.clause_file.specs.File.{fileOf, sizesAt, Words}
+use Rattle.file_numbers.specs.File.{fileOf, sizesAt, Words}
 use Rattle.clause_file.specs.Questions.{askFileRoom}
 use Rattle.clause_file.specs.Calls.{FileAfter, fileRefused, arrayQuestions, fileQuestions}
 use Rattle.file_line.specs.Line.{lineOf}

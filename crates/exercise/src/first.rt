@@ -88,7 +88,7 @@ pub fn put_first(text: &[u8], c: u32, k: u32, limit: u32) {
     let mut recording = [0u8; Interval::MAX_STEPS];
     let answer = find(text, c, k, limit, &mut recording);
     match answer {
-        Answer::Found(n) => put_found(text, c, arguments::first(&recording, k as usize), n),
+        Answer::Found(n) => put_found(text, c, input_line::first(&recording, k as usize), n),
         Answer::None(n) => put_none(text, k, n),
         Answer::Spent(n) => put_spent(n),
         Answer::Refused(r) => put_refusal(text, c, r),

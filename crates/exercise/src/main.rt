@@ -9,11 +9,11 @@ mod print;
 mod words;
 
 use arguments::Fault;
-use arguments::Number;
 use arguments::Sought;
 use arguments::Task;
 use evaluator::Verdict;
 use grammar::MAX_CHANNELS;
+use input_line::Number;
 use interval::Interval;
 use libc::STDIN_FILENO;
 use refusal::Reply;
@@ -32,11 +32,11 @@ fn exercise(input: &[u8]) {
     if input.len() == INPUT {
         return words::put_fault(Fault::Long);
     }
-    let rest = arguments::after_line(input);
+    let rest = input_line::after_line(input);
     if rest.len() == 0 {
         return words::put_fault(Fault::Few);
     }
-    let count = arguments::decimal(arguments::line(input));
+    let count = input_line::decimal(input_line::line(input));
     match count {
         Number::Of(c) => answer(rest, c),
         Number::Zero => words::put_fault(Fault::Zero),
@@ -50,15 +50,15 @@ fn answer(lines: &[u8], c: u32) {
     if let Reply::No(r) = refusal::ask_within(1, c as usize, 1, MAX_CHANNELS) {
         return words::put_refusal(lines, c, r);
     }
-    if arguments::is_search(lines) {
+    if input_line::is_search(lines) {
         return search_for(lines, c);
     }
-    work_on(arguments::line(lines), c, arguments::after_line(lines));
+    work_on(input_line::line(lines), c, input_line::after_line(lines));
 }
 
 // The steps, the formula, and perhaps a limit.
 fn search_for(lines: &[u8], c: u32) {
-    let text = arguments::line(arguments::after_line(lines));
+    let text = input_line::line(input_line::after_line(lines));
     let sought = arguments::take_search(lines);
     match sought {
         Sought::First { steps, limit } => first::put_first(text, c, steps, limit),
@@ -75,7 +75,7 @@ fn work_on(text: &[u8], c: u32, lines: &[u8]) {
             text,
             c,
             narrow(steps),
-            arguments::first(&recording, steps),
+            input_line::first(&recording, steps),
         ),
         Task::File(k) => clauses::put_table(text, c, k),
         Task::Wrong(fault) => words::put_fault(fault),

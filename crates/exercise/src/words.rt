@@ -80,7 +80,7 @@ fn put_wrong_search(fault: Fault) {
         Fault::Tries => put(b"tries= is followed by the most tries to make, as in tries=1000"),
         Fault::Many => put_limit(
             b"the most that tries= can allow is ",
-            arguments::MAX_TRIES as usize,
+            input_line::MAX_TRIES as usize,
         ),
         _ => put(b"after steps and formula only tries= can follow, as in tries=1000"),
     }
@@ -144,7 +144,7 @@ pub fn put_fault(fault: Fault) {
 fn put_marked(text: &[u8], place: usize) {
     drawing::put_glyphs(Show::Text, text);
     put(b"\n");
-    drawing::put_glyphs(Show::Blank, arguments::first(text, place));
+    drawing::put_glyphs(Show::Blank, input_line::first(text, place));
     put(b"^\n");
 }
 

@@ -1,4 +1,2 @@
-pub mod Sets
-pub mod Blocks
 pub mod Rows
 pub mod Call

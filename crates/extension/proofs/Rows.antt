@@ -41,9 +41,10 @@ use Rattle.clause_table.proofs.Call.{variables-are}
 use Rattle.assignments.specs.Extension.{blockValues, nodeValues}
 use Rattle.assignments.proofs.Values.{pointAt, block-length, values-append, values-length, truth-stands}
 use Rattle.values.specs.Values.{valuesBy, Fits}
-use Rattle.extension.specs.Rows.{firstPoints, secondPoints, TruthFrom, Makes, Seated, NodesIn}
-use Rattle.extension.proofs.Sets.{stored-before, stored-at}
-use Rattle.extension.proofs.Blocks.{PartsAre, block-values}
+use Rattle.node_values.specs.Parts.{firstPoints, secondPoints, TruthFrom, Makes}
+use Rattle.extension.specs.Rows.{Seated, NodesIn}
+use Rattle.node_values.proofs.Sets.{stored-before, stored-at}
+use Rattle.node_values.proofs.Blocks.{PartsAre, block-values}
 
 -- ---- a row's kind and number tell the node's rule
 

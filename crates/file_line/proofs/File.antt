@@ -19,9 +19,9 @@ use Rattle.formula.proofs.Asked.{test-yes, asked-one}
 use Rattle.clauses.specs.Entries.{Entry, variablesIn, marksIn}
 use Rattle.clause_table.specs.Table.{After, sizesIn, placesIn, askRoom, over, refused, writtenTable, tabled}
 use Rattle.clause_table.specs.declared.Written.the-variants.{Done, Refused}
-use Rattle.clause_file.specs.File.{sizesBy, fileLength}
+use Rattle.file_numbers.specs.File.{sizesBy, fileLength}
 use Rattle.clause_file.specs.Calls.{FileAfter, fileWritten}
-use Rattle.clause_file.proofs.Stored.{length-file}
+use Rattle.file_numbers.proofs.Stored.{length-file}
 use Rattle.file_line.specs.Line.{line}
 use Rattle.file_line.specs.Output.{maxLiterals, maxFile, askLiterals, fileIn, programQuestions, outputFor}
 use Rattle.file_line.specs.Parts.{filePut}

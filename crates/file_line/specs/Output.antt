@@ -8,7 +8,7 @@ use Rattle.refusal.specs.declared.Reply.{Reply}
 use Rattle.formula.specs.Questions.{formulaQuestions}
 use Rattle.clauses.specs.Entries.{variablesIn, marksIn}
 use Rattle.clause_table.specs.Table.{sizesIn, placesIn}
-use Rattle.clause_file.specs.File.{fileOf, fileLength}
+use Rattle.file_numbers.specs.File.{fileOf, fileLength}
 use Rattle.file_line.specs.Line.{Line, line, other, readLine}
 
 -- "Its arrays hold 8,192 literals"

@@ -6,7 +6,7 @@ ghost use mathlib.Core.Path.{_≡_};
 ghost use Prim.Native.Nat.{_≤_};
 ghost use lib.ListN.{length, getD, drop};
 ghost use Rattle.clause_table.specs.Table.{over};
-ghost use Rattle.clause_file.specs.File.{fileLength};
+ghost use Rattle.file_numbers.specs.File.{fileLength};
 ghost use Rattle.file_line.specs.Line.{line, number, blank, textLast, stepsNext, readLine};
 ghost use Rattle.file_line.specs.Output.{outputFor, outputOf, maxInput};
 ghost use Rattle.file_line.specs.Parts.{takenBy, cappedTaken, lineBy, cappedLine, PartsWithin, filePut};
@@ -111,7 +111,7 @@ fn put_file(five: [u32; 5], variables: &[u32], marks: &[u8], file: &mut [u8]) ->
         literals: five[4],
     };
     clause_file::write(s, &variables[..n], &marks[..n], file);
-    clause_file::file_length(five[4])
+    file_numbers::file_length(five[4])
 }
 
 // The file of a text's table: how many bytes were written.

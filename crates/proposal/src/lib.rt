@@ -91,7 +91,7 @@ fn ask_table<'a>(
         return Reply::No(r);
     }
     let root = clause_table::seat(kinds, numbers, firsts, k, 0) + k;
-    if unmet::high(assignment, root) {
+    if unmet_gate::high(assignment, root) {
         return Reply::Yes;
     }
     Reply::No(Refusal {

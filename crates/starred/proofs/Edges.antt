@@ -14,7 +14,7 @@ use Rattle.circuit.specs.Circuit.{widthOf, blocksOf, variablesOf, truthOf, ownB
 use Rattle.clauses.specs.Clauses.{clausesOf, clausesBy, clauseTable}
 use Rattle.clauses.specs.Entries.{entriesOf, flat}
 use Rattle.clause_table.specs.Table.{sizesOf, sizesIn, placesIn, askRoom, tabled}
-use Rattle.clause_file.specs.File.{bytesOf, fileOf}
+use Rattle.file_numbers.specs.File.{bytesOf, fileOf}
 use Rattle.evaluator.specs.Evaluation.{askRecording, notBelow, askBelow, evaluated}
 use Rattle.assignments.specs.Extension.{recordingBy}
 use Rattle.closure.specs.Closure.{add, allOpposed, membersOf, membersIn}

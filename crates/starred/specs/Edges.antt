@@ -10,7 +10,7 @@ use Rattle.formula.specs.Nodes.{nodesIn}
 use Rattle.circuit.specs.Circuit.{variablesOf}
 use Rattle.clause_table.specs.Table.{placesIn, After, tabled}
 use Rattle.clause_table.specs.declared.Written.the-variants.{Done}
-use Rattle.clause_file.specs.File.{fileOf}
+use Rattle.file_numbers.specs.File.{fileOf}
 use Rattle.evaluator.specs.Evaluation.{evaluated}
 use Rattle.evaluator.specs.declared.Verdict.{Verdict}
 use Rattle.evaluator.specs.declared.Verdict.the-variants.{No, Yes}

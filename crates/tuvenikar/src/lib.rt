@@ -20,7 +20,7 @@ ghost use Rattle.evaluator.specs.Evaluation.{evaluated};
 ghost use Rattle.nodes.specs.Calls.{nodePlaceOf};
 ghost use Rattle.clause_table.specs.Table.{tabled};
 ghost use Rattle.assignments.specs.Calls.{extended, proposed};
-ghost use Rattle.clause_file.specs.File.{sizesBy};
+ghost use Rattle.file_numbers.specs.File.{sizesBy};
 ghost use Rattle.clause_file.specs.Calls.{fileWritten, fileRead};
 ghost use Rattle.search.specs.Search.{lentOf, searched, Unchanged};
 ghost use Rattle.answers.specs.Answers.{packed, packVerdict, packLocated, packWritten, packChecked, packAnswer};

@@ -36,7 +36,7 @@ use Rattle.node_clauses.proofs.Nodes.{clauses-join, Halves, chopped, node-known
 use Rattle.assignments.specs.Calls.{askClauses}
 use Rattle.gates.specs.Mentioned.{Variable, InputsIn, Mentioned, AllMentioned}
 use Rattle.unmet.specs.Walk.{constants}
-use Rattle.unmet.proofs.Gates.{no, gate-met, unmet-known}
+use Rattle.unmet_gate.proofs.Gates.{no, gate-met, unmet-known}
 
 -- ---- clauses after clauses
 

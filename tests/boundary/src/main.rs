@@ -3,6 +3,8 @@
 //! files, `search` for first recordings). What is lent is fenced (`fence`), and each case is called twice, on either side of the
 //! fence: the answers must be equal, no byte beyond be touched, and every place of an output be what it should. The largest
 //! tables that there are (`counts`) are printed.
+//! The argument `limits` has only searches with limits about N tried, and `others` all else: either takes as long, so that they can
+//! run beside each other. Without an argument both are tried.
 //! A seed other than the usual one is taken from TUVENIKAR_SEED; TUVENIKAR_RECORD writes `recorded.txt` anew instead. The last line
 //! is `N passed, M failed`.
 
@@ -41,7 +43,7 @@ use fault::{FAILED, PASSED};
 use file_cases::{FileCase, FILE_FAMILIES, READ_FILE, WRITE_FILE};
 use file_engine::FileEngine;
 use lent::{Wanted, Written};
-use search_cases::{Exercise, SEARCH, SEARCH_FAMILIES};
+use search_cases::{Exercise, SearchCase, LIMIT_FAMILIES, SEARCH, SEARCH_FAMILIES};
 use search_engine::SearchEngine;
 use table::Table;
 
@@ -80,7 +82,8 @@ const AGREEMENT: usize = FAMILIES.len() + ASSIGNMENT_FAMILIES.len();
 const FIRST_OF_FILES: usize = AGREEMENT + 1;
 const ROUND_TRIPS: usize = FIRST_OF_FILES + FILE_FAMILIES.len();
 const FIRST_OF_SEARCHES: usize = ROUND_TRIPS + 1;
-const FOUND: usize = FIRST_OF_SEARCHES + SEARCH_FAMILIES.len();
+const OTHER_SEARCHES: usize = FIRST_OF_SEARCHES + LIMIT_FAMILIES.len();
+const FOUND: usize = OTHER_SEARCHES + SEARCH_FAMILIES.len();
 
 fn main() {
     if std::env::var("TUVENIKAR_RECORD").is_ok() {
@@ -88,14 +91,38 @@ fn main() {
     }
     fault::watch();
     let seed = std::env::var("TUVENIKAR_SEED").map_or(1, |seed| seed.parse().expect("TUVENIKAR_SEED is no number"));
-    let (mut engine, mut files, mut searches) = (Engine::new(), FileEngine::new(), SearchEngine::new());
+    println!("seed {seed}");
+    let mut searches = SearchEngine::new();
+    let part = std::env::args().nth(1);
+    match part.as_deref() {
+        Some("limits") => try_limits(&mut searches, seed),
+        Some("others") => try_others(&mut searches, seed),
+        None => {
+            try_limits(&mut searches, seed);
+            try_others(&mut searches, seed);
+        }
+        Some(part) => panic!("there is no part {part}"),
+    }
+
+    let failed = FAILED.load(Relaxed);
+    println!("{} passed, {failed} failed", PASSED.load(Relaxed));
+    std::process::exit((failed > 0).into());
+}
+
+fn try_limits(searches: &mut SearchEngine, seed: u64) {
+    for (number, family) in LIMIT_FAMILIES.iter().enumerate() {
+        try_family(seed, FIRST_OF_SEARCHES + number, family, |case| tried_search(searches, case));
+    }
+}
+
+fn try_others(searches: &mut SearchEngine, seed: u64) {
+    let (mut engine, mut files) = (Engine::new(), FileEngine::new());
     try_edges(&mut engine, &mut files);
-    try_search_edges(&mut searches);
-    try_recorded(&mut searches);
+    try_search_edges(searches);
+    try_recorded(searches);
     largest_tables(&mut engine, &mut files);
 
-    println!("seed {seed}");
-    let all = try_families(&mut engine, &mut files, &mut searches, seed);
+    let all = try_families(&mut engine, &mut files, searches, seed);
     println!("{} cases; code and how often: {all:?}", total(&all));
     for (call, codes) in CODES {
         for code in codes {
@@ -105,11 +132,7 @@ fn main() {
     }
     try_agreement(&mut engine, seed);
     try_round_trips(&mut engine, &mut files, seed);
-    try_found(&mut engine, &mut searches, seed);
-
-    let failed = FAILED.load(Relaxed);
-    println!("{} passed, {failed} failed", PASSED.load(Relaxed));
-    std::process::exit((failed > 0).into());
+    try_found(&mut engine, searches, seed);
 }
 
 /// Counts one check, and says what is wrong with it if anything is.
@@ -193,13 +216,14 @@ fn try_families(engine: &mut Engine, files: &mut FileEngine, searches: &mut Sear
         add(&mut all, codes);
     }
     for (number, family) in SEARCH_FAMILIES.iter().enumerate() {
-        let codes = try_family(seed, FIRST_OF_SEARCHES + number, family, |case| {
-            let wanted = case.wanted();
-            Tried { call: SEARCH, code: wanted.answer.0, wrong: searches.wrong(case, &wanted) }
-        });
-        add(&mut all, codes);
+        add(&mut all, try_family(seed, OTHER_SEARCHES + number, family, |case| tried_search(searches, case)));
     }
     all
+}
+
+fn tried_search(searches: &mut SearchEngine, case: &SearchCase) -> Tried {
+    let wanted = case.wanted();
+    Tried { call: SEARCH, code: wanted.answer.0, wrong: searches.wrong(case, &wanted) }
 }
 
 /// A family of random cases, up to the first that is wrong.

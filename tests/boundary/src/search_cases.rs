@@ -13,10 +13,11 @@ use crate::search::{first_of_all, Outcome, Search};
 
 pub const SEARCH: &str = "search";
 
-/// Each case is quick, so there are many.
+/// Each case is quick, so there are many; of lengths there are not so many that differ.
 const TIMES: usize = 10;
 
-pub const SEARCH_FAMILIES: [Family<SearchCase>; 8] = [
+/// With limits about N. They take as long as all else that is tried, and are tried beside it.
+pub const LIMIT_FAMILIES: [Family<SearchCase>; 3] = [
     Family {
         name: "searches for one formula",
         cases: 126_000 * TIMES,
@@ -28,8 +29,11 @@ pub const SEARCH_FAMILIES: [Family<SearchCase>; 8] = [
         draw: |dice| limits_about_n(dice, MOST_TRIED, several),
     },
     Family { name: "searches for opposed formulas", cases: 40_000 * TIMES, draw: |dice| limits_about_n(dice, 8, opposed) },
+];
+
+pub const SEARCH_FAMILIES: [Family<SearchCase>; 5] = [
     Family { name: "searches with many tries", cases: 1_500 * TIMES, draw: many_tries },
-    Family { name: "searches in arrays of all lengths", cases: 100_000 * TIMES, draw: all_lengths },
+    Family { name: "searches in arrays of all lengths", cases: 100_000, draw: all_lengths },
     Family { name: "searches in arrays too short, in all sets", cases: 60_000 * TIMES, draw: sets_of_short_arrays },
     Family { name: "a few tries with large tables", cases: 400 * TIMES, draw: large_tables },
     Family { name: "searches for texts that are mostly refused", cases: 60_000 * TIMES, draw: other_texts },

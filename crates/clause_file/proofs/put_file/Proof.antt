@@ -1,7 +1,7 @@
 -- The sizes, the variables and the marks are stored, each from where the last ends;
 -- that there is room for the whole leaves room for each (Stored.antt).
-use Rattle.clause_file.specs.File.{bytesOf}
-use Rattle.clause_file.proofs.Stored.{kept-long, length-file, parts-stored}
+use Rattle.file_numbers.specs.File.{bytesOf}
+use Rattle.file_numbers.proofs.Stored.{kept-long, length-file, parts-stored}
 use Rattle.clause_table.specs.Table.{fiveOf}
 use mathlib.Core.List.{flatMap}
 use native.Mathlib.Omega.{arith}

@@ -1,7 +1,7 @@
 -- Refused by the first no of 15 to 17, or by 18; otherwise the sizes, variables and marks that the file holds stand over what was there
 -- (Calls.antt).
 use Rattle.clause_file.proofs.Asking.{file-long, file-held, asked-file}
-use Rattle.clause_file.proofs.Stored.{marks-count}
+use Rattle.file_numbers.proofs.Stored.{marks-count}
 use Rattle.clause_file.proofs.Calls.{read-refused, read-short, read-done}
 use Rattle.clause_table.proofs.Call.{room-enough}
 use lib.ListN.{length}

@@ -5,7 +5,7 @@ use Rattle.unmet.specs.Walk.{constants}
 use Rattle.assignments.specs.Extension.{valueIn}
 use Rattle.clauses.proofs.Meets.{beq-exactly}
 use borrow.Author.Tests.{not-true, not-false}
-use Rattle.unmet.proofs.Gates.{differ}
+use Rattle.unmet_gate.proofs.Gates.{differ}
 use Prim.Native.Nat.{_+_, _-_}
 use mathlib.Core.Path.{refl}
 use borrow.Author.Needs.{needs}

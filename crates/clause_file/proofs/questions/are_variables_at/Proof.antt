@@ -1,9 +1,9 @@
 -- The same for the numbers in a file: variable e is the number at its place
 -- (Stored.antt).
-use Rattle.clause_file.specs.File.{variablesAt}
+use Rattle.file_numbers.specs.File.{variablesAt}
 use Rattle.clause_file.specs.Questions.{isVariable}
 use Rattle.clause_file.proofs.Passed.{Passed, none-failed, one-passed, one-failed, all-passed}
-use Rattle.clause_file.proofs.Stored.{variables-count, variable-at}
+use Rattle.file_numbers.proofs.Stored.{variables-count, variable-at}
 use borrow.Author.Tests.{not-true, not-false}
 use mathlib.Core.Path.{sym, ap, _∙_}
 use Prim.Native.Nat.{_-_}

@@ -1,6 +1,6 @@
 -- Question 15 first; then 16 and 17 on the sizes, variables and marks that the file holds,
 -- since it is then as long as its sizes say (Asking.antt).
-use Rattle.clause_file.specs.File.{variablesAt}
+use Rattle.file_numbers.specs.File.{variablesAt}
 use Rattle.clause_file.specs.Questions.{entryQuestions}
 use Rattle.clause_file.proofs.Asking.{file-long, file-held}
 use Rattle.refusal.specs.Asked.{asked}

@@ -1,7 +1,7 @@
 -- A file of under 20 bytes is refused;
 -- a longer one has its L at 16.
 use Rattle.clause_file.specs.Questions.{askFile}
-use Rattle.clause_file.specs.File.{sizesAt, fileLength}
+use Rattle.file_numbers.specs.File.{sizesAt, fileLength}
 use Rattle.refusal.specs.Asked.{question}
 use lib.Dec.{eqb}
 use lib.ListN.{length}

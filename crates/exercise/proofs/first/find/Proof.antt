@@ -1,0 +1,42 @@
+use mathlib.Core.Path.{sym}
+use Prim.Native.Nat.{ℕ}
+use lib.ListN.{length-replicate}
+use borrow.Author.Needs.{needs}
+use Rattle.exercise.proofs.first.find.Statement.{statement}
+use Rattle.exercise.proofs.first.find.Tie as tie
+use Rattle.exercise.proofs.first.find.Reads as reads
+use Rattle.exercise.proofs.first.find.Lts as lts
+
+-- As many places as the array was made with, by a law: to count them takes the prover seconds.
+slice-aggregate-search : tie.Need-slice-aggregate-search
+slice-aggregate-search c = sym (length-replicate {A = ℕ} 524288 0)
+
+slice-aggregate-search-2 : tie.Need-slice-aggregate-search-2
+slice-aggregate-search-2 c = sym (length-replicate {A = ℕ} 524288 0)
+
+slice-aggregate-search-3 : tie.Need-slice-aggregate-search-3
+slice-aggregate-search-3 c = sym (length-replicate {A = ℕ} 81920 0)
+
+slice-aggregate-search-4 : tie.Need-slice-aggregate-search-4
+slice-aggregate-search-4 c = sym (length-replicate {A = ℕ} 81920 0)
+
+search-requires : tie.Need-search-requires
+search-requires c κs = search needs
+
+same-length : tie.Need-same-length
+same-length c = search needs
+
+returns : tie.Need-returns
+returns c = search needs
+
+pub find-spec : {M : Type 1} → statement M
+find-spec =
+    tie.close
+    (tie.spec
+    slice-aggregate-search
+    slice-aggregate-search-2
+    slice-aggregate-search-3
+    slice-aggregate-search-4
+    search-requires
+    same-length
+    returns)

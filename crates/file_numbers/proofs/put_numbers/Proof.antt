@@ -1,0 +1,64 @@
+-- After e turns the bytes of the first e numbers are stored, and the place is 4e further
+-- (crate literals, Written.antt).
+use Rattle.literals.proofs.Written.{Copied, copy-begun, copy-turn, copy-done}
+use Rattle.file_numbers.specs.File.{bytesOf}
+use Rattle.file_numbers.proofs.Stored.{four}
+use Prim.Native.Nat.{_+_, _*_, _-_}
+use mathlib.Core.Path.{_≡_, refl}
+use native.Mathlib.Omega.{arith}
+use borrow.Author.Needs.{needs}
+use Rattle.file_numbers.proofs.put_numbers.Statement.{statement}
+use Rattle.file_numbers.proofs.put_numbers.Tie as tie
+
+abbrev Inv-loop : tie.InvT-loop
+Inv-loop file₀ at new b₀ e₀ e-end file b e = Copied bytesOf file₀ at new e-end file e × (b ≡ at + e * 4)
+
+abbrev μ-loop : tie.MeasureT-loop
+μ-loop file₀ at new b₀ e₀ e-end file b e = e-end - e
+
+loop-holds : tie.Need-loop-holds Inv-loop μ-loop
+loop-holds c = (copy-begun refl, omega arith)
+
+mul-put-number : tie.Need-mul-put-number Inv-loop μ-loop
+mul-put-number c = search needs
+
+shared-slice-read-put-number : tie.Need-shared-slice-read-put-number Inv-loop μ-loop
+shared-slice-read-put-number c = search needs
+
+put-number-requires : tie.Need-put-number-requires Inv-loop μ-loop
+put-number-requires c κs = search needs
+
+add-b : tie.Need-add-b Inv-loop μ-loop
+add-b c = search needs
+
+add-e : tie.Need-add-e Inv-loop μ-loop
+add-e c = search needs
+
+loop-less : tie.Need-loop-less Inv-loop μ-loop
+loop-less c = search needs
+
+loop-again : tie.Need-loop-again Inv-loop μ-loop
+loop-again c = let i = c .before .before .before .before .before .before .loop .inv in (copy-turn (i .0) 4 four (search needs) (i .1) (c .before .before .put-number .ensures), omega (arith, i .1))
+
+same-length : tie.Need-same-length Inv-loop μ-loop
+same-length c = search needs
+
+returns : tie.Need-returns Inv-loop μ-loop
+returns c = let i = c .before .loop .inv in (copy-done (i .0) (omega (arith, c .loop-test .left)), omega (arith, i .0 .whole, i .0 .upto, i .1, c .loop-test .left))
+
+pub put-numbers-spec : {M : Type 1} → statement M
+put-numbers-spec =
+    tie.close
+    (tie.spec
+    Inv-loop
+    μ-loop
+    loop-holds
+    mul-put-number
+    shared-slice-read-put-number
+    put-number-requires
+    add-b
+    add-e
+    loop-less
+    loop-again
+    same-length
+    returns)

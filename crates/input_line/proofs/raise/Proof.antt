@@ -1,0 +1,76 @@
+-- `raise` goes instant by instant: those before t are raised by their levels, those from t on are as they were.
+-- A turn raises the byte at t, which was not yet changed.
+use mathlib.Core.Path.{_≡_, refl, ap, _∙_}
+use Prim.Native.Nat.{_-_, _≤_}
+use native.Mathlib.Omega.{arith}
+use lib.ListN.{length, getD}
+use borrow.Author.Needs.{needs}
+use Rattle.interval.proofs.Fill.{Upto, begun, turn}
+use Rattle.input_line.specs.Levels.{raisedBy}
+use Rattle.input_line.proofs.raise.Statement.{statement}
+use Rattle.input_line.proofs.raise.Tie as tie
+
+abbrev Inv-loop : tie.InvT-loop
+Inv-loop recording₀ levels bit t₀ t-end recording t =
+    (t ≤ t-end) × (t-end ≡ length levels) × (length levels ≤ length recording₀)
+    × Upto (length recording₀) (λ y. raisedBy bit (getD levels y 0) (getD recording₀ y 0)) (λ y. getD recording₀ y 0) t recording
+
+abbrev μ-loop : tie.MeasureT-loop
+μ-loop recording₀ levels bit t₀ t-end recording t = t-end - t
+
+loop-holds : tie.Need-loop-holds Inv-loop μ-loop
+loop-holds c = (omega arith, refl, omega arith, begun _ _ _ _ refl (λ y. refl))
+
+slice-read-raised : tie.Need-slice-read-raised Inv-loop μ-loop
+slice-read-raised c = search needs
+
+shared-slice-read-raised : tie.Need-shared-slice-read-raised Inv-loop μ-loop
+shared-slice-read-raised c = search needs
+
+raised-requires : tie.Need-raised-requires Inv-loop μ-loop
+raised-requires c κs = search needs
+
+slice-write-recording : tie.Need-slice-write-recording Inv-loop μ-loop
+slice-write-recording c = search needs
+
+add-t : tie.Need-add-t Inv-loop μ-loop
+add-t c = search needs
+
+loop-less : tie.Need-loop-less Inv-loop μ-loop
+loop-less c = search needs
+
+loop-again : tie.Need-loop-again Inv-loop μ-loop
+loop-again c =
+    let l = c .before .before .before .before .loop in
+    let u = l .inv .3 in
+    let old = u .beyond (l .t) (omega arith) in
+    (omega arith, refl, omega arith, turn _ _ _ (l .t) (l .recording) _ u (omega arith) (c .raised .ensures ∙ ap (raisedBy _ _) old))
+
+same-length : tie.Need-same-length Inv-loop μ-loop
+same-length c = search needs
+
+returns : tie.Need-returns Inv-loop μ-loop
+returns c =
+    let u = c .before .loop .inv .3 in
+    record {
+      as-long = u .whole;
+      at = λ t h. u .below t (omega arith);
+      beyond = λ t h. u .beyond t (omega arith);
+    }
+
+pub raise-spec : {M : Type 1} → statement M
+raise-spec =
+    tie.close
+    (tie.spec
+    Inv-loop
+    μ-loop
+    loop-holds
+    slice-read-raised
+    shared-slice-read-raised
+    raised-requires
+    slice-write-recording
+    add-t
+    loop-less
+    loop-again
+    same-length
+    returns)

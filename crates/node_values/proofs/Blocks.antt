@@ -1,0 +1,146 @@
+-- A block's values, by its rule from the truths of the node's parts by their places, are those of the node:
+-- each rule is the meaning of its kind of node, and asks its parts' truth at their own points alone.
+use mathlib.Core.Path.{_≡_, refl, sym, ap, ap₂, _∙_}
+use mathlib.Core.Bool.{Bool, not, _&&_, _||_}
+use mathlib.Core.List.{List, [], _∷_, _++_, map}
+use Prim.Native.Nat.{ℕ, zero, suc, _+_, _-_, _%_, _≤_, _<_}
+use native.Mathlib.Nat.{mod-eq-of-lt}
+use native.Mathlib.Omega.{arith}
+use lib.Dec.{leb}
+use lib.ListN.{length}
+use lib.Seq.{sets}
+use borrow.Rule.Slice.PartMut.{putMid}
+use Rattle.interval.specs.Listing.{tab, All}
+use Rattle.interval.specs.Places.{countOf, placeOf, intervalsOf, triplesOf}
+use Rattle.interval.specs.Limits.{maxSteps, maxCount, IntervalOf, TripleOf}
+use Rattle.interval.specs.declared.Interval.{Interval}
+use Rattle.interval.specs.declared.Triple.{Triple}
+use Rattle.interval.proofs.Listing.{rows-same}
+use Rattle.interval.proofs.Laws.{intervals-numbered}
+use Rattle.grammar.specs.Limits.{maxChannels}
+use Rattle.grammar.specs.Trees.{and, or, chop, Tree, constant, letter, negation, pair, duration, throughout, Letters}
+use Rattle.grammar.specs.declared.Sort.{Sort}
+use Rattle.grammar.specs.declared.Sort.the-variants.{State, Formula}
+use Rattle.meaning.specs.Meaning.{bit, Point, truth, any, lasts, fills, chops, channelAt}
+use Rattle.meaning.proofs.Laws.{highs-agree, every-highs}
+use Rattle.circuit.specs.Circuit.{pointsOf, widthOf}
+use Rattle.circuit.proofs.Inputs.{intervals-in, triples-in}
+use Rattle.blocks.specs.Blocks.{ruleOf}
+use Rattle.blocks.specs.declared.Block.{Block}
+use Rattle.blocks.specs.declared.Rule.{Rule}
+use Rattle.blocks.specs.declared.Rule.the-variants.{Fixed, Letter, Negation, And, Or, Chop, Duration, Throughout, Cut}
+use Rattle.assignments.specs.Extension.{truthValues, cuts, cutValues, blockValues}
+use Rattle.assignments.proofs.Values.{pointAt, truth-tab}
+use Rattle.cuts.specs.Cuts.{onPlaces}
+use Rattle.values.specs.Values.{valuesBy, Fits}
+use Rattle.values.proofs.Tables.{few-intervals}
+use Rattle.table.specs.Table.{highAt}
+use Rattle.node_values.specs.Parts.{firstPoints, secondPoints, Makes}
+use Rattle.node_values.proofs.Sets.{part-stored}
+
+-- ---- the same at every point, the same values
+
+map-agree : {A : Type 0} (In : A → Type 0) (f g : A → ℕ) (l : List A) → All In l → ((a : A) → In a → f a ≡ g a) → map f l ≡ map g l
+map-agree In f g [] a h = refl
+map-agree In f g (x ∷ l) a h = ap₂ (λ (y : ℕ) (m : List ℕ). y ∷ m) (h x (a .0)) (map-agree In f g l (a .1) h)
+
+some-agree : (f g : ℕ → Bool) (i n : ℕ) → ((m : ℕ) → i ≤ m → m < i + n → f m ≡ g m) → any f i n ≡ any g i n
+unfolding any
+some-agree f g i zero h = refl
+some-agree f g i (suc n) h = ap₂ (λ (x y : Bool). x || y) (some-agree f g i n (λ m l r. h m l (omega arith))) (h (i + n) (omega arith) (omega arith))
+
+module _ (k : ℕ) where
+  tab-truth : (s : Sort) (g : Point s → Bool) (f : ℕ → Bool) → ((e : ℕ) → e < pointsOf s k → f e ≡ g (pointAt s k e)) → tab (pointsOf s k) (λ e. bit (f e)) ≡ truthValues s k g
+  tab-truth s g f h = truth-tab s k g (λ e. bit (f e)) (λ e l. ap bit (h e l))
+
+  truths-agree : (f g : Interval → Bool) → ((v : Interval) → IntervalOf k v → f v ≡ g v) → truthValues Formula k f ≡ truthValues Formula k g
+  truths-agree f g h = map-agree (IntervalOf k) (λ v. bit (f v)) (λ v. bit (g v)) (intervalsOf k) (intervals-in k) (λ v o. ap bit (h v o))
+
+  -- by place, at the place of an interval
+  at-interval : (f : ℕ → Bool) (g : Interval → Bool) → ((e : ℕ) → e < countOf k → f e ≡ g (pointAt Formula k e)) → (v : Interval) → IntervalOf k v → onPlaces k f v ≡ g v
+  at-interval f g h v o = h (placeOf k v) (intervals-numbered k .below v o) ∙ ap g (intervals-numbered k .at-place v _ o)
+
+  module _ (f g : ℕ → Bool) (h : (t : ℕ) → t < k → f t ≡ g t) where
+    lasts-agree : (c : ℕ) (v : Interval) → IntervalOf k v → lasts c f v ≡ lasts c g v
+    unfolding lasts
+    lasts-agree c v o = ap (leb c) (highs-agree f g (v .i) (v .j - v .i) (λ t l m. h t (omega (arith, o .ends))))
+
+    fills-agree : (v : Interval) → IntervalOf k v → fills f v ≡ fills g v
+    unfolding fills lasts
+    fills-agree v o = every-highs f (v .i) (v .j - v .i) ∙ lasts-agree (v .j - v .i) v o ∙ sym (every-highs g (v .i) (v .j - v .i))
+
+  module _ (f f′ g g′ : Interval → Bool) (h : (v : Interval) → IntervalOf k v → f v ≡ f′ v) (l : (v : Interval) → IntervalOf k v → g v ≡ g′ v) where
+    cuts-agree : (t : Triple) → TripleOf k t → cuts f g t ≡ cuts f′ g′ t
+    cuts-agree t o = ap₂ (λ (x y : Bool). x && y) (h _ (record { starts = o .starts; ends = omega arith })) (l _ (record { starts = o .cut; ends = o .ends }))
+
+    chops-agree : (v : Interval) → IntervalOf k v → chops f g v ≡ chops f′ g′ v
+    unfolding chops
+    chops-agree v o = some-agree _ _ (v .i) _ (λ m a b. cuts-agree (record { i = v .i; m = m; j = v .j }) (record { starts = a; cut = omega (arith, o .starts); ends = o .ends }))
+
+    cut-values-agree : cutValues k f g ≡ cutValues k f′ g′
+    cut-values-agree = map-agree (TripleOf k) (λ t. bit (cuts f g t)) (λ t. bit (cuts f′ g′ t)) (triplesOf k) (triples-in k) (λ t o. ap bit (cuts-agree t o))
+
+-- ---- a node
+
+-- f and g are the truth of the parts, at their points
+abbrev pub PartsAre : {s : Sort} → ℕ → List ℕ → (ℕ → Bool) → (ℕ → Bool) → Tree s → Type 0
+PartsAre k recording f g (constant v) = Unit
+PartsAre k recording f g (letter c) = Unit
+PartsAre {s} k recording f g (negation x) = (e : ℕ) → e < pointsOf s k → f e ≡ truth recording x (pointAt s k e)
+PartsAre {s} k recording f g (pair l x y) =
+    ((e : ℕ) → e < pointsOf s k → f e ≡ truth recording x (pointAt s k e)) × ((e : ℕ) → e < pointsOf s k → g e ≡ truth recording y (pointAt s k e))
+PartsAre k recording f g (duration x n) = (t : ℕ) → t < k → f t ≡ truth recording x t
+PartsAre k recording f g (throughout x) = (t : ℕ) → t < k → f t ≡ truth recording x t
+
+pub block-values : (k : ℕ) (recording : List ℕ) (f g : ℕ → Bool) {s : Sort} (x : Tree s) → Letters maxChannels x → PartsAre k recording f g x
+    → valuesBy k recording (widthOf k x) f g (ruleOf x) ≡ blockValues k recording x
+unfolding valuesBy blockValues widthOf truth
+block-values k recording f g {s} (constant v) L p = tab-truth k s (truth {s = s} recording (constant v)) (λ e. v) (λ e h. refl)
+block-values k recording f g (letter c) L p =
+    tab-truth k State (truth recording (letter c)) (channelAt recording (c % maxChannels)) (λ e h. ap (λ (c : ℕ). channelAt recording c e) (mod-eq-of-lt L))
+block-values k recording f g {s} (negation x) L p = tab-truth k s (truth recording (negation x)) (λ e. not (f e)) (λ e h. ap not (p e h))
+block-values k recording f g {s} (pair and x y) L p = tab-truth k s (truth recording (pair and x y)) (λ e. f e && g e) (λ e h. ap₂ (λ (a b : Bool). a && b) (p .0 e h) (p .1 e h))
+block-values k recording f g {s} (pair or x y) L p = tab-truth k s (truth recording (pair or x y)) (λ e. f e || g e) (λ e h. ap₂ (λ (a b : Bool). a || b) (p .0 e h) (p .1 e h))
+block-values k recording f g (pair chop x y) L p =
+    let a = at-interval k f (truth recording x) (p .0) in
+    let b = at-interval k g (truth recording y) (p .1) in
+    ap₂ (λ (l m : List ℕ). l ++ m) (truths-agree k _ _ (chops-agree k _ _ _ _ a b)) (cut-values-agree k _ _ _ _ a b)
+block-values k recording f g (duration x n) L p = rows-same (suc n) _ _ (λ c _. truths-agree k _ _ (lasts-agree k f (truth recording x) p c))
+block-values k recording f g (throughout x) L p = truths-agree k _ _ (fills-agree k f (truth recording x) p)
+
+-- ---- a block handed on to be written
+
+-- no block goes by more of a part's truth than a table holds
+module _ (k n : ℕ) (h : k ≤ maxSteps) where
+  pub few-first : (r : Rule) → Fits k n r → firstPoints k n r ≤ maxCount
+  few-first (Fixed v) f = omega arith
+  few-first (Letter c) f = omega arith
+  few-first Negation f = f
+  few-first And f = f
+  few-first Or f = f
+  few-first Chop f = few-intervals k h
+  few-first (Duration m) f = omega arith
+  few-first Throughout f = omega arith
+  few-first Cut f = omega arith
+
+  pub few-second : (r : Rule) → Fits k n r → secondPoints k n r ≤ maxCount
+  few-second (Fixed v) f = omega arith
+  few-second (Letter c) f = omega arith
+  few-second Negation f = omega arith
+  few-second And f = f
+  few-second Or f = f
+  few-second Chop f = few-intervals k h
+  few-second (Duration m) f = omega arith
+  few-second Throughout f = omega arith
+  few-second Cut f = omega arith
+
+-- the part of the assignment that a node's block is, once it is back
+module _ (k n : ℕ) (A recording : List ℕ) (b : Block) (p q : List ℕ) {i j : ℕ} (f : i ≡ firstPoints k n (b .rule)) (g : j ≡ secondPoints k n (b .rule))
+    (P : (e : ℕ) → e < i → highAt p e ≡ highAt A (b .left - 1 + e)) (Q : (e : ℕ) → e < j → highAt q e ≡ highAt A (b .right - 1 + e)) where
+  pub block-put : {m : ℕ} {out : List ℕ} → m ≡ n → length out ≡ m → b .first - 1 + n ≤ length A → out ≡ valuesBy k recording m (highAt p) (highAt q) (b .rule)
+      → (B : List ℕ) → Makes k recording A b n B → putMid (b .first - 1) n A out ≡ sets A (b .first - 1) B
+  block-put {m} {out} e l h o B v =
+      part-stored (b .first - 1) n A out (l ∙ e) h
+      ∙ ap (sets A (b .first - 1))
+      (o ∙ ap (λ (m : ℕ). valuesBy k recording m (highAt p) (highAt q) (b .rule)) e
+      ∙ v (highAt p) (highAt q) (λ e h. P e (omega (arith, f))) (λ e h. Q e (omega (arith, g))))
