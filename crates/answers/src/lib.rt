@@ -1,5 +1,12 @@
-// The numbers of answers for C, as include/tuvenikar.h names them; a refusal goes by its question's number, 1 to 18.
-// No call stands here: what an answer's number is, and that it tells the answer, is in specs/ and proofs/.
+// The numbers of answers for C, as include/tuvenikar.h names them, and answers packed into one number; a refusal goes by its question's
+// number, 1 to 18. That an answer's number tells the answer is in proofs/.
+use assignments::Checked;
+use clause_table::Written;
+use evaluator::Verdict;
+use nodes::Located;
+use search::Answer;
+ghost use mathlib.Core.Path.{_≡_};
+ghost use Rattle.answers.specs.Answers.{packed, packVerdict, packLocated, packWritten, packChecked, packAnswer};
 
 // Evaluation: the formula does not hold; it holds.
 pub const TUV_NO: u32 = 64;
@@ -21,3 +28,66 @@ pub const TUV_SPENT: u32 = 70;
 
 // Where a node's own text is.
 pub const TUV_NODE_TEXT: u32 = 71;
+
+// What, and the place or the value above it.
+fn pack(code: u32, value: u32) -> u64
+    ensures { λ r. ⌜ r ≡ packed code value ⌝ }
+{
+    code as u64 + 4294967296 * (value as u64)
+}
+
+// A node's first byte and length as one value, or the refusal's number and place.
+pub fn pack_located(a: Located) -> u64
+    ensures { λ r. ⌜ r ≡ packLocated a ⌝ }
+{
+    match a {
+        Located::Part { first, length } => pack(
+            TUV_NODE_TEXT,
+            first as u32 + 256 * (length as u32),
+        ),
+        Located::Refused(r) => pack(r.number, r.place),
+    }
+}
+
+// No or yes, or the refusal's number and place.
+pub fn pack_verdict(a: Verdict) -> u64
+    ensures { λ r. ⌜ r ≡ packVerdict a ⌝ }
+{
+    match a {
+        Verdict::No => pack(TUV_NO, 0),
+        Verdict::Yes => pack(TUV_YES, 0),
+        Verdict::Refused(r) => pack(r.number, r.place),
+    }
+}
+
+// Written, or the refusal's number and place.
+pub fn pack_written(a: Written) -> u64
+    ensures { λ r. ⌜ r ≡ packWritten a ⌝ }
+{
+    match a {
+        Written::Done => pack(TUV_WRITTEN, 0),
+        Written::Refused(r) => pack(r.number, r.place),
+    }
+}
+
+// Accepted, or the refusal's number and place.
+pub fn pack_checked(a: Checked) -> u64
+    ensures { λ r. ⌜ r ≡ packChecked a ⌝ }
+{
+    match a {
+        Checked::Accepted => pack(TUV_ACCEPTED, 0),
+        Checked::Refused(r) => pack(r.number, r.place),
+    }
+}
+
+// Found, none or spent with the count, or the refusal's number and place.
+pub fn pack_answer(a: Answer) -> u64
+    ensures { λ r. ⌜ r ≡ packAnswer a ⌝ }
+{
+    match a {
+        Answer::Found(n) => pack(TUV_FOUND, n),
+        Answer::None(n) => pack(TUV_NONE, n),
+        Answer::Spent(n) => pack(TUV_SPENT, n),
+        Answer::Refused(r) => pack(r.number, r.place),
+    }
+}

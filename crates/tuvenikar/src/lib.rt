@@ -1,19 +1,6 @@
 // The calls for C, on numbers and slices. Each answers with one number: its low half says what, its high half the place or the
 // value; include/tuvenikar.h has the same for C.
-use answers::TUV_ACCEPTED;
-use answers::TUV_FOUND;
-use answers::TUV_NO;
-use answers::TUV_NODE_TEXT;
-use answers::TUV_NONE;
-use answers::TUV_SPENT;
-use answers::TUV_WRITTEN;
-use answers::TUV_YES;
-use assignments::Checked;
 use clause_table::Sizes;
-use clause_table::Written;
-use evaluator::Verdict;
-use nodes::Located;
-use search::Answer;
 ghost use mathlib.Core.Path.{_≡_};
 ghost use mathlib.Core.List.{[], _∷_};
 ghost use Rattle.evaluator.specs.Evaluation.{evaluated};
@@ -23,77 +10,14 @@ ghost use Rattle.assignments.specs.Calls.{extended, proposed};
 ghost use Rattle.file_numbers.specs.File.{sizesBy};
 ghost use Rattle.clause_file.specs.Calls.{fileWritten, fileRead};
 ghost use Rattle.search.specs.Search.{lentOf, searched, Unchanged};
-ghost use Rattle.answers.specs.Answers.{packed, packVerdict, packLocated, packWritten, packChecked, packAnswer};
-
-// What, and the place or the value above it.
-fn pack(code: u32, value: u32) -> u64
-    ensures { λ r. ⌜ r ≡ packed code value ⌝ }
-{
-    code as u64 + 4294967296 * (value as u64)
-}
-
-// A node's first byte and length as one value, or the refusal's number and place.
-fn pack_located(a: Located) -> u64
-    ensures { λ r. ⌜ r ≡ packLocated a ⌝ }
-{
-    match a {
-        Located::Part { first, length } => pack(
-            TUV_NODE_TEXT,
-            first as u32 + 256 * (length as u32),
-        ),
-        Located::Refused(r) => pack(r.number, r.place),
-    }
-}
-
-// No or yes, or the refusal's number and place.
-fn pack_verdict(a: Verdict) -> u64
-    ensures { λ r. ⌜ r ≡ packVerdict a ⌝ }
-{
-    match a {
-        Verdict::No => pack(TUV_NO, 0),
-        Verdict::Yes => pack(TUV_YES, 0),
-        Verdict::Refused(r) => pack(r.number, r.place),
-    }
-}
-
-// Written, or the refusal's number and place.
-fn pack_written(a: Written) -> u64
-    ensures { λ r. ⌜ r ≡ packWritten a ⌝ }
-{
-    match a {
-        Written::Done => pack(TUV_WRITTEN, 0),
-        Written::Refused(r) => pack(r.number, r.place),
-    }
-}
-
-// Accepted, or the refusal's number and place.
-fn pack_checked(a: Checked) -> u64
-    ensures { λ r. ⌜ r ≡ packChecked a ⌝ }
-{
-    match a {
-        Checked::Accepted => pack(TUV_ACCEPTED, 0),
-        Checked::Refused(r) => pack(r.number, r.place),
-    }
-}
-
-// Found, none or spent with the count, or the refusal's number and place.
-fn pack_answer(a: Answer) -> u64
-    ensures { λ r. ⌜ r ≡ packAnswer a ⌝ }
-{
-    match a {
-        Answer::Found(n) => pack(TUV_FOUND, n),
-        Answer::None(n) => pack(TUV_NONE, n),
-        Answer::Spent(n) => pack(TUV_SPENT, n),
-        Answer::Refused(r) => pack(r.number, r.place),
-    }
-}
+ghost use Rattle.answers.specs.Answers.{packVerdict, packLocated, packWritten, packChecked, packAnswer};
 
 // Whether the recording satisfies the formula on [i, j]: questions 1 to 7 and 9 to 11.
 #[no_mangle]
 pub extern "C" fn tuv_evaluate(text: &[u8], c: u32, k: u32, i: u32, j: u32, recording: &[u8]) -> u64
     ensures { λ r. ⌜ r ≡ packVerdict (evaluated c k i j (now (text .entry)) (now (recording .entry))) ⌝ }
 {
-    pack_verdict(evaluator::evaluate(text, c, k, i, j, recording))
+    answers::pack_verdict(evaluator::evaluate(text, c, k, i, j, recording))
 }
 
 // Where a node's own text is in the lent text: questions 1 to 8.
@@ -101,7 +25,7 @@ pub extern "C" fn tuv_evaluate(text: &[u8], c: u32, k: u32, i: u32, j: u32, reco
 pub extern "C" fn tuv_node_text(text: &[u8], c: u32, k: u32, node: u32) -> u64
     ensures { λ r. ⌜ r ≡ packLocated (nodePlaceOf c k node (now (text .entry))) ⌝ }
 {
-    pack_located(nodes::node_place(text, c, k, node))
+    answers::pack_located(nodes::node_place(text, c, k, node))
 }
 
 // The clause table, in two parallel arrays, and its five sizes: questions 1 to 7 and 18.
@@ -119,7 +43,7 @@ pub extern "C" fn tuv_table(
     ensures { λ r. ⌜ now (variables .exit) ≡ tabled c k (now (text .entry)) (now (sizes .entry)) (now (variables .entry)) (now (marks .entry)) .variables ⌝ }
     ensures { λ r. ⌜ now (marks .exit) ≡ tabled c k (now (text .entry)) (now (sizes .entry)) (now (variables .entry)) (now (marks .entry)) .marks ⌝ }
 {
-    pack_written(clause_table::table(text, c, k, sizes, variables, marks))
+    answers::pack_written(clause_table::table(text, c, k, sizes, variables, marks))
 }
 
 // The assignment that extends a recording and meets all clauses but the last: questions 1 to 7, 10, 11 and 18.
@@ -134,7 +58,7 @@ pub extern "C" fn tuv_extend(
     ensures { λ r. ⌜ r ≡ packWritten (extended c k (now (text .entry)) (now (recording .entry)) (now (assignment .entry)) .answer) ⌝ }
     ensures { λ r. ⌜ now (assignment .exit) ≡ extended c k (now (text .entry)) (now (recording .entry)) (now (assignment .entry)) .assignment ⌝ }
 {
-    pack_written(extension::extend(text, c, k, recording, assignment))
+    answers::pack_written(extension::extend(text, c, k, recording, assignment))
 }
 
 // Whether a proposed assignment meets every clause, and the recording read from it: questions 1 to 7, 12 to 14 and 18.
@@ -149,7 +73,7 @@ pub extern "C" fn tuv_check(
     ensures { λ r. ⌜ r ≡ packChecked (proposed c k (now (text .entry)) (now (assignment .entry)) (now (recording .entry)) .answer) ⌝ }
     ensures { λ r. ⌜ now (recording .exit) ≡ proposed c k (now (text .entry)) (now (assignment .entry)) (now (recording .entry)) .recording ⌝ }
 {
-    pack_checked(proposal::check(text, c, k, assignment, recording))
+    answers::pack_checked(proposal::check(text, c, k, assignment, recording))
 }
 
 // The first recording that satisfies the formula, within a limit of tries: questions 1 to 7 and 18.
@@ -170,7 +94,7 @@ pub extern "C" fn tuv_search(
     ensures { λ r. ⌜ Unchanged (searched c k (now (text .entry)) limit (lentOf (now (variables .entry)) (now (marks .entry)) (now (values .entry)) (now (trail .entry)) (now (recording .entry))) (now (recording .entry)) .answer) (now (variables .entry)) (now (variables .exit)) × Unchanged (searched c k (now (text .entry)) limit (lentOf (now (variables .entry)) (now (marks .entry)) (now (values .entry)) (now (trail .entry)) (now (recording .entry))) (now (recording .entry)) .answer) (now (marks .entry)) (now (marks .exit)) ⌝ }
     ensures { λ r. ⌜ Unchanged (searched c k (now (text .entry)) limit (lentOf (now (variables .entry)) (now (marks .entry)) (now (values .entry)) (now (trail .entry)) (now (recording .entry))) (now (recording .entry)) .answer) (now (values .entry)) (now (values .exit)) × Unchanged (searched c k (now (text .entry)) limit (lentOf (now (variables .entry)) (now (marks .entry)) (now (values .entry)) (now (trail .entry)) (now (recording .entry))) (now (recording .entry)) .answer) (now (trail .entry)) (now (trail .exit)) ⌝ }
 {
-    pack_answer(search::search(
+    answers::pack_answer(search::search(
         text,
         c,
         k,
@@ -205,7 +129,7 @@ pub extern "C" fn tuv_write_file(
         clauses: m,
         literals: l,
     };
-    pack_written(clause_file::write(s, variables, marks, file))
+    answers::pack_written(clause_file::write(s, variables, marks, file))
 }
 
 // A file's five sizes and two arrays: questions 15 to 18.
@@ -221,5 +145,5 @@ pub extern "C" fn tuv_read_file(
     ensures { λ r. ⌜ now (variables .exit) ≡ fileRead (now (file .entry)) (now (sizes .entry)) (now (variables .entry)) (now (marks .entry)) .variables ⌝ }
     ensures { λ r. ⌜ now (marks .exit) ≡ fileRead (now (file .entry)) (now (sizes .entry)) (now (variables .entry)) (now (marks .entry)) .marks ⌝ }
 {
-    pack_written(clause_file::read(file, sizes, variables, marks))
+    answers::pack_written(clause_file::read(file, sizes, variables, marks))
 }

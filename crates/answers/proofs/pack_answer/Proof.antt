@@ -1,10 +1,10 @@
 -- Each case packs the numbers that the definition gives it:
 -- the match tells which case it is.
 use Rattle.answers.specs.Answers.{packAnswer}
 use mathlib.Core.Path.{sym, ap, _∙_}
 use borrow.Author.Needs.{needs}
-use Rattle.tuvenikar.proofs.pack_answer.Statement.{statement}
-use Rattle.tuvenikar.proofs.pack_answer.Tie as tie
+use Rattle.answers.proofs.pack_answer.Statement.{statement}
+use Rattle.answers.proofs.pack_answer.Tie as tie
 
 enum-known-a : tie.Need-enum-known-a
 enum-known-a c = search needs

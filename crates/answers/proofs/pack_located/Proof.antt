@@ -1,10 +1,10 @@
 -- Each case packs the numbers that the definition gives it:
 -- a node's first byte and length fit a byte, so the value fits its half.
 use mathlib.Core.Path.{sym, ap, _∙_}
 use Rattle.answers.specs.Answers.{packLocated}
 use borrow.Author.Needs.{needs}
-use Rattle.tuvenikar.proofs.pack_located.Statement.{statement}
-use Rattle.tuvenikar.proofs.pack_located.Tie as tie
+use Rattle.answers.proofs.pack_located.Statement.{statement}
+use Rattle.answers.proofs.pack_located.Tie as tie
 
 enum-known-a : tie.Need-enum-known-a
 enum-known-a c = search needs
