@@ -1,4 +1,5 @@
--- A gate's clauses name its variable and its inputs, no others; what holds of the clauses of each definition holds of all.
+-- A gate's clauses name its variable and its inputs, no others.
+-- What holds of the clauses of each definition holds of all.
 use mathlib.Core.Path.{_≡_, refl}
 use mathlib.Core.Logic.{_⊎_, inl, inr, ⊎-elim}
 use mathlib.Core.List.{List, [], _∷_, _++_, map, flatMap}

@@ -1,4 +1,5 @@
--- A line's parts by how many there are, and what names no variable of another node: neither its block's, nor its parts' truth.
+-- A line's parts by how many there are.
+-- And what names no variable of another node: neither its block's, nor its parts' truth.
 use mathlib.Core.Path.{_≡_, refl, sym, ap, _∙_, subst}
 use mathlib.Core.Logic.{_⊎_, inl, inr, ⊎-elim}
 use mathlib.Core.Bool.{Bool, true, false, not, _&&_, false≢true}

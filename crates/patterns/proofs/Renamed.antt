@@ -1,4 +1,5 @@
 -- A set closed under renamed clauses, read through the new names, is closed under the clauses as they were, and the other way round.
+-- Both are shown clause by clause, member by member.
 use mathlib.Core.List.{List, [], _∷_, map, flatMap}
 use Prim.Native.Nat.{ℕ}
 use Rattle.interval.specs.Listing.{All}

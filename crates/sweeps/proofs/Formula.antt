@@ -1,4 +1,5 @@
 -- The table of a formula's node table is the formula's.
+-- Its rows have the definitions of its nodes, in their order.
 use mathlib.Core.Path.{_≡_, refl, sym, ap, ap₂, _∙_}
 use mathlib.Core.Bool.{true}
 use mathlib.Core.List.{List, _++_, flatMap}

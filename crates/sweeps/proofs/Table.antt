@@ -1,4 +1,5 @@
 -- The nodes' clauses and the root's make the table.
+-- The root stands behind the last node.
 use mathlib.Core.Path.{_≡_, ap}
 use mathlib.Core.Bool.{true, false}
 use mathlib.Core.List.{List}

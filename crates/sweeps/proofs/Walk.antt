@@ -1,4 +1,5 @@
 -- The definitions of a block stand in the order of places, so the walk visits the clauses of the definition in place x at its turn x.
+-- By its gate it is one visit.
 use mathlib.Core.Path.{_≡_, refl, sym, ap, _∙_, subst}
 use mathlib.Core.List.{List, [], _∷_, _++_, flatMap}
 use Prim.Native.Nat.{ℕ, _+_, _≤_}

@@ -1,4 +1,5 @@
--- The long clause: its literals that are not opposed are counted up to two. With two none is forced, with one that one is, with none it clashes.
+-- The long clause: its literals that are not opposed are counted up to two.
+-- With two none is forced, with one that one is, with none it clashes.
 use mathlib.Core.Path.{_≡_, refl, sym, ap, ap₂, _∙_, subst}
 use mathlib.Core.Bool.{true, false, true≢false, false≢true}
 use mathlib.Core.List.{List, [], _∷_, _++_, append-nil, map, map-append, flatMap}

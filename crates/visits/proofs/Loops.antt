@@ -1,4 +1,5 @@
 -- Visits one after another: of the clauses f 0, .., f (n - 1) the first x lists are visited.
+-- A turn visits one list more; a clash ends the loop.
 use mathlib.Core.Path.{_≡_, refl, sym, ap, _∙_, subst}
 use mathlib.Core.Logic.{_⊎_, inl, inr, ⊎-elim}
 use mathlib.Core.Bool.{Bool, true, false}

@@ -1,4 +1,5 @@
--- A place inside a block is small, since no block is large; the gate there is that of its definition, whose clauses a visit goes through.
+-- A place inside a block is small, since no block is large.
+-- The gate there is that of its definition, whose clauses a visit goes through.
 use mathlib.Core.Path.{_≡_, refl, sym, subst}
 use mathlib.Core.List.{List}
 use Prim.Native.Nat.{ℕ, _≤_, _<_}

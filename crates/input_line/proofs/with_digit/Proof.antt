@@ -1,4 +1,5 @@
 -- `with_digit` takes one digit more: the two branches are the definition's.
+-- What has passed the limit is capped one above it.
 use mathlib.Core.Path.{_≡_, ap}
 use Prim.Native.Nat.{ℕ, suc, _+_, _*_, _≤_, _<_}
 use native.Mathlib.Omega.{arith}

@@ -1,4 +1,5 @@
 -- The three places are those of the interval, of the one a step longer, and of that one a level up (After.antt).
+-- Visited one after another they are all that the definition lists, and a clash ends the list early.
 use borrow.Author.Needs.{needs}
 use native.Mathlib.Omega.{arith}
 use Rattle.visits.proofs.Parts.{visited-named, visited-stop, visited-then}

@@ -1,4 +1,5 @@
 -- At turn i the intervals that start before i are visited, on all their levels.
+-- After the last turn all that end a step after the instant are.
 use mathlib.Core.Path.{_≡_, refl, _∙_}
 use mathlib.Core.Bool.{false}
 use Prim.Native.Nat.{_+_, _-_, _≤_}

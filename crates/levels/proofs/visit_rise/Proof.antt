@@ -1,4 +1,5 @@
 -- On one level the gate is that of `[S]`; on those of a duration, at turn e, that of level a + e (Rises.antt).
+-- The next level stands I places further, so one addition a turn finds it.
 use mathlib.Core.Path.{_≡_, refl, _∙_}
 use mathlib.Core.Bool.{false}
 use Prim.Native.Nat.{_-_, _≤_}

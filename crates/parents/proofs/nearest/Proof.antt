@@ -1,4 +1,5 @@
 -- Every row between the loop's and z ends before z; the root's rows do not, so the loop ends at a row that z is among.
+-- That row is the nearest.
 use mathlib.Core.Path.{_≡_, sym, ap, subst}
 use mathlib.Core.Logic.{by-cases}
 use Prim.Native.Nat.{ℕ, _+_, _≤_, _<_}

@@ -1,4 +1,5 @@
 -- The four values are those of the set, so the entry of the table is what is forced first (Steps.antt).
+-- The number there says which variable, and with which sign.
 use mathlib.Core.Path.{refl}
 use native.Mathlib.Omega.{arith}
 use Prim.Native.Nat.{_-_}

@@ -1,4 +1,5 @@
 -- The number is twice the variable, and one more where it is plain.
+-- So two numbers that follow each other are one variable.
 use mathlib.Core.Path.{_≡_, refl}
 use mathlib.Core.Bool.{Bool, true, false}
 use Prim.Native.Nat.{_≤_}

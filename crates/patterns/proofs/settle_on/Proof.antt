@@ -1,4 +1,5 @@
 -- Each turn adds a literal of the closure that was not there, until none is forced or one is opposed (Steps.antt).
+-- There are no more variables than values, so it ends.
 use mathlib.Core.Path.{_≡_, refl, sym, _∙_, subst}
 use Prim.Native.Nat.{_-_}
 use native.Mathlib.Omega.{arith}

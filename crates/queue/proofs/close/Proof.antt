@@ -1,4 +1,5 @@
--- After every literal taken what is held has the closure that it had at the start, and what is due is due since the literals still to take.
+-- After every literal taken what is held has the closure that it had at the start,
+-- and what is due is due since the literals still to take.
 use mathlib.Core.Path.{_≡_, refl, _∙_}
 use Prim.Native.Nat.{_-_, _<_}
 use native.Mathlib.Omega.{arith}

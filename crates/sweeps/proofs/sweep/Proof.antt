@@ -1,4 +1,5 @@
 -- The nodes, then the root, whose clause is that of a constant.
+-- Together they are the table.
 use borrow.Author.Needs.{needs}
 use Rattle.patterns.proofs.Steps.{there}
 use Rattle.sweeps.proofs.Table.{nodes-clash, nodes-root, seated}

@@ -1,4 +1,5 @@
 -- At turn x the position is that of place x, so the gate is that of the definition in place x, whose clauses the turn visits (Walk.antt).
+-- After the last turn all of the block is visited.
 use mathlib.Core.Path.{_≡_, refl, _∙_}
 use mathlib.Core.Bool.{false}
 use Prim.Native.Nat.{_-_, _≤_}

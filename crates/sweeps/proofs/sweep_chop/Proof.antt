@@ -1,4 +1,5 @@
 -- The triples' block, then the intervals' (Walk.antt).
+-- The intervals' gates go by the triples, which stand behind them.
 use borrow.Author.Needs.{needs}
 use Rattle.blocks.specs.Blocks.{definedBy}
 use Rattle.node_clauses.proofs.Nodes.{halves, triples-bounded, intervals-bounded}

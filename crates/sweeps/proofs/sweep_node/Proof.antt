@@ -1,4 +1,5 @@
 -- A chop has two blocks, any other node one (Walk.antt).
+-- Which it is, the code has asked.
 use borrow.Author.Needs.{needs}
 use Rattle.visits.proofs.Parts.{visited-named}
 use Rattle.sweeps.proofs.Walk.{node-clauses, node-mentioned}

@@ -1,4 +1,5 @@
 -- Node after node, each by its row's block.
+-- The clauses of the first x nodes are visited after x turns.
 use mathlib.Core.Path.{_≡_, refl, _∙_}
 use mathlib.Core.Bool.{false}
 use Prim.Native.Nat.{_-_, _≤_}

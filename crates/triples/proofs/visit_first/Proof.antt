@@ -1,4 +1,5 @@
 -- At turn e the code has the variables of the triple (i, m, m + e) and of its two parts (Cuts.antt).
+-- The next triple of the same start and cut stands after all of this length.
 use mathlib.Core.Path.{_≡_, refl, _∙_}
 use mathlib.Core.Bool.{false}
 use Prim.Native.Nat.{_+_, _-_, _≤_}

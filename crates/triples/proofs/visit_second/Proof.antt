@@ -1,4 +1,5 @@
 -- At turn i the code has the variables of the triple (i, m, j) and of its two parts (Cuts.antt).
+-- The next start's triple stands after all that start at i.
 use mathlib.Core.Path.{_≡_, refl, _∙_}
 use mathlib.Core.Bool.{false}
 use Prim.Native.Nat.{_+_, _-_, _≤_}

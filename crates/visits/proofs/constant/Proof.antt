@@ -1,4 +1,5 @@
 -- By the test.
+-- Its two ways are the two constants.
 use mathlib.Core.Path.{refl}
 use mathlib.Core.Logic.{inl, inr}
 use Rattle.visits.proofs.constant.Statement.{statement}

@@ -1,4 +1,5 @@
 -- By the test.
+-- A literal that is opposed is not free.
 use mathlib.Core.Path.{refl}
 use mathlib.Core.Logic.{inl, inr}
 use Rattle.visits.proofs.one_free.Statement.{statement}

@@ -1,4 +1,5 @@
 -- Each gate but one is a pattern over its variables; the other has clauses one after another (Loops.antt).
+-- What a pattern settles is visited.
 use mathlib.Core.Path.{refl, subst}
 use native.Mathlib.Omega.{arith}
 use Rattle.gates.specs.Within.{Within}

@@ -1,4 +1,5 @@
 -- The clauses of two literals, then the long one (Loops.antt).
+-- These are all of the gate's.
 use borrow.Author.Needs.{needs}
 use Rattle.patterns.proofs.Steps.{there}
 use Rattle.visits.proofs.Parts.{visited-named, visited-stop, visited-then}

@@ -1,4 +1,5 @@
 -- The clauses of two literals, one after another (Loops.antt).
+-- Each is the eighth pattern.
 use mathlib.Core.Path.{_≡_, refl, _∙_}
 use mathlib.Core.Bool.{false}
 use Prim.Native.Nat.{_-_, _≤_}

@@ -1,4 +1,5 @@
 -- The literals of the clause that are not opposed are counted up to two (Long.antt).
+-- A second one ends the count, since nothing is forced then.
 use mathlib.Core.Path.{sym, _∙_}
 use mathlib.Core.Logic.{⊎-elim, inl, inr}
 use Prim.Native.Nat.{_-_, _≤_}

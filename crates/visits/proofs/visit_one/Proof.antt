@@ -1,4 +1,5 @@
 -- (v −w), then the long clause (Loops.antt).
+-- No other clause of the gate names w.
 use borrow.Author.Needs.{needs}
 use native.Mathlib.Omega.{arith}
 use Rattle.patterns.proofs.Steps.{there}

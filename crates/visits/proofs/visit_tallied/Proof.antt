@@ -1,4 +1,5 @@
 -- With none free it clashes, with two or more nothing is forced, and the only free one is added (Long.antt).
+-- Which literal that is, the count has kept.
 use borrow.Author.Needs.{needs}
 use Rattle.visits.proofs.Long.{tallied-clash, tallied-more, tallied-one}
 use Rattle.visits.proofs.visit_tallied.Statement.{statement}

@@ -1,4 +1,5 @@
 -- The gate is that of the definition in place x, whose clauses the visit goes through (Places.antt).
+-- Before a chop's interval stand the triples of those before it.
 use borrow.Author.Needs.{needs}
 use native.Mathlib.Omega.{arith}
 use Rattle.visits.proofs.Parts.{visited-named}

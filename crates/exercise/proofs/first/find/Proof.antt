@@ -1,13 +1,12 @@
+-- The arrays are as long as they were made, by a law: the prover needs seconds to count their places.
+-- All else the search closes.
 use mathlib.Core.Path.{sym}
 use Prim.Native.Nat.{ℕ}
 use lib.ListN.{length-replicate}
 use borrow.Author.Needs.{needs}
 use Rattle.exercise.proofs.first.find.Statement.{statement}
 use Rattle.exercise.proofs.first.find.Tie as tie
-use Rattle.exercise.proofs.first.find.Reads as reads
-use Rattle.exercise.proofs.first.find.Lts as lts
 
--- As many places as the array was made with, by a law: to count them takes the prover seconds.
 slice-aggregate-search : tie.Need-slice-aggregate-search
 slice-aggregate-search c = sym (length-replicate {A = ℕ} 524288 0)
 
