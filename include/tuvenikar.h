@@ -186,8 +186,8 @@ uint64_t tuv_check(const uint8_t *text, size_t text_length, uint32_t c, uint32_t
  *          For `(#a>=1|#b>=1)`, c 2, k 1: TUV_FOUND after 1 try, a low, and recording 2; with limit 0 TUV_SPENT.
  * Answers: TUV_FOUND, TUV_NONE, TUV_SPENT, a refusal 1 to 7 or 18. TUV_NONE is certain, whatever the limit was; with a higher
  *          limit the same tries are made, and more only after TUV_SPENT.
- * Stack:   50,096 bytes at most (measured: 255 `(`, a text that is refused); 16,304 on the deepest text that is accepted, 63 `!`
- *          and `T`; 6,160 for 256 tries one below another, which need no more than one.
+ * Stack:   50,368 bytes at most (measured: 255 `(`, a text that is refused); 16,576 on the deepest text that is accepted, 63 `!`
+ *          and `T`; 6,192 for 256 tries one below another, which need no more than one.
  */
 uint64_t tuv_search(const uint8_t *text, size_t text_length, uint32_t c, uint32_t k, uint32_t limit, uint32_t *variables,
                     size_t variables_length, uint8_t *marks, size_t marks_length, uint8_t *values, size_t values_length,
