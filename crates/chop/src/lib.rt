@@ -6,6 +6,7 @@ ghost use Prim.Native.Nat.{ℕ, suc, _-_, _≤_, _<_};
 ghost use lib.Bits.{bitAnd, bitOr, bitXor};
 ghost use lib.Dec.{eqb};
 ghost use lib.ListN.{length, getD};
+ghost use Rattle.moments.specs.Moments.{old, new};
 ghost use Rattle.interval.specs.Limits.{maxSteps};
 ghost use Rattle.interval.specs.Places.{countOf};
 ghost use Rattle.interval.specs.declared.Interval.{Interval};
@@ -16,7 +17,7 @@ ghost use Rattle.chop.specs.Rows.{NextRows, Within};
 // Each byte of `from` onto that of `row`.
 fn or_onto(row: &mut [u8], from: &[u8])
     requires { ⌜ length (now row) ≡ length (now from) ⌝ }
-    ensures { λ r. ⌜ ((d : ℕ) → d < length (now (row .entry)) → getD (now (row .exit)) d 0 ≡ bitOr (getD (now (row .entry)) d 0) (getD (now (from .entry)) d 0)) ⌝ }
+    ensures { λ r. ⌜ ((d : ℕ) → d < length (old row) → getD (new row) d 0 ≡ bitOr (getD (old row) d 0) (getD (old from) d 0)) ⌝ }
 {
     for d in 0..from.len() {
         row[d] |= from[d];
@@ -26,7 +27,7 @@ fn or_onto(row: &mut [u8], from: &[u8])
 // What a row has that another lacks: 0 for nothing.
 fn beyond(row: &[u8], other: &[u8]) -> u8
     requires { ⌜ length (now row) ≡ length (now other) ⌝ }
-    ensures { λ r. ⌜ (r ≡ 0 → (d : ℕ) → d < length (now (row .entry)) → bitAnd (getD (now (row .entry)) d 0) (bitXor (getD (now (other .entry)) d 0) 1) ≡ 0) ⌝ }
+    ensures { λ r. ⌜ (r ≡ 0 → (d : ℕ) → d < length (old row) → bitAnd (getD (old row) d 0) (bitXor (getD (old other) d 0) 1) ≡ 0) ⌝ }
 {
     let mut more: u8 = 0;
     for d in 0..row.len() {
@@ -45,7 +46,7 @@ fn next_row(more: u8, m: usize, later: usize) -> usize
 // For each row of Q's table a later one, such that those between are within it: k + 1 where all that follow are.
 fn next_rows(q: &[u8], k: usize) -> [usize; Interval::MAX_ENDS]
     requires { ⌜ (k ≤ maxSteps) × (countOf k ≤ length (now q)) ⌝ }
-    ensures { λ r. ⌜ NextRows k r × ((g : Interval → Bool) → TableOf k g (now (q .entry)) → Within k g r) ⌝ }
+    ensures { λ r. ⌜ NextRows k r × ((g : Interval → Bool) → TableOf k g (old q) → Within k g r) ⌝ }
 {
     let mut nexts = [k + 1; Interval::MAX_ENDS];
     let mut m = k;
@@ -74,7 +75,7 @@ fn chop_row(
 )
     requires { ⌜ (k ≤ maxSteps) × (i ≤ k) × (start ≡ startOf k i) × (length (now row) ≡ suc k - i) × ((y : ℕ) → y < length (now row) → getD (now row) y 0 ≡ 0) ⌝ }
     requires { ⌜ (countOf k ≤ length (now p)) × (countOf k ≤ length (now q)) × NextRows k (now nexts) ⌝ }
-    ensures { λ r. ⌜ ((f g : Interval → Bool) → TableOf k f (now (p .entry)) → TableOf k g (now (q .entry)) → Within k g (now (nexts .entry)) → RowOf i (chops f g) (now (row .exit))) ⌝ }
+    ensures { λ r. ⌜ ((f g : Interval → Bool) → TableOf k f (old p) → TableOf k g (old q) → Within k g (old nexts) → RowOf i (chops f g) (new row)) ⌝ }
 {
     let mut d = 0;
     while d < row.len() {
@@ -97,7 +98,7 @@ pub fn chop_table(
     k: usize,
 ) -> [u8; Interval::MAX_COUNT]
     requires { ⌜ k ≤ maxSteps ⌝ }
-    ensures { λ r. ⌜ ((f g : Interval → Bool) → TableOf k f (now (p .entry)) → TableOf k g (now (q .entry)) → TableOf k (chops f g) r) ⌝ }
+    ensures { λ r. ⌜ ((f g : Interval → Bool) → TableOf k f (old p) → TableOf k g (old q) → TableOf k (chops f g) r) ⌝ }
 {
     let nexts = next_rows(q, k);
     let mut t = table::all_of(0);

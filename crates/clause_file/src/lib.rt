@@ -8,6 +8,7 @@ ghost use mathlib.Core.Path.{_≡_};
 ghost use Prim.Native.Nat.{_≤_};
 ghost use lib.ListN.{length};
 ghost use lib.Seq.{sets};
+ghost use Rattle.moments.specs.Moments.{old, new};
 ghost use Rattle.clause_table.specs.Table.{fiveOf};
 ghost use Rattle.file_numbers.specs.File.{fileOf};
 ghost use Rattle.clause_file.specs.Calls.{fileWritten, fileRead};
@@ -15,7 +16,7 @@ ghost use Rattle.clause_file.specs.Calls.{fileWritten, fileRead};
 // The bytes of a file, from the first place on.
 fn put_file(file: &mut [u8], s: Sizes, variables: &[u32], marks: &[u8])
     requires { ⌜ length (fileOf (fiveOf s) (now variables) (now marks)) ≤ length (now file) ⌝ }
-    ensures { λ _. ⌜ now (file .exit) ≡ sets (now (file .entry)) 0 (fileOf (fiveOf s) (now (variables .entry)) (now (marks .entry))) ⌝ }
+    ensures { λ _. ⌜ new file ≡ sets (old file) 0 (fileOf (fiveOf s) (old variables) (old marks)) ⌝ }
 {
     let sizes = [s.channels, s.steps, s.variables, s.clauses, s.literals];
     let at = file_numbers::put_numbers(file, 0, &sizes);
@@ -25,7 +26,7 @@ fn put_file(file: &mut [u8], s: Sizes, variables: &[u32], marks: &[u8])
 
 // Writes a table's file: questions 15 to 18.
 pub fn write(s: Sizes, variables: &[u32], marks: &[u8], file: &mut [u8]) -> Written
-    ensures { λ r. ⌜ record { answer = r; file = now (file .exit) } ≡ fileWritten s (now (variables .entry)) (now (marks .entry)) (now (file .entry)) ⌝ }
+    ensures { λ r. ⌜ record { answer = r; file = new file } ≡ fileWritten s (old variables) (old marks) (old file) ⌝ }
 {
     if let Reply::No(r) = questions::ask_arrays(s, variables, marks) {
         return Written::Refused(r);
@@ -39,7 +40,7 @@ pub fn write(s: Sizes, variables: &[u32], marks: &[u8], file: &mut [u8]) -> Writ
 
 // Reads a file into a table: questions 15 to 18.
 pub fn read(file: &[u8], sizes: &mut [u32], variables: &mut [u32], marks: &mut [u8]) -> Written
-    ensures { λ r. ⌜ record { answer = r; sizes = now (sizes .exit); variables = now (variables .exit); marks = now (marks .exit) } ≡ fileRead (now (file .entry)) (now (sizes .entry)) (now (variables .entry)) (now (marks .entry)) ⌝ }
+    ensures { λ r. ⌜ record { answer = r; sizes = new sizes; variables = new variables; marks = new marks } ≡ fileRead (old file) (old sizes) (old variables) (old marks) ⌝ }
 {
     if let Reply::No(r) = questions::ask_file(file) {
         return Written::Refused(r);

@@ -5,6 +5,7 @@ use refusal::Reply;
 ghost use mathlib.Core.Path.{_≡_};
 ghost use mathlib.Core.List.{List};
 ghost use Prim.Native.Nat.{ℕ};
+ghost use Rattle.moments.specs.Moments.{old};
 ghost use Rattle.refusal.specs.Asked.{asked};
 ghost use Rattle.file_numbers.specs.File.{variablesAt};
 ghost use Rattle.file_numbers.specs.Held.{Held};
@@ -33,7 +34,7 @@ fn is_variable(v: u32, most: u32) -> bool
 
 // Whether each is.
 fn are_variables(variables: &[u32], most: u32) -> bool
-    ensures { λ r. ⌜ r ≡ allPass (isVariable most) (now (variables .entry)) ⌝ }
+    ensures { λ r. ⌜ r ≡ allPass (isVariable most) (old variables) ⌝ }
 {
     for e in 0..variables.len() {
         if !is_variable(variables[e], most) {
@@ -46,7 +47,7 @@ fn are_variables(variables: &[u32], most: u32) -> bool
 // Whether each in a file is.
 fn are_variables_at(file: &[u8], s: Sizes) -> bool
     requires { ⌜ Held (now file) s ⌝ }
-    ensures { λ r. ⌜ r ≡ allPass (isVariable (s .variables)) (variablesAt (now (file .entry))) ⌝ }
+    ensures { λ r. ⌜ r ≡ allPass (isVariable (s .variables)) (variablesAt (old file)) ⌝ }
 {
     for e in 0..s.literals as usize {
         if !is_variable(file_numbers::number_at(file, 20 + 4 * e), s.variables) {
@@ -58,7 +59,7 @@ fn are_variables_at(file: &[u8], s: Sizes) -> bool
 
 // Whether each is a mark.
 fn are_marks(marks: &[u8]) -> bool
-    ensures { λ r. ⌜ r ≡ allPass isMark (now (marks .entry)) ⌝ }
+    ensures { λ r. ⌜ r ≡ allPass isMark (old marks) ⌝ }
 {
     for e in 0..marks.len() {
         if marks[e] > 3 {
@@ -70,7 +71,7 @@ fn are_marks(marks: &[u8]) -> bool
 
 // How many marks close a clause.
 fn closing(marks: &[u8]) -> usize
-    ensures { λ r. ⌜ r ≡ howMany closes (now (marks .entry)) ⌝ }
+    ensures { λ r. ⌜ r ≡ howMany closes (old marks) ⌝ }
 {
     let mut n = 0;
     for e in 0..marks.len() {
@@ -81,7 +82,7 @@ fn closing(marks: &[u8]) -> usize
 
 // Whether the last mark, if there is one, closes a clause.
 fn ends_closed(marks: &[u8]) -> bool
-    ensures { λ r. ⌜ r ≡ endsClosed (now (marks .entry)) ⌝ }
+    ensures { λ r. ⌜ r ≡ endsClosed (old marks) ⌝ }
 {
     let n = marks.len();
     if n == 0 {
@@ -92,7 +93,7 @@ fn ends_closed(marks: &[u8]) -> bool
 
 // Question 16, once it is known whether every variable is from 1 to V.
 fn ask_entries(s: Sizes, fit: bool, marks: &[u8]) -> Reply
-    ensures { λ r. ⌜ ((variables : List ℕ) → fit ≡ allPass (isVariable (s .variables)) variables → r ≡ askEntries s variables (now (marks .entry))) ⌝ }
+    ensures { λ r. ⌜ ((variables : List ℕ) → fit ≡ allPass (isVariable (s .variables)) variables → r ≡ askEntries s variables (old marks)) ⌝ }
 {
     if !in_limits(s) {
         return refusal::ask(16, false);
@@ -105,7 +106,7 @@ fn ask_entries(s: Sizes, fit: bool, marks: &[u8]) -> Reply
 
 // Question 17.
 fn ask_closed(clauses: u32, marks: &[u8]) -> Reply
-    ensures { λ r. ⌜ r ≡ askClosed clauses (now (marks .entry)) ⌝ }
+    ensures { λ r. ⌜ r ≡ askClosed clauses (old marks) ⌝ }
 {
     if clauses as usize == closing(marks) {
         return refusal::ask(17, ends_closed(marks));
@@ -115,7 +116,7 @@ fn ask_closed(clauses: u32, marks: &[u8]) -> Reply
 
 // Both.
 fn ask_table(s: Sizes, fit: bool, marks: &[u8]) -> Reply
-    ensures { λ r. ⌜ ((variables : List ℕ) → fit ≡ allPass (isVariable (s .variables)) variables → r ≡ asked (entryQuestions s variables (now (marks .entry))) Reply.No Reply.Yes) ⌝ }
+    ensures { λ r. ⌜ ((variables : List ℕ) → fit ≡ allPass (isVariable (s .variables)) variables → r ≡ asked (entryQuestions s variables (old marks)) Reply.No Reply.Yes) ⌝ }
 {
     if let Reply::No(r) = ask_entries(s, fit, marks) {
         return Reply::No(r);
@@ -136,7 +137,7 @@ fn ask_lengths(literals: u32, variables: usize, marks: usize) -> Reply
 
 // Questions 15 to 17 of the writer.
 pub fn ask_arrays(s: Sizes, variables: &[u32], marks: &[u8]) -> Reply
-    ensures { λ r. ⌜ r ≡ asked (arrayQuestions s (now (variables .entry)) (now (marks .entry))) Reply.No Reply.Yes ⌝ }
+    ensures { λ r. ⌜ r ≡ asked (arrayQuestions s (old variables) (old marks)) Reply.No Reply.Yes ⌝ }
 {
     if let Reply::No(r) = ask_lengths(s.literals, variables.len(), marks.len()) {
         return Reply::No(r);
@@ -146,7 +147,7 @@ pub fn ask_arrays(s: Sizes, variables: &[u32], marks: &[u8]) -> Reply
 
 // Question 15 of the reader.
 fn ask_length(file: &[u8]) -> Reply
-    ensures { λ r. ⌜ r ≡ askFile (now (file .entry)) ⌝ }
+    ensures { λ r. ⌜ r ≡ askFile (old file) ⌝ }
 {
     if file.len() >= 20 {
         let long = file_numbers::file_length(file_numbers::number_at(file, 16));
@@ -157,7 +158,7 @@ fn ask_length(file: &[u8]) -> Reply
 
 // Questions 15 to 17 of the reader.
 pub fn ask_file(file: &[u8]) -> Reply
-    ensures { λ r. ⌜ r ≡ asked (fileQuestions (now (file .entry))) Reply.No Reply.Yes ⌝ }
+    ensures { λ r. ⌜ r ≡ asked (fileQuestions (old file)) Reply.No Reply.Yes ⌝ }
 {
     if let Reply::No(r) = ask_length(file) {
         return Reply::No(r);

@@ -9,6 +9,7 @@ ghost use mathlib.Core.Path.{_≡_};
 ghost use mathlib.Core.List.{map};
 ghost use Prim.Native.Nat.{ℕ, _+_, _≤_, _<_};
 ghost use lib.ListN.{length, getD};
+ghost use Rattle.moments.specs.Moments.{old, new};
 ghost use Rattle.interval.specs.Listing.{rows};
 ghost use Rattle.grammar.specs.Limits.{maxNodes, maxChannels};
 ghost use Rattle.interval.specs.Limits.{maxSteps};
@@ -39,7 +40,7 @@ pub struct Sizes {
 
 // The number at a place, and 0 past the end.
 pub fn number_at(numbers: &[u32], at: usize) -> u32
-    ensures { λ r. ⌜ r ≡ getD (now (numbers .entry)) at 0 ⌝ }
+    ensures { λ r. ⌜ r ≡ getD (old numbers) at 0 ⌝ }
 {
     if at < numbers.len() { numbers[at] } else { 0 }
 }
@@ -53,7 +54,7 @@ pub fn seat<'a>(
     y: usize,
 ) -> u32
     requires { ⌜ (k ≤ maxSteps) × Low (now firsts) ⌝ }
-    ensures { λ r. ⌜ (r ≡ seatBy (now (kinds .entry)) (now (numbers .entry)) (now (firsts .entry)) k y) × (r < bound) ⌝ }
+    ensures { λ r. ⌜ (r ≡ seatBy (old kinds) (old numbers) (old firsts) k y) × (r < bound) ⌝ }
 {
     let first = number_at(firsts, y);
     if rows::byte_at(kinds, y) == 23 {
@@ -72,7 +73,7 @@ pub fn put_seats<'a>(
     seats: &mut [u32; MAX_NODES],
 )
     requires { ⌜ (k ≤ maxSteps) × Low (now firsts) × (length (now seats) ≡ maxNodes) ⌝ }
-    ensures { λ _. ⌜ Seated (now (kinds .entry)) (now (numbers .entry)) (now (firsts .entry)) k (now (seats .exit)) maxNodes ⌝ }
+    ensures { λ _. ⌜ Seated (old kinds) (old numbers) (old firsts) k (new seats) maxNodes ⌝ }
 {
     for y in 0..MAX_NODES {
         seats[y] = seat(kinds, numbers, firsts, k, y);
@@ -89,7 +90,7 @@ pub fn block_at<'a>(
     x: usize,
 ) -> Block
     requires { ⌜ (k ≤ maxSteps) × (x < maxNodes) × Low (now firsts) ⌝ }
-    ensures { λ r. ⌜ r ≡ blockBy (now (kinds .entry)) (now (numbers .entry)) (now (sizes .entry)) (now (firsts .entry)) k x ⌝ }
+    ensures { λ r. ⌜ r ≡ blockBy (old kinds) (old numbers) (old sizes) (old firsts) k x ⌝ }
     ensures { λ r. ⌜ ((c : ℕ) → c ≤ maxChannels → Fine c k r) ⌝ }
 {
     let kind = rows::byte_at(kinds, x);
@@ -118,7 +119,7 @@ fn put_nodes<'a>(
 ) -> usize
     requires { ⌜ Room (now variables) (now marks) 0 (rows count (rowPlaces c k (now kinds) (now numbers) (now sizes) (now firsts))) ⌝ }
     requires { ⌜ (c ≤ maxChannels) × (k ≤ maxSteps) × (count ≤ maxNodes) × Low (now firsts) ⌝ }
-    ensures { λ r. ⌜ Wrote (now (variables .entry)) (now (marks .entry)) 0 (rows count (rowPlaces c k (now (kinds .entry)) (now (numbers .entry)) (now (sizes .entry)) (now (firsts .entry)))) (now (variables .exit)) (now (marks .exit)) r ⌝ }
+    ensures { λ r. ⌜ Wrote (old variables) (old marks) 0 (rows count (rowPlaces c k (old kinds) (old numbers) (old sizes) (old firsts))) (new variables) (new marks) r ⌝ }
 {
     let mut at = 0;
     for x in 0..count {
@@ -142,7 +143,7 @@ fn put_table<'a>(
 ) -> usize
     requires { ⌜ Room (now variables) (now marks) 0 (tablePlaces c k (now kinds) (now numbers) (now sizes) (now firsts) count) ⌝ }
     requires { ⌜ (c ≤ maxChannels) × (k ≤ maxSteps) × (count ≤ maxNodes) × Low (now firsts) ⌝ }
-    ensures { λ r. ⌜ Wrote (now (variables .entry)) (now (marks .entry)) 0 (tablePlaces c k (now (kinds .entry)) (now (numbers .entry)) (now (sizes .entry)) (now (firsts .entry)) count) (now (variables .exit)) (now (marks .exit)) r ⌝ }
+    ensures { λ r. ⌜ Wrote (old variables) (old marks) 0 (tablePlaces c k (old kinds) (old numbers) (old sizes) (old firsts) count) (new variables) (new marks) r ⌝ }
 {
     let at = put_nodes(variables, marks, kinds, numbers, sizes, firsts, count, c, k);
     let root = seat(kinds, numbers, firsts, k, 0) + k;
@@ -159,7 +160,7 @@ pub fn sizes_of<'a>(
     firsts: &mut [u32; MAX_NODES],
 ) -> Sizes
     requires { ⌜ (c ≤ maxChannels) × (k ≤ maxSteps) × (count ≤ maxNodes) × (length (now firsts) ≡ maxNodes) × Low (now firsts) ⌝ }
-    ensures { λ r. ⌜ Measured c k (now (kinds .entry)) (now (numbers .entry)) count (now (firsts .exit)) r ⌝ }
+    ensures { λ r. ⌜ Measured c k (old kinds) (old numbers) count (new firsts) r ⌝ }
 {
     let clauses = weights::sums(kinds, numbers, count, k, weights::clauses(), 1, firsts);
     let literals = weights::sums(kinds, numbers, count, k, weights::literals(), 1, firsts);
@@ -203,7 +204,7 @@ pub fn ask_room(literals: u32, sizes: usize, variables: usize, marks: usize) -> 
 // The five sizes.
 pub fn put_sizes(sizes: &mut [u32], s: Sizes)
     requires { ⌜ 5 ≤ length (now sizes) ⌝ }
-    ensures { λ _. ⌜ now (sizes .exit) ≡ over (fiveOf s) (now (sizes .entry)) ⌝ }
+    ensures { λ _. ⌜ new sizes ≡ over (fiveOf s) (old sizes) ⌝ }
 {
     literals::put_numbers(
         sizes,
@@ -222,7 +223,7 @@ fn write_table(
     marks: &mut [u8],
 ) -> Written
     requires { ⌜ (c ≤ maxChannels) × (k ≤ maxSteps) × (table .count ≤ maxNodes) ⌝ }
-    ensures { λ r. ⌜ ((f : Tree Formula) → table ≡ tableOf (map rowOf (nodesOf f 0)) → record { answer = r; sizes = now (sizes .exit); variables = now (variables .exit); marks = now (marks .exit) } ≡ tabledBy c k f (now (sizes .entry)) (now (variables .entry)) (now (marks .entry))) ⌝ }
+    ensures { λ r. ⌜ ((f : Tree Formula) → table ≡ tableOf (map rowOf (nodesOf f 0)) → record { answer = r; sizes = new sizes; variables = new variables; marks = new marks } ≡ tabledBy c k f (old sizes) (old variables) (old marks)) ⌝ }
 {
     let mut firsts = [0; MAX_NODES];
     let s = sizes_of(&table.kinds, &table.numbers, table.count, c, k, &mut firsts);
@@ -253,7 +254,7 @@ pub fn table(
     variables: &mut [u32],
     marks: &mut [u8],
 ) -> Written
-    ensures { λ r. ⌜ record { answer = r; sizes = now (sizes .exit); variables = now (variables .exit); marks = now (marks .exit) } ≡ tabled c k (now (text .entry)) (now (sizes .entry)) (now (variables .entry)) (now (marks .entry)) ⌝ }
+    ensures { λ r. ⌜ record { answer = r; sizes = new sizes; variables = new variables; marks = new marks } ≡ tabled c k (old text) (old sizes) (old variables) (old marks) ⌝ }
 {
     let tabled = nodes::node_table(text, c, k);
     let reply = tabled.reply;

@@ -3,6 +3,7 @@ ghost use mathlib.Core.Path.{_≡_};
 ghost use mathlib.Core.Bool.{false};
 ghost use Prim.Native.Nat.{_+_, _-_, _^_, _≤_, _<_};
 ghost use lib.ListN.{length, set};
+ghost use Rattle.moments.specs.Moments.{old, new};
 ghost use Rattle.clauses.specs.Entries.{entry, literalOf};
 ghost use Rattle.closure.specs.Closure.{opposite};
 ghost use Rattle.closing.specs.Values.{heldIn, Trailing, Ranged, undone, Added};
@@ -18,8 +19,8 @@ fn place(variable: u32) -> usize
 // A variable's value at its place, and the variable at the top of the trail.
 fn hold(values: &mut [u8], trail: &mut [u32], top: usize, x: usize, value: u8)
     requires { ⌜ (x < length (now values)) × (top < length (now trail)) × (x + 1 < 2 ^ 32) ⌝ }
-    ensures { λ _. ⌜ now (values .exit) ≡ set (now (values .entry)) x value ⌝ }
-    ensures { λ _. ⌜ now (trail .exit) ≡ set (now (trail .entry)) top (x + 1) ⌝ }
+    ensures { λ _. ⌜ new values ≡ set (old values) x value ⌝ }
+    ensures { λ _. ⌜ new trail ≡ set (old trail) top (x + 1) ⌝ }
 {
     values[x] = value;
     trail[top] = x as u32 + 1;
@@ -28,7 +29,7 @@ fn hold(values: &mut [u8], trail: &mut [u32], top: usize, x: usize, value: u8)
 // The values of the trail's variables from a place on, up to another, are taken back, the last first.
 pub fn undo(values: &mut [u8], trail: &[u32], from: usize, to: usize)
     requires { ⌜ (from ≤ to) × (to ≤ length (now trail)) × Ranged (now values) (now trail) from to ⌝ }
-    ensures { λ _. ⌜ now (values .exit) ≡ undone (now (trail .entry)) from (to - from) (now (values .entry)) ⌝ }
+    ensures { λ _. ⌜ new values ≡ undone (old trail) from (to - from) (old values) ⌝ }
 {
     let mut j = to;
     while from < j {
@@ -41,7 +42,7 @@ pub fn undo(values: &mut [u8], trail: &[u32], from: usize, to: usize)
 // Whether the literal of a variable and a mark is opposed.
 pub fn opposed(values: &[u8], variable: u32, mark: u8) -> bool
     requires { ⌜ (1 ≤ variable) × (variable ≤ length (now values)) ⌝ }
-    ensures { λ r. ⌜ r ≡ heldIn (now (values .entry)) (opposite (literalOf (entry variable mark))) ⌝ }
+    ensures { λ r. ⌜ r ≡ heldIn (old values) (opposite (literalOf (entry variable mark))) ⌝ }
 {
     values[place(variable)] == 1 + mark % 2
 }
@@ -49,7 +50,7 @@ pub fn opposed(values: &[u8], variable: u32, mark: u8) -> bool
 // The literal of a variable and a mark, which is not opposed, put in where it is not there yet: the top of the trail then.
 pub fn add(values: &mut [u8], trail: &mut [u32], top: usize, variable: u32, mark: u8) -> usize
     requires { ⌜ (1 ≤ variable) × (variable ≤ length (now values)) × Trailing (now values) (now trail) top × (heldIn (now values) (opposite (literalOf (entry variable mark))) ≡ false) ⌝ }
-    ensures { λ r. ⌜ Added (literalOf (entry variable mark)) (now (values .entry)) (now (trail .entry)) top (now (values .exit)) (now (trail .exit)) r ⌝ }
+    ensures { λ r. ⌜ Added (literalOf (entry variable mark)) (old values) (old trail) top (new values) (new trail) r ⌝ }
 {
     let x = place(variable);
     if values[x] != 0 {

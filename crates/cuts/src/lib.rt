@@ -3,6 +3,7 @@ use interval::Interval;
 ghost use mathlib.Core.Path.{_≡_};
 ghost use Prim.Native.Nat.{suc, _+_, _-_, _≤_};
 ghost use lib.ListN.{length};
+ghost use Rattle.moments.specs.Moments.{old, new};
 ghost use Rattle.interval.specs.Listing.{rows};
 ghost use Rattle.interval.specs.Limits.{maxSteps};
 ghost use Rattle.interval.specs.Places.{countOf, tripleCountOf};
@@ -19,7 +20,7 @@ fn put_cuts(
     i: usize,
 )
     requires { ⌜ (k ≤ maxSteps) × (1 ≤ length (now out)) × (i + length (now out) ≤ suc k) × Binary (now p) × Binary (now q) ⌝ }
-    ensures { λ _. ⌜ now (out .exit) ≡ cutsFrom k (highAt (now (p .entry))) (highAt (now (q .entry))) i (length (now (out .entry)) - 1) ⌝ }
+    ensures { λ _. ⌜ new out ≡ cutsFrom k (highAt (old p)) (highAt (old q)) i (length (old out) - 1) ⌝ }
 {
     let steps = out.len() - 1;
     let first = Interval { i, j: i }.place(k);
@@ -41,7 +42,7 @@ fn put_starts(
     i: usize,
 )
     requires { ⌜ (k ≤ maxSteps) × (i ≤ k) × (length (now out) ≡ countOf (k - i)) × Binary (now p) × Binary (now q) ⌝ }
-    ensures { λ _. ⌜ now (out .exit) ≡ rows (suc k - i) (cutsFrom k (highAt (now (p .entry))) (highAt (now (q .entry))) i) ⌝ }
+    ensures { λ _. ⌜ new out ≡ rows (suc k - i) (cutsFrom k (highAt (old p)) (highAt (old q)) i) ⌝ }
 {
     let mut at = 0;
     for d in 0..k + 1 - i {
@@ -59,7 +60,7 @@ pub fn put_triples(
     k: usize,
 )
     requires { ⌜ (k ≤ maxSteps) × (length (now out) ≡ tripleCountOf k) × Binary (now p) × Binary (now q) ⌝ }
-    ensures { λ _. ⌜ now (out .exit) ≡ cutValues k (onPlaces k (highAt (now (p .entry)))) (onPlaces k (highAt (now (q .entry)))) ⌝ }
+    ensures { λ _. ⌜ new out ≡ cutValues k (onPlaces k (highAt (old p))) (onPlaces k (highAt (old q))) ⌝ }
 {
     let mut at = 0;
     for i in 0..k + 1 {

@@ -4,6 +4,7 @@ use interval::Triple;
 ghost use mathlib.Core.Path.{_≡_};
 ghost use Prim.Native.Nat.{suc, _+_, _≤_, _<_};
 ghost use lib.ListN.{length, getD};
+ghost use Rattle.moments.specs.Moments.{old, new};
 ghost use Rattle.interval.specs.Limits.{maxSteps, IntervalOf};
 ghost use Rattle.interval.specs.Places.{countOf, tripleCountOf, placeOf};
 ghost use Rattle.decode.specs.Decode.{InPlace, TripleIn, IntervalsTo, StartsTo, Tables, LastFrom};
@@ -11,7 +12,7 @@ ghost use Rattle.decode.specs.Decode.{InPlace, TripleIn, IntervalsTo, St
 // Of numbers that grow the last that is not beyond u.
 pub fn last_from(table: &[u32], count: usize, u: u32) -> usize
     requires { ⌜ (0 < count) × (count ≤ length (now table)) × (getD (now table) 0 0 ≤ u) ⌝ }
-    ensures { λ r. ⌜ LastFrom (now (table .entry)) count u r ⌝ }
+    ensures { λ r. ⌜ LastFrom (old table) count u r ⌝ }
 {
     let mut low = 0;
     let mut high = count;
@@ -43,7 +44,7 @@ fn next(v: Interval, k: usize) -> Interval
 // The intervals of k steps by their places, two bytes each.
 pub fn put_intervals(table: &mut [u16], k: usize)
     requires { ⌜ (k ≤ maxSteps) × (countOf k ≤ length (now table)) ⌝ }
-    ensures { λ _. ⌜ IntervalsTo k (now (table .exit)) (countOf k) ⌝ }
+    ensures { λ _. ⌜ IntervalsTo k (new table) (countOf k) ⌝ }
 {
     let count = Interval::count(k);
     let mut v = Interval { i: 0, j: 0 };
@@ -56,7 +57,7 @@ pub fn put_intervals(table: &mut [u16], k: usize)
 // Where the triples of each start begin.
 pub fn put_starts(table: &mut [u32], k: usize)
     requires { ⌜ (k ≤ maxSteps) × (suc k ≤ length (now table)) ⌝ }
-    ensures { λ _. ⌜ StartsTo k (now (table .exit)) (suc k) ⌝ }
+    ensures { λ _. ⌜ StartsTo k (new table) (suc k) ⌝ }
 {
     let mut at = 0;
     for i in 0..k + 1 {

@@ -9,6 +9,7 @@ ghost use mathlib.Core.Path.{_≡_};
 ghost use mathlib.Core.List.{[], _∷_};
 ghost use Prim.Native.Nat.{_+_, _^_, _≤_, _<_};
 ghost use lib.ListN.{length};
+ghost use Rattle.moments.specs.Moments.{old};
 ghost use Rattle.interval.specs.Limits.{maxSteps};
 ghost use Rattle.grammar.specs.Limits.{maxChannels};
 ghost use Rattle.grammar.specs.Trees.{Tree, Letters};
@@ -36,7 +37,7 @@ fn word_at<'a>(
     x: usize,
 ) -> u32
     requires { ⌜ length (now recording) ≤ maxSteps ⌝ }
-    ensures { λ r. ⌜ ((f : Tree State) → Letters maxChannels f → Stands (now (kinds .entry)) (now (numbers .entry)) (now (sizes .entry)) x f → WordOf (length (now (recording .entry))) (stateAt (now (recording .entry)) f) r) ⌝ }
+    ensures { λ r. ⌜ ((f : Tree State) → Letters maxChannels f → Stands (old kinds) (old numbers) (old sizes) x f → WordOf (length (old recording)) (stateAt (old recording) f) r) ⌝ }
 {
     let kind = rows::byte_at(kinds, x);
     if kind < 2 {
@@ -62,7 +63,7 @@ fn table_at<'a>(
     x: usize,
 ) -> [u8; Interval::MAX_COUNT]
     requires { ⌜ length (now recording) ≤ maxSteps ⌝ }
-    ensures { λ r. ⌜ ((f : Tree Formula) → Letters maxChannels f → Stands (now (kinds .entry)) (now (numbers .entry)) (now (sizes .entry)) x f → TableOf (length (now (recording .entry))) (holds (now (recording .entry)) f) r) ⌝ }
+    ensures { λ r. ⌜ ((f : Tree Formula) → Letters maxChannels f → Stands (old kinds) (old numbers) (old sizes) x f → TableOf (length (old recording)) (holds (old recording) f) r) ⌝ }
 {
     let k = recording.len();
     let kind = rows::byte_at(kinds, x);
@@ -90,7 +91,7 @@ fn table_at<'a>(
 // The formula's truth on [i, j], from its node table.
 fn holds_on(table: NodeTable, recording: &[u8], i: usize, j: usize) -> bool
     requires { ⌜ (length (now recording) ≤ maxSteps) × (i ≤ j) × (j ≤ length (now recording)) ⌝ }
-    ensures { λ r. ⌜ ((f : Tree Formula) → Letters maxChannels f → Stands (table .kinds) (table .numbers) (table .sizes) 0 f → r ≡ holds (now (recording .entry)) f (record { i = i; j = j })) ⌝ }
+    ensures { λ r. ⌜ ((f : Tree Formula) → Letters maxChannels f → Stands (table .kinds) (table .numbers) (table .sizes) 0 f → r ≡ holds (old recording) f (record { i = i; j = j })) ⌝ }
 {
     let t = table_at(&table.kinds, &table.numbers, &table.sizes, recording, 0);
     let v = Interval { i, j };
@@ -99,7 +100,7 @@ fn holds_on(table: NodeTable, recording: &[u8], i: usize, j: usize) -> bool
 
 // Question 10.
 pub fn ask_recording(k: u32, recording: &[u8]) -> Reply
-    ensures { λ r. ⌜ r ≡ askRecording k (now (recording .entry)) ⌝ }
+    ensures { λ r. ⌜ r ≡ askRecording k (old recording) ⌝ }
 {
     if recording.len() == k as usize {
         return Reply::Yes;
@@ -113,7 +114,7 @@ pub fn ask_recording(k: u32, recording: &[u8]) -> Reply
 // The question whether each byte is below a number.
 pub fn ask_below(number: u32, most: usize, bytes: &[u8]) -> Reply
     requires { ⌜ length (now bytes) < 2 ^ 32 ⌝ }
-    ensures { λ r. ⌜ r ≡ askBelow number most (now (bytes .entry)) ⌝ }
+    ensures { λ r. ⌜ r ≡ askBelow number most (old bytes) ⌝ }
 {
     for t in 0..bytes.len() {
         if scan::wide(bytes[t]) >= most {
@@ -127,7 +128,7 @@ pub fn ask_below(number: u32, most: usize, bytes: &[u8]) -> Reply
 // Question 11.
 pub fn ask_bytes(c: u32, recording: &[u8]) -> Reply
     requires { ⌜ (c ≤ maxChannels) × (length (now recording) ≤ maxSteps) ⌝ }
-    ensures { λ r. ⌜ r ≡ askBytes c (now (recording .entry)) ⌝ }
+    ensures { λ r. ⌜ r ≡ askBytes c (old recording) ⌝ }
 {
     ask_below(11, 1usize << c, recording)
 }
@@ -145,7 +146,7 @@ fn first_no(first: Reply, second: Reply) -> Reply
 // Questions 9 to 11. Only a recording of k bytes is asked the last.
 fn ask_recorded(c: u32, k: u32, i: u32, j: u32, recording: &[u8]) -> Reply
     requires { ⌜ (c ≤ maxChannels) × (k ≤ maxSteps) ⌝ }
-    ensures { λ r. ⌜ r ≡ asked (recordingQuestions c k i j (now (recording .entry))) Reply.No Reply.Yes ⌝ }
+    ensures { λ r. ⌜ r ≡ asked (recordingQuestions c k i j (old recording)) Reply.No Reply.Yes ⌝ }
 {
     let interval = Interval::ask_interval(i as usize, j as usize, k as usize);
     let length = ask_recording(k, recording);
@@ -163,7 +164,7 @@ fn verdict_of(yes: bool) -> Verdict
 
 // Whether the recording satisfies the formula on [i, j].
 pub fn evaluate(text: &[u8], c: u32, k: u32, i: u32, j: u32, recording: &[u8]) -> Verdict
-    ensures { λ r. ⌜ r ≡ evaluated c k i j (now (text .entry)) (now (recording .entry)) ⌝ }
+    ensures { λ r. ⌜ r ≡ evaluated c k i j (old text) (old recording) ⌝ }
 {
     let tabled = nodes::node_table(text, c, k);
     let reply = tabled.reply;

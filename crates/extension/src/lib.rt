@@ -9,6 +9,7 @@ ghost use mathlib.Core.List.{map};
 ghost use Prim.Native.Nat.{ℕ, _*_, _≤_};
 ghost use lib.ListN.{length};
 ghost use lib.Seq.{sets};
+ghost use Rattle.moments.specs.Moments.{old, new};
 ghost use Rattle.interval.specs.Limits.{maxSteps};
 ghost use Rattle.grammar.specs.Limits.{maxNodes, maxChannels};
 ghost use Rattle.grammar.specs.Trees.{Tree, Letters};
@@ -33,7 +34,7 @@ fn put_nodes<'a>(
     recording: &[u8],
 )
     requires { ⌜ (k ≤ maxSteps) × (count ≤ maxNodes) × (last ≤ length (now assignment)) × Low (now firsts) × ((C : ℕ) × Seated C k (now kinds) (now numbers) (now firsts) count last) ⌝ }
-    ensures { λ _. ⌜ ((C : ℕ) (f : Tree Formula) → Seated C k (now (kinds .entry)) (now (numbers .entry)) (now (firsts .entry)) count last → NodesIn f (now (kinds .entry)) (now (numbers .entry)) (now (sizes .entry)) count → now (assignment .exit) ≡ sets (now (assignment .entry)) (k * C) (nodeValues k (now (recording .entry)) (nodesOf f 0))) ⌝ }
+    ensures { λ _. ⌜ ((C : ℕ) (f : Tree Formula) → Seated C k (old kinds) (old numbers) (old firsts) count last → NodesIn f (old kinds) (old numbers) (old sizes) count → new assignment ≡ sets (old assignment) (k * C) (nodeValues k (old recording) (nodesOf f 0))) ⌝ }
 {
     let mut x = count;
     let mut end = last;
@@ -54,7 +55,7 @@ fn write_extension(
     assignment: &mut [u8],
 ) -> Written
     requires { ⌜ (c ≤ maxChannels) × (k ≤ maxSteps) × (table .count ≤ maxNodes) × (length (now recording) ≡ k) ⌝ }
-    ensures { λ r. ⌜ ((f : Tree Formula) → Letters maxChannels f → table ≡ tableOf (map rowOf (nodesOf f 0)) → record { answer = r; assignment = now (assignment .exit) } ≡ extendedBy c k f (now (recording .entry)) (now (assignment .entry))) ⌝ }
+    ensures { λ r. ⌜ ((f : Tree Formula) → Letters maxChannels f → table ≡ tableOf (map rowOf (nodesOf f 0)) → record { answer = r; assignment = new assignment } ≡ extendedBy c k f (old recording) (old assignment)) ⌝ }
 {
     let mut firsts = [0; MAX_NODES];
     let s = clause_table::sizes_of(&table.kinds, &table.numbers, table.count, c, k, &mut firsts);
@@ -79,7 +80,7 @@ fn write_extension(
 
 // The assignment that extends a recording of k steps of C channels and meets all clauses of a formula but the last: V bytes.
 pub fn extend(text: &[u8], c: u32, k: u32, recording: &[u8], assignment: &mut [u8]) -> Written
-    ensures { λ r. ⌜ record { answer = r; assignment = now (assignment .exit) } ≡ extended c k (now (text .entry)) (now (recording .entry)) (now (assignment .entry)) ⌝ }
+    ensures { λ r. ⌜ record { answer = r; assignment = new assignment } ≡ extended c k (old text) (old recording) (old assignment) ⌝ }
 {
     let tabled = nodes::node_table(text, c, k);
     let reply = tabled.reply;

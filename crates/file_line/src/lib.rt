@@ -5,6 +5,7 @@ use reader::Got;
 ghost use mathlib.Core.Path.{_≡_};
 ghost use Prim.Native.Nat.{_≤_};
 ghost use lib.ListN.{length, getD, drop};
+ghost use Rattle.moments.specs.Moments.{old, new};
 ghost use Rattle.clause_table.specs.Table.{over};
 ghost use Rattle.file_numbers.specs.File.{fileLength};
 ghost use Rattle.file_line.specs.Line.{line, number, blank, textLast, stepsNext, readLine};
@@ -45,7 +46,7 @@ pub fn room_for_input() -> [u8; MAX_INPUT]
 
 // The number and the blank from a place on.
 fn item_at(input: &[u8], at: usize) -> Item
-    ensures { λ r. ⌜ takenBy (now (input .entry)) r ≡ cappedTaken (blank (number (drop at (now (input .entry))))) ⌝ }
+    ensures { λ r. ⌜ takenBy (old input) r ≡ cappedTaken (blank (number (drop at (old input)))) ⌝ }
 {
     let g = reader::signed_by(input, b' ', reader::numbered_by(input, Got::Good(at)));
     match g {
@@ -59,7 +60,7 @@ fn item_at(input: &[u8], at: usize) -> Item
 
 // The text from a place on, and the line feed after it.
 fn text_at(input: &[u8], c: u32, k: u32, at: usize) -> Parts
-    ensures { λ r. ⌜ (lineBy (now (input .entry)) r ≡ textLast c k (drop at (now (input .entry)))) × PartsWithin (now (input .entry)) r ⌝ }
+    ensures { λ r. ⌜ (lineBy (old input) r ≡ textLast c k (drop at (old input))) × PartsWithin (old input) r ⌝ }
 {
     if at < input.len() {
         let end = input.len() - 1;
@@ -77,7 +78,7 @@ fn text_at(input: &[u8], c: u32, k: u32, at: usize) -> Parts
 
 // k and the text from a place on.
 fn steps_at(input: &[u8], c: u32, at: usize) -> Parts
-    ensures { λ r. ⌜ (lineBy (now (input .entry)) r ≡ stepsNext c (cappedTaken (blank (number (drop at (now (input .entry))))))) × PartsWithin (now (input .entry)) r ⌝ }
+    ensures { λ r. ⌜ (lineBy (old input) r ≡ stepsNext c (cappedTaken (blank (number (drop at (old input)))))) × PartsWithin (old input) r ⌝ }
 {
     let e = item_at(input, at);
     match e {
@@ -88,7 +89,7 @@ fn steps_at(input: &[u8], c: u32, at: usize) -> Parts
 
 // The parts of a line.
 fn read_line(input: &[u8]) -> Parts
-    ensures { λ r. ⌜ (lineBy (now (input .entry)) r ≡ cappedLine (readLine (now (input .entry)))) × PartsWithin (now (input .entry)) r ⌝ }
+    ensures { λ r. ⌜ (lineBy (old input) r ≡ cappedLine (readLine (old input))) × PartsWithin (old input) r ⌝ }
 {
     let e = item_at(input, 0);
     match e {
@@ -100,7 +101,7 @@ fn read_line(input: &[u8]) -> Parts
 // The file of a table, by its five sizes and the first L places of its arrays.
 fn put_file(five: [u32; 5], variables: &[u32], marks: &[u8], file: &mut [u8]) -> usize
     requires { ⌜ (getD five 4 0 ≤ length (now variables)) × (getD five 4 0 ≤ length (now marks)) ⌝ }
-    ensures { λ r. ⌜ (r ≡ fileLength (getD five 4 0)) × (now (file .exit) ≡ filePut five (now (variables .entry)) (now (marks .entry)) (now (file .entry)) .file) ⌝ }
+    ensures { λ r. ⌜ (r ≡ fileLength (getD five 4 0)) × (new file ≡ filePut five (old variables) (old marks) (old file) .file) ⌝ }
 {
     let n = five[4] as usize;
     let s = Sizes {
@@ -116,7 +117,7 @@ fn put_file(five: [u32; 5], variables: &[u32], marks: &[u8], file: &mut [u8]) ->
 
 // The file of a text's table: how many bytes were written.
 fn file_of_text(text: &[u8], c: u32, k: u32, file: &mut [u8; FILE_BYTES]) -> usize
-    ensures { λ r. ⌜ (r ≡ length (outputFor (line c k (now (text .entry))))) × (now (file .exit) ≡ over (outputFor (line c k (now (text .entry)))) (now (file .entry))) ⌝ }
+    ensures { λ r. ⌜ (r ≡ length (outputFor (line c k (old text)))) × (new file ≡ over (outputFor (line c k (old text))) (old file)) ⌝ }
 {
     let mut five = [0u32; 5];
     let mut variables = [0u32; MAX_LITERALS];
@@ -130,7 +131,7 @@ fn file_of_text(text: &[u8], c: u32, k: u32, file: &mut [u8; FILE_BYTES]) -> usi
 
 // What the file program writes, given an input: how many bytes.
 pub fn file_of_input(input: &[u8], file: &mut [u8; FILE_BYTES]) -> usize
-    ensures { λ r. ⌜ (r ≡ length (outputOf (now (input .entry)))) × (now (file .exit) ≡ over (outputOf (now (input .entry))) (now (file .entry))) × (r ≤ length (now (file .exit))) ⌝ }
+    ensures { λ r. ⌜ (r ≡ length (outputOf (old input))) × (new file ≡ over (outputOf (old input)) (old file)) × (r ≤ length (new file)) ⌝ }
 {
     let p = read_line(input);
     match p {

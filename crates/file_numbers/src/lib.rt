@@ -5,6 +5,7 @@ ghost use mathlib.Core.List.{flatMap};
 ghost use Prim.Native.Nat.{_+_, _*_, _≤_};
 ghost use lib.ListN.{length};
 ghost use lib.Seq.{sets};
+ghost use Rattle.moments.specs.Moments.{old, new};
 ghost use Rattle.file_numbers.specs.File.{byteOf, bytesOf, fileLength, numberOf, numberAt, sizesAt, variablesAt, marksAt};
 ghost use Rattle.file_numbers.specs.Held.{Held};
 
@@ -26,7 +27,7 @@ fn byte_of(n: u32, weight: u32) -> u8
 // Stores a number's four bytes.
 fn put_number(file: &mut [u8], at: usize, n: u32)
     requires { ⌜ at + 4 ≤ length (now file) ⌝ }
-    ensures { λ _. ⌜ now (file .exit) ≡ sets (now (file .entry)) at (bytesOf n) ⌝ }
+    ensures { λ _. ⌜ new file ≡ sets (old file) at (bytesOf n) ⌝ }
 {
     let bytes = [
         byte_of(n, 1),
@@ -38,13 +39,13 @@ fn put_number(file: &mut [u8], at: usize, n: u32)
 }
 
 // Stores numbers one after another; the place after them.
-pub fn put_numbers(file: &mut [u8], at: usize, new: &[u32]) -> usize
-    requires { ⌜ at + 4 * length (now new) ≤ length (now file) ⌝ }
-    ensures { λ r. ⌜ (now (file .exit) ≡ sets (now (file .entry)) at (flatMap bytesOf (now (new .entry)))) × (r ≡ at + 4 * length (now (new .entry))) ⌝ }
+pub fn put_numbers(file: &mut [u8], at: usize, more: &[u32]) -> usize
+    requires { ⌜ at + 4 * length (now more) ≤ length (now file) ⌝ }
+    ensures { λ r. ⌜ (new file ≡ sets (old file) at (flatMap bytesOf (old more))) × (r ≡ at + 4 * length (old more)) ⌝ }
 {
     let mut b = at;
-    for e in 0..new.len() {
-        put_number(file, b, new[e]);
+    for e in 0..more.len() {
+        put_number(file, b, more[e]);
         b += 4;
     }
     b
@@ -60,7 +61,7 @@ fn number_of(a: u8, b: u8, c: u8, d: u8) -> u32
 // The number at a place.
 pub fn number_at(file: &[u8], at: usize) -> u32
     requires { ⌜ at + 4 ≤ length (now file) ⌝ }
-    ensures { λ r. ⌜ r ≡ numberAt (now (file .entry)) at ⌝ }
+    ensures { λ r. ⌜ r ≡ numberAt (old file) at ⌝ }
 {
     number_of(file[at], file[at + 1], file[at + 2], file[at + 3])
 }
@@ -68,7 +69,7 @@ pub fn number_at(file: &[u8], at: usize) -> u32
 // The five sizes.
 pub fn sizes_at(file: &[u8]) -> Sizes
     requires { ⌜ 20 ≤ length (now file) ⌝ }
-    ensures { λ r. ⌜ r ≡ sizesAt (now (file .entry)) ⌝ }
+    ensures { λ r. ⌜ r ≡ sizesAt (old file) ⌝ }
 {
     Sizes {
         channels: number_at(file, 0),
@@ -82,7 +83,7 @@ pub fn sizes_at(file: &[u8]) -> Sizes
 // The marks.
 pub fn marks_at(file: &[u8], s: Sizes) -> &[u8]
     requires { ⌜ Held (now file) s ⌝ }
-    ensures { λ r. ⌜ now r ≡ marksAt (now (file .entry)) ⌝ }
+    ensures { λ r. ⌜ now r ≡ marksAt (old file) ⌝ }
 {
     let from = 20 + 4 * (s.literals as usize);
     &file[from..]
@@ -91,7 +92,7 @@ pub fn marks_at(file: &[u8], s: Sizes) -> &[u8]
 // The variable numbers, stored from the first place on.
 pub fn read_numbers(variables: &mut [u32], file: &[u8], s: Sizes)
     requires { ⌜ Held (now file) s × (s .literals ≤ length (now variables)) ⌝ }
-    ensures { λ _. ⌜ now (variables .exit) ≡ sets (now (variables .entry)) 0 (variablesAt (now (file .entry))) ⌝ }
+    ensures { λ _. ⌜ new variables ≡ sets (old variables) 0 (variablesAt (old file)) ⌝ }
 {
     for e in 0..s.literals as usize {
         variables[e] = number_at(file, 20 + 4 * e);

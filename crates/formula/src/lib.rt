@@ -10,6 +10,7 @@ use scan::Ask;
 ghost use mathlib.Core.Path.{_≡_};
 ghost use Prim.Native.Nat.{_+_, _≤_};
 ghost use lib.ListN.{length, drop};
+ghost use Rattle.moments.specs.Moments.{old};
 ghost use Rattle.refusal.specs.Asked.{asked};
 ghost use Rattle.grammar.specs.Limits.{maxLength};
 ghost use Rattle.scan.specs.Scans.{foundIn};
@@ -35,7 +36,7 @@ pub fn ask_channels(c: u32) -> Reply
 
 // Question 3.
 fn ask_length(text: &[u8]) -> Reply
-    ensures { λ r. ⌜ r ≡ askLength (now (text .entry)) ⌝ }
+    ensures { λ r. ⌜ r ≡ askLength (old text) ⌝ }
 {
     refusal::ask_within(3, text.len(), 1, MAX_LENGTH)
 }
@@ -43,7 +44,7 @@ fn ask_length(text: &[u8]) -> Reply
 // Question 4.
 fn ask_grammar(text: &[u8]) -> Reply
     requires { ⌜ length (now text) ≤ maxLength ⌝ }
-    ensures { λ r. ⌜ r ≡ askGrammar (now (text .entry)) ⌝ }
+    ensures { λ r. ⌜ r ≡ askGrammar (old text) ⌝ }
 {
     let g = reader::check_text(text);
     match g {
@@ -55,7 +56,7 @@ fn ask_grammar(text: &[u8]) -> Reply
 // Questions 5, 6 and 7, of a text that reads.
 fn ask_first(text: &[u8], number: u32, a: Ask, skip: usize) -> Reply
     requires { ⌜ length (now text) ≤ maxLength ⌝ }
-    ensures { λ r. ⌜ r ≡ atFirst number (drop skip (foundIn a (now (text .entry)))) ⌝ }
+    ensures { λ r. ⌜ r ≡ atFirst number (drop skip (foundIn a (old text))) ⌝ }
 {
     let h = scan::first_find(text, a, skip);
     if h.count > 0 {
@@ -66,7 +67,7 @@ fn ask_first(text: &[u8], number: u32, a: Ask, skip: usize) -> Reply
 
 // Whether a formula's text is accepted for C and k: questions 1 to 7.
 pub fn accept(text: &[u8], c: u32, k: u32) -> Reply
-    ensures { λ r. ⌜ r ≡ acceptOf c k (now (text .entry)) ⌝ }
+    ensures { λ r. ⌜ r ≡ acceptOf c k (old text) ⌝ }
 {
     if let Reply::No(r) = ask_channels(c) {
         return Reply::No(r);
@@ -83,7 +84,7 @@ pub fn accept(text: &[u8], c: u32, k: u32) -> Reply
 // Questions 4 to 7.
 fn ask_text(text: &[u8], c: u32) -> Reply
     requires { ⌜ length (now text) ≤ maxLength ⌝ }
-    ensures { λ r. ⌜ r ≡ asked (textQuestions c (now (text .entry))) Reply.No Reply.Yes ⌝ }
+    ensures { λ r. ⌜ r ≡ asked (textQuestions c (old text)) Reply.No Reply.Yes ⌝ }
 {
     if let Reply::No(r) = ask_grammar(text) {
         return Reply::No(r);

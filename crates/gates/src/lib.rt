@@ -1,5 +1,6 @@
 // The clauses of a gate, written to a table in memory.
 use circuit::Gate;
+ghost use Rattle.moments.specs.Moments.{old, new};
 ghost use Rattle.clauses.specs.Clauses.{clausesOf};
 ghost use Rattle.clauses.specs.Entries.{flat};
 ghost use Rattle.literals.specs.Written.{Room, Wrote};
@@ -9,7 +10,7 @@ ghost use Rattle.gates.specs.Within.{Within};
 pub fn put_gate(variables: &mut [u32], marks: &mut [u8], at: usize, v: u32, gate: Gate) -> usize
     requires { ⌜ Room (now variables) (now marks) at (flat (clausesOf v gate)) ⌝ }
     requires { ⌜ Within gate ⌝ }
-    ensures { λ r. ⌜ Wrote (now (variables .entry)) (now (marks .entry)) at (flat (clausesOf v gate)) (now (variables .exit)) (now (marks .exit)) r ⌝ }
+    ensures { λ r. ⌜ Wrote (old variables) (old marks) at (flat (clausesOf v gate)) (new variables) (new marks) r ⌝ }
 {
     match gate {
         Gate::Constant(up) => literals::put(variables, marks, at, &[v], &[literals::closing(up)]),

@@ -4,6 +4,7 @@ use reader::Got;
 ghost use mathlib.Core.Path.{_≡_};
 ghost use Prim.Native.Nat.{suc, _+_, _*_, _-_, _≤_};
 ghost use lib.ListN.{length};
+ghost use Rattle.moments.specs.Moments.{old, new};
 ghost use Rattle.input_line.specs.Levels.{raisedBy, Raised};
 ghost use Rattle.input_line.specs.Number.{maxTries, cappedTries, valueFrom};
 
@@ -29,7 +30,7 @@ pub fn first(bytes: &[u8], n: usize) -> &[u8]
 
 // How long the first line is.
 fn line_length(input: &[u8]) -> usize
-    ensures { λ r. ⌜ r ≤ length (now (input .entry)) ⌝ }
+    ensures { λ r. ⌜ r ≤ length (old input) ⌝ }
 {
     bytes::scan::find(input, 0, input.len(), b'\n')
 }
@@ -41,7 +42,7 @@ pub fn line(input: &[u8]) -> &[u8] {
 
 // What follows the first line.
 pub fn after_line(input: &[u8]) -> &[u8]
-    ensures { λ r. ⌜ length (now r) ≤ length (now (input .entry)) - 1 ⌝ }
+    ensures { λ r. ⌜ length (now r) ≤ length (old input) - 1 ⌝ }
 {
     let n = line_length(input);
     if n == input.len() {
@@ -133,7 +134,7 @@ fn raised(byte: u8, level: u8, bit: u8) -> u8
 // Sets a channel's bit at each instant that its levels have high.
 pub fn raise(recording: &mut [u8], levels: &[u8], bit: u8)
     requires { ⌜ length (now levels) ≤ length (now recording) ⌝ }
-    ensures { λ r. ⌜ Raised bit (now (levels .entry)) (now (recording .entry)) (now (recording .exit)) ⌝ }
+    ensures { λ r. ⌜ Raised bit (old levels) (old recording) (new recording) ⌝ }
 {
     for t in 0..levels.len() {
         recording[t] = raised(recording[t], levels[t], bit);
@@ -169,7 +170,7 @@ fn with_digit(v: u64, b: u8) -> u64
 
 // The number that digits write, one above the most tries for all beyond.
 pub fn value(digits: &[u8]) -> u64
-    ensures { λ r. ⌜ r ≡ cappedTries (valueFrom 0 (now (digits .entry))) ⌝ }
+    ensures { λ r. ⌜ r ≡ cappedTries (valueFrom 0 (old digits)) ⌝ }
 {
     let mut v = 0;
     for at in 0..digits.len() {

@@ -6,6 +6,7 @@ use grammar::MAX_NODES;
 ghost use mathlib.Core.Path.{_≡_};
 ghost use Prim.Native.Nat.{ℕ, _*_, _≤_, _<_};
 ghost use lib.ListN.{length};
+ghost use Rattle.moments.specs.Moments.{old, new};
 ghost use Rattle.interval.specs.Limits.{maxSteps};
 ghost use Rattle.interval.specs.Listing.{rows};
 ghost use Rattle.grammar.specs.Limits.{maxNodes, maxChannels};
@@ -44,7 +45,7 @@ pub fn block_of<'a>(
     x: usize,
 ) -> Block
     requires { ⌜ (k ≤ maxSteps) × (x < maxNodes) × Low (now firsts) × Seated (now kinds) (now numbers) (now firsts) k (now seats) maxNodes ⌝ }
-    ensures { λ r. ⌜ r ≡ blockBy (now (kinds .entry)) (now (numbers .entry)) (now (sizes .entry)) (now (firsts .entry)) k x ⌝ }
+    ensures { λ r. ⌜ r ≡ blockBy (old kinds) (old numbers) (old sizes) (old firsts) k x ⌝ }
     ensures { λ r. ⌜ ((c : ℕ) → c ≤ maxChannels → Fine c k r) ⌝ }
 {
     let kind = rows::byte_at(kinds, x);
@@ -79,7 +80,7 @@ fn reach_letter<'a>(
 ) -> Closed
     requires { ⌜ Ground c k (now kinds) (now numbers) (now sizes) (now firsts) (now seats) (now parents) count (length (now values)) × Trailing (now values) (now trail) top ⌝ }
     requires { ⌜ (x < count) × (t < k) ⌝ }
-    ensures { λ r. ⌜ Visited (letterAt c k (now (kinds .entry)) (now (numbers .entry)) (now (sizes .entry)) (now (firsts .entry)) t e x) (now (values .entry)) (now (trail .entry)) top (now (values .exit)) (now (trail .exit)) r ⌝ }
+    ensures { λ r. ⌜ Visited (letterAt c k (old kinds) (old numbers) (old sizes) (old firsts) t e x) (old values) (old trail) top (new values) (new trail) r ⌝ }
 {
     let rule = blocks::rule_of(kinds[x], numbers[x]);
     if speaks_of(rule, e) {
@@ -108,7 +109,7 @@ fn reach_letters<'a>(
 ) -> Closed
     requires { ⌜ Ground c k (now kinds) (now numbers) (now sizes) (now firsts) (now seats) (now parents) count (length (now values)) × Trailing (now values) (now trail) top ⌝ }
     requires { ⌜ (t < k) ⌝ }
-    ensures { λ r. ⌜ Visited (rows count (letterAt c k (now (kinds .entry)) (now (numbers .entry)) (now (sizes .entry)) (now (firsts .entry)) t e)) (now (values .entry)) (now (trail .entry)) top (now (values .exit)) (now (trail .exit)) r ⌝ }
+    ensures { λ r. ⌜ Visited (rows count (letterAt c k (old kinds) (old numbers) (old sizes) (old firsts) t e)) (old values) (old trail) top (new values) (new trail) r ⌝ }
 {
     let mut last = top;
     for x in 0..count {
@@ -155,7 +156,7 @@ pub fn reach_channel<'a>(
 ) -> Closed
     requires { ⌜ Ground c k (now kinds) (now numbers) (now sizes) (now firsts) (now seats) (now parents) count (length (now values)) × Trailing (now values) (now trail) top ⌝ }
     requires { ⌜ (1 ≤ u) × (u ≤ k * c) ⌝ }
-    ensures { λ r. ⌜ Reached (tableBy c k (now (kinds .entry)) (now (numbers .entry)) (now (sizes .entry)) (now (firsts .entry)) count) u (now (values .entry)) (now (trail .entry)) top (now (values .exit)) (now (trail .exit)) r ⌝ }
+    ensures { λ r. ⌜ Reached (tableBy c k (old kinds) (old numbers) (old sizes) (old firsts) count) u (old values) (old trail) top (new values) (new trail) r ⌝ }
 {
     let x = u - 1;
     reach_letters(

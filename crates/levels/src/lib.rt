@@ -5,6 +5,7 @@ use blocks::Rule;
 use closing::Closed;
 ghost use mathlib.Core.Path.{_≡_};
 ghost use Prim.Native.Nat.{_≤_, _<_};
+ghost use Rattle.moments.specs.Moments.{old, new};
 ghost use Rattle.interval.specs.Places.{countOf};
 ghost use Rattle.blocks.specs.Blocks.{definedBy, Placed};
 ghost use Rattle.visits.specs.Visits.{Visited};
@@ -46,7 +47,7 @@ fn visit_level(
 ) -> Closed
     requires { ⌜ Standing c k block (now values) (now trail) top × (all ≡ countOf k) × Leveled (block .rule) ⌝ }
     requires { ⌜ Placed (block .points) k (block .rule) x a i d ⌝ }
-    ensures { λ r. ⌜ Visited (clausesAt (definedBy c k block) x) (now (values .entry)) (now (trail .entry)) top (now (values .exit)) (now (trail .exit)) r ⌝ }
+    ensures { λ r. ⌜ Visited (clausesAt (definedBy c k block) x) (old values) (old trail) top (new values) (new trail) r ⌝ }
 {
     let rule = block.rule;
     let first = block.first;
@@ -93,7 +94,7 @@ pub fn visit_after(
 ) -> Closed
     requires { ⌜ Standing c k block (now values) (now trail) top × (all ≡ countOf k) × Levels (block .rule) levels ⌝ }
     requires { ⌜ Placed (block .points) k (block .rule) x (p .row) (p .line) (p .cell) ⌝ }
-    ensures { λ r. ⌜ Visited (afterClauses c k block levels x p) (now (values .entry)) (now (trail .entry)) top (now (values .exit)) (now (trail .exit)) r ⌝ }
+    ensures { λ r. ⌜ Visited (afterClauses c k block levels x p) (old values) (old trail) top (new values) (new trail) r ⌝ }
 {
     let a = p.row;
     let i = p.line;
@@ -160,7 +161,7 @@ pub fn visit_rise(
     i: u32,
 ) -> Closed
     requires { ⌜ Standing c k block (now values) (now trail) top × (all ≡ countOf k) × Rising (block .rule) a n × (i ≤ t) × (t < k) ⌝ }
-    ensures { λ r. ⌜ Visited (riseClauses c k block a n t i) (now (values .entry)) (now (trail .entry)) top (now (values .exit)) (now (trail .exit)) r ⌝ }
+    ensures { λ r. ⌜ Visited (riseClauses c k block a n t i) (old values) (old trail) top (new values) (new trail) r ⌝ }
 {
     let first = block.first + blocks::place(i, t + 1 - i, k, all);
     if a == 0 {
@@ -197,7 +198,7 @@ pub fn visit_instant(
     t: u32,
 ) -> Closed
     requires { ⌜ Standing c k block (now values) (now trail) top × (all ≡ countOf k) × Rising (block .rule) a n × (t < k) ⌝ }
-    ensures { λ r. ⌜ Visited (instantClauses c k block a n t) (now (values .entry)) (now (trail .entry)) top (now (values .exit)) (now (trail .exit)) r ⌝ }
+    ensures { λ r. ⌜ Visited (instantClauses c k block a n t) (old values) (old trail) top (new values) (new trail) r ⌝ }
 {
     let mut end = top;
     for i in 0..t + 1 {

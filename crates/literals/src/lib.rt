@@ -4,6 +4,7 @@ ghost use mathlib.Core.List.{List};
 ghost use Prim.Native.Nat.{_+_, _≤_};
 ghost use lib.ListN.{length};
 ghost use lib.Seq.{sets};
+ghost use Rattle.moments.specs.Moments.{old, new};
 ghost use Rattle.interval.specs.Listing.{rows};
 ghost use Rattle.clauses.specs.Entries.{Entry, variablesIn, marksIn, flat};
 ghost use Rattle.circuit.specs.declared.Gate.the-variants.{AnyOf};
@@ -12,29 +13,29 @@ ghost use Rattle.clauses.specs.Clauses.{clausesOf};
 ghost use Rattle.literals.specs.Written.{Room, Wrote, runOf, raisedOf, longOf, limit};
 
 // Stores numbers from a place on.
-pub fn put_numbers(variables: &mut [u32], at: usize, new: &[u32])
-    requires { ⌜ at + length (now new) ≤ length (now variables) ⌝ }
-    ensures { λ _. ⌜ now (variables .exit) ≡ sets (now (variables .entry)) at (now (new .entry)) ⌝ }
+pub fn put_numbers(variables: &mut [u32], at: usize, more: &[u32])
+    requires { ⌜ at + length (now more) ≤ length (now variables) ⌝ }
+    ensures { λ _. ⌜ new variables ≡ sets (old variables) at (old more) ⌝ }
 {
-    for e in 0..new.len() {
-        variables[at + e] = new[e];
+    for e in 0..more.len() {
+        variables[at + e] = more[e];
     }
 }
 
 // Stores bytes from a place on.
-pub fn put_bytes(bytes: &mut [u8], at: usize, new: &[u8])
-    requires { ⌜ at + length (now new) ≤ length (now bytes) ⌝ }
-    ensures { λ _. ⌜ now (bytes .exit) ≡ sets (now (bytes .entry)) at (now (new .entry)) ⌝ }
+pub fn put_bytes(bytes: &mut [u8], at: usize, more: &[u8])
+    requires { ⌜ at + length (now more) ≤ length (now bytes) ⌝ }
+    ensures { λ _. ⌜ new bytes ≡ sets (old bytes) at (old more) ⌝ }
 {
-    for e in 0..new.len() {
-        bytes[at + e] = new[e];
+    for e in 0..more.len() {
+        bytes[at + e] = more[e];
     }
 }
 
 // Numbers and their marks, from a place on; the place after them. The numbers go before the marks, so that each are stored together.
 pub fn put(variables: &mut [u32], marks: &mut [u8], at: usize, n: &[u32], m: &[u8]) -> usize
     requires { ⌜ (at + length (now n) ≤ length (now variables)) × (at + length (now m) ≤ length (now marks)) ⌝ }
-    ensures { λ r. ⌜ ((F : List Entry) → variablesIn F ≡ now (n .entry) → marksIn F ≡ now (m .entry) → Wrote (now (variables .entry)) (now (marks .entry)) at F (now (variables .exit)) (now (marks .exit)) r) ⌝ }
+    ensures { λ r. ⌜ ((F : List Entry) → variablesIn F ≡ old n → marksIn F ≡ old m → Wrote (old variables) (old marks) at F (new variables) (new marks) r) ⌝ }
 {
     put_numbers(variables, at, n);
     put_bytes(marks, at, m);
@@ -52,7 +53,7 @@ pub fn put_run(
 ) -> usize
     requires { ⌜ Room (now variables) (now marks) at (rows n (runOf w mark)) ⌝ }
     requires { ⌜ w + n ≤ limit ⌝ }
-    ensures { λ r. ⌜ Wrote (now (variables .entry)) (now (marks .entry)) at (rows n (runOf w mark)) (now (variables .exit)) (now (marks .exit)) r ⌝ }
+    ensures { λ r. ⌜ Wrote (old variables) (old marks) at (rows n (runOf w mark)) (new variables) (new marks) r ⌝ }
 {
     let mut b = at;
     for e in 0..n {
@@ -67,7 +68,7 @@ pub fn put_run(
 fn put_raised(variables: &mut [u32], marks: &mut [u8], at: usize, v: u32, w: u32, n: u32) -> usize
     requires { ⌜ Room (now variables) (now marks) at (rows n (raisedOf v w)) ⌝ }
     requires { ⌜ w + n ≤ limit ⌝ }
-    ensures { λ r. ⌜ Wrote (now (variables .entry)) (now (marks .entry)) at (rows n (raisedOf v w)) (now (variables .exit)) (now (marks .exit)) r ⌝ }
+    ensures { λ r. ⌜ Wrote (old variables) (old marks) at (rows n (raisedOf v w)) (new variables) (new marks) r ⌝ }
 {
     let mut b = at;
     for e in 0..n {
@@ -80,7 +81,7 @@ fn put_raised(variables: &mut [u32], marks: &mut [u8], at: usize, v: u32, w: u32
 fn put_long(variables: &mut [u32], marks: &mut [u8], at: usize, v: u32, w: u32, n: u32) -> usize
     requires { ⌜ Room (now variables) (now marks) at (longOf v w n) ⌝ }
     requires { ⌜ (1 ≤ n) × (w + n ≤ limit) ⌝ }
-    ensures { λ r. ⌜ Wrote (now (variables .entry)) (now (marks .entry)) at (longOf v w n) (now (variables .exit)) (now (marks .exit)) r ⌝ }
+    ensures { λ r. ⌜ Wrote (old variables) (old marks) at (longOf v w n) (new variables) (new marks) r ⌝ }
 {
     let last = n - 1;
     let b = put(variables, marks, at, &[v], &[0]);
@@ -92,7 +93,7 @@ fn put_long(variables: &mut [u32], marks: &mut [u8], at: usize, v: u32, w: u32, 
 pub fn put_any(variables: &mut [u32], marks: &mut [u8], at: usize, v: u32, w: u32, n: u32) -> usize
     requires { ⌜ Room (now variables) (now marks) at (flat (clausesOf v (AnyOf w n))) ⌝ }
     requires { ⌜ (1 ≤ n) × (w + n ≤ limit) ⌝ }
-    ensures { λ r. ⌜ Wrote (now (variables .entry)) (now (marks .entry)) at (flat (clausesOf v (AnyOf w n))) (now (variables .exit)) (now (marks .exit)) r ⌝ }
+    ensures { λ r. ⌜ Wrote (old variables) (old marks) at (flat (clausesOf v (AnyOf w n))) (new variables) (new marks) r ⌝ }
 {
     let b = put_raised(variables, marks, at, v, w, n);
     put_long(variables, marks, b, v, w, n)

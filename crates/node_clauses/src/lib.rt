@@ -5,6 +5,7 @@ use blocks::Rule;
 use interval::Interval;
 ghost use mathlib.Core.Path.{_≡_};
 ghost use Prim.Native.Nat.{_+_, _≤_};
+ghost use Rattle.moments.specs.Moments.{old, new};
 ghost use Rattle.interval.specs.Places.{countOf};
 ghost use Rattle.interval.specs.Limits.{maxSteps, maxCount};
 ghost use Rattle.blocks.specs.Blocks.{definedBy, Bounded};
@@ -25,7 +26,7 @@ fn walk_block(
 ) -> usize
     requires { ⌜ Room (now variables) (now marks) at (flat (clausesBy (definedBy c k block))) ⌝ }
     requires { ⌜ Bounded c k block × (block .points ≤ maxCount) ⌝ }
-    ensures { λ r. ⌜ Wrote (now (variables .entry)) (now (marks .entry)) at (flat (clausesBy (definedBy c k block))) (now (variables .exit)) (now (marks .exit)) r ⌝ }
+    ensures { λ r. ⌜ Wrote (old variables) (old marks) at (flat (clausesBy (definedBy c k block))) (new variables) (new marks) r ⌝ }
 {
     let rule = block.rule;
     let points = block.points;
@@ -58,7 +59,7 @@ fn put_block(
 ) -> usize
     requires { ⌜ Room (now variables) (now marks) at (flat (clausesBy (definedBy c k block))) ⌝ }
     requires { ⌜ Bounded c k block × (block .points ≤ maxCount) ⌝ }
-    ensures { λ r. ⌜ Wrote (now (variables .entry)) (now (marks .entry)) at (flat (clausesBy (definedBy c k block))) (now (variables .exit)) (now (marks .exit)) r ⌝ }
+    ensures { λ r. ⌜ Wrote (old variables) (old marks) at (flat (clausesBy (definedBy c k block))) (new variables) (new marks) r ⌝ }
 {
     let rule = block.rule;
     if let Rule::Fixed(up) = rule {
@@ -119,7 +120,7 @@ fn put_chop(
 ) -> usize
     requires { ⌜ Room (now variables) (now marks) at (flat (clausesBy (choppedBy c k (block .first + countOf k) block))) ⌝ }
     requires { ⌜ Fine c k block ⌝ }
-    ensures { λ r. ⌜ Wrote (now (variables .entry)) (now (marks .entry)) at (flat (clausesBy (choppedBy c k (block .first + countOf k) block))) (now (variables .exit)) (now (marks .exit)) r ⌝ }
+    ensures { λ r. ⌜ Wrote (old variables) (old marks) at (flat (clausesBy (choppedBy c k (block .first + countOf k) block))) (new variables) (new marks) r ⌝ }
 {
     let w = beyond(block.first, k);
     let triples = triples_of(w, block);
@@ -139,7 +140,7 @@ pub fn put_node(
 ) -> usize
     requires { ⌜ Room (now variables) (now marks) at (nodePlaces c k block) ⌝ }
     requires { ⌜ Fine c k block ⌝ }
-    ensures { λ r. ⌜ Wrote (now (variables .entry)) (now (marks .entry)) at (nodePlaces c k block) (now (variables .exit)) (now (marks .exit)) r ⌝ }
+    ensures { λ r. ⌜ Wrote (old variables) (old marks) at (nodePlaces c k block) (new variables) (new marks) r ⌝ }
 {
     let rule = block.rule;
     if blocks::is_chop(rule) {

@@ -7,6 +7,7 @@ ghost use mathlib.Core.List.{List};
 ghost use Prim.Native.Nat.{ℕ, _-_, _≤_};
 ghost use lib.ListN.{length};
 ghost use lib.Seq.{sets};
+ghost use Rattle.moments.specs.Moments.{old, new};
 ghost use Rattle.interval.specs.Limits.{maxSteps};
 ghost use Rattle.interval.specs.Places.{countOf};
 ghost use Rattle.values.specs.Values.{Fits};
@@ -51,7 +52,7 @@ fn second_points(rule: Rule, k: usize, n: usize, count: usize) -> usize
 // A node's block, which ends before `end`: the middle part of the assignment, from the node's first variable, handed on to be written.
 pub fn put_node(assignment: &mut [u8], block: Block, end: usize, k: usize, recording: &[u8])
     requires { ⌜ (k ≤ maxSteps) × (1 ≤ block .first) × (block .first - 1 ≤ end) × (end ≤ length (now assignment)) × Fits k (end - (block .first - 1)) (block .rule) ⌝ }
-    ensures { λ _. ⌜ ((B : List ℕ) → Makes k (now (recording .entry)) (now (assignment .entry)) block (end - (block .first - 1)) B → now (assignment .exit) ≡ sets (now (assignment .entry)) (block .first - 1) B) ⌝ }
+    ensures { λ _. ⌜ ((B : List ℕ) → Makes k (old recording) (old assignment) block (end - (block .first - 1)) B → new assignment ≡ sets (old assignment) (block .first - 1) B) ⌝ }
 {
     let rule = block.rule;
     let start = block.first as usize - 1;

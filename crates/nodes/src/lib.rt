@@ -6,6 +6,7 @@ use rows::NodeTable;
 ghost use mathlib.Core.Path.{_≡_};
 ghost use Prim.Native.Nat.{ℕ, _+_, _<_};
 ghost use lib.ListN.{length, getD};
+ghost use Rattle.moments.specs.Moments.{old};
 ghost use Rattle.grammar.specs.Limits.{maxNodes};
 ghost use Rattle.refusal.specs.declared.Reply.the-variants.{Yes};
 ghost use Rattle.formula.specs.Nodes.{nodesIn};
@@ -26,7 +27,7 @@ pub enum Located {
 
 // The answer to questions 1 to 7, and the node table of an accepted text.
 pub fn node_table(text: &[u8], c: u32, k: u32) -> Tabled
-    ensures { λ r. ⌜ r ≡ tabledOf c k (now (text .entry)) ⌝ }
+    ensures { λ r. ⌜ r ≡ tabledOf c k (old text) ⌝ }
 {
     if let Reply::No(r) = formula::accept(text, c, k) {
         return Tabled {
@@ -44,7 +45,7 @@ pub fn node_table(text: &[u8], c: u32, k: u32) -> Tabled
 // How many nodes an accepted text has: a loop over its bytes, a node at each first byte.
 fn node_count(text: &[u8]) -> usize
     requires { ⌜ ((C : ℕ) × (k : ℕ) × (acceptOf C k (now text) ≡ Yes)) ⌝ }
-    ensures { λ r. ⌜ r ≡ length (nodesIn (now (text .entry))) ⌝ }
+    ensures { λ r. ⌜ r ≡ length (nodesIn (old text)) ⌝ }
 {
     let mut n: usize = 0;
     let mut i = 0;
@@ -60,7 +61,7 @@ fn node_count(text: &[u8]) -> usize
 
 // The number and place of the refusal of a node's text: questions 1 to 8.
 pub fn node_refusal(text: &[u8], c: u32, k: u32, x: u32) -> Reply
-    ensures { λ r. ⌜ r ≡ nodeRefusalOf c k x (now (text .entry)) ⌝ }
+    ensures { λ r. ⌜ r ≡ nodeRefusalOf c k x (old text) ⌝ }
 {
     if let Reply::No(r) = formula::accept(text, c, k) {
         return Reply::No(r);
@@ -71,7 +72,7 @@ pub fn node_refusal(text: &[u8], c: u32, k: u32, x: u32) -> Reply
 
 // Where a node's own text is, as numbers, or the refusal: questions 1 to 8.
 pub fn node_place(text: &[u8], c: u32, k: u32, x: u32) -> Located
-    ensures { λ r. ⌜ r ≡ nodePlaceOf c k x (now (text .entry)) ⌝ }
+    ensures { λ r. ⌜ r ≡ nodePlaceOf c k x (old text) ⌝ }
 {
     if let Reply::No(r) = node_refusal(text, c, k, x) {
         return Located::Refused(r);
@@ -85,7 +86,7 @@ pub fn node_place(text: &[u8], c: u32, k: u32, x: u32) -> Located
 
 // A node's own text as that part of the lent text, the empty part where refused.
 pub fn node_text(text: &[u8], c: u32, k: u32, x: u32) -> &[u8]
-    ensures { λ r. ⌜ now r ≡ nodeTextOf c k x (now (text .entry)) ⌝ }
+    ensures { λ r. ⌜ now r ≡ nodeTextOf c k x (old text) ⌝ }
 {
     let place = node_place(text, c, k, x);
     match place {
@@ -101,7 +102,7 @@ pub fn node_text(text: &[u8], c: u32, k: u32, x: u32) -> &[u8]
 // The row of the second part of the node at row x: after all those of the first, which is next.
 pub fn second(sizes: &[u8; MAX_NODES], x: usize) -> usize
     requires { ⌜ x < maxNodes ⌝ }
-    ensures { λ r. ⌜ (r ≡ x + 1 + getD (now (sizes .entry)) (x + 1) 0) × (x < r) ⌝ }
+    ensures { λ r. ⌜ (r ≡ x + 1 + getD (old sizes) (x + 1) 0) × (x < r) ⌝ }
 {
     let first = x + 1;
     first + rows::byte_at(sizes, first) as usize

@@ -9,6 +9,7 @@ ghost use mathlib.Core.Path.{_≡_};
 ghost use mathlib.Core.Bool.{false};
 ghost use Prim.Native.Nat.{_+_, _*_, _≤_, _<_};
 ghost use lib.ListN.{length};
+ghost use Rattle.moments.specs.Moments.{old, new};
 ghost use Rattle.interval.specs.Places.{countOf, tripleCountOf};
 ghost use Rattle.blocks.specs.Blocks.{isChop, formOf, definedBy};
 ghost use Rattle.blocks.specs.declared.Form.the-variants.{Line, Intervals};
@@ -62,7 +63,7 @@ pub fn visit_line(
     x: u32,
 ) -> Closed
     requires { ⌜ Node c k block (now values) (now trail) top × (formOf (block .rule) ≡ Line) × (x < block .points) ⌝ }
-    ensures { λ r. ⌜ Visited (clausesAt (definedBy c k block) x) (now (values .entry)) (now (trail .entry)) top (now (values .exit)) (now (trail .exit)) r ⌝ }
+    ensures { λ r. ⌜ Visited (clausesAt (definedBy c k block) x) (old values) (old trail) top (new values) (new trail) r ⌝ }
 {
     walks::visit_line(values, trail, top, c, k, block, x)
 }
@@ -81,7 +82,7 @@ fn reach_level(
 ) -> Closed
     requires { ⌜ Node c k block (now values) (now trail) top × (all ≡ countOf k) × InBlock k block (block .first + x) ⌝ }
     requires { ⌜ (formOf (block .rule) ≡ Intervals) × (isChop (block .rule) ≡ false) × (countOf k ≤ length (now intervals)) × IntervalsTo k (now intervals) (countOf k) ⌝ }
-    ensures { λ r. ⌜ Reached (nodeClauses c k block) (block .first + x) (now (values .entry)) (now (trail .entry)) top (now (values .exit)) (now (trail .exit)) r ⌝ }
+    ensures { λ r. ⌜ Reached (nodeClauses c k block) (block .first + x) (old values) (old trail) top (new values) (new trail) r ⌝ }
 {
     let rule = block.rule;
     let rise = rise_of(rule);
@@ -121,7 +122,7 @@ fn reach_interval(
     x: u32,
 ) -> Closed
     requires { ⌜ Node c k block (now values) (now trail) top × (all ≡ countOf k) × (block .rule ≡ Chop) × Tables k (now intervals) (now starts) × (x < countOf k) ⌝ }
-    ensures { λ r. ⌜ Reached (nodeClauses c k block) (block .first + x) (now (values .entry)) (now (trail .entry)) top (now (values .exit)) (now (trail .exit)) r ⌝ }
+    ensures { λ r. ⌜ Reached (nodeClauses c k block) (block .first + x) (old values) (old trail) top (new values) (new trail) r ⌝ }
 {
     let v = decode::interval_at(intervals, k as usize, x as usize);
     let i = v.i;
@@ -150,7 +151,7 @@ fn reach_triple(
     x: u32,
 ) -> Closed
     requires { ⌜ Node c k block (now values) (now trail) top × (all ≡ countOf k) × (block .rule ≡ Chop) × Tables k (now intervals) (now starts) × (x < tripleCountOf k) ⌝ }
-    ensures { λ r. ⌜ Reached (nodeClauses c k block) (block .first + countOf k + x) (now (values .entry)) (now (trail .entry)) top (now (values .exit)) (now (trail .exit)) r ⌝ }
+    ensures { λ r. ⌜ Reached (nodeClauses c k block) (block .first + countOf k + x) (old values) (old trail) top (new values) (new trail) r ⌝ }
 {
     let t = decode::triple_at(intervals, starts, k as usize, x);
     let i = t.i as u32;
@@ -180,7 +181,7 @@ fn reach_chop(
     x: u32,
 ) -> Closed
     requires { ⌜ Node c k block (now values) (now trail) top × (all ≡ countOf k) × (block .rule ≡ Chop) × Tables k (now intervals) (now starts) × (x < countOf k + tripleCountOf k) ⌝ }
-    ensures { λ r. ⌜ Reached (nodeClauses c k block) (block .first + x) (now (values .entry)) (now (trail .entry)) top (now (values .exit)) (now (trail .exit)) r ⌝ }
+    ensures { λ r. ⌜ Reached (nodeClauses c k block) (block .first + x) (old values) (old trail) top (new values) (new trail) r ⌝ }
 {
     if x < all {
         return reach_interval(values, trail, top, intervals, starts, c, k, all, block, x);
@@ -213,7 +214,7 @@ pub fn reach(
     u: u32,
 ) -> Closed
     requires { ⌜ Node c k block (now values) (now trail) top × (all ≡ countOf k) × Tables k (now intervals) (now starts) × InBlock k block u ⌝ }
-    ensures { λ r. ⌜ Reached (nodeClauses c k block) u (now (values .entry)) (now (trail .entry)) top (now (values .exit)) (now (trail .exit)) r ⌝ }
+    ensures { λ r. ⌜ Reached (nodeClauses c k block) u (old values) (old trail) top (new values) (new trail) r ⌝ }
 {
     let rule = block.rule;
     let x = u - block.first;

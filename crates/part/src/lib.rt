@@ -7,6 +7,7 @@ ghost use mathlib.Core.Path.{_≡_};
 ghost use mathlib.Core.Bool.{false};
 ghost use Prim.Native.Nat.{_*_, _≤_, _<_};
 ghost use lib.ListN.{length};
+ghost use Rattle.moments.specs.Moments.{old, new};
 ghost use Rattle.interval.specs.Places.{countOf};
 ghost use Rattle.blocks.specs.Blocks.{isChop, formOf};
 ghost use Rattle.blocks.specs.declared.Form.the-variants.{Line, Intervals};
@@ -54,7 +55,7 @@ fn reach_line(
     u: u32,
 ) -> Closed
     requires { ⌜ Node c k block (now values) (now trail) top × (formOf (block .rule) ≡ Line) × (InBlock k block u → ⊥) × (k * c < u) ⌝ }
-    ensures { λ r. ⌜ Reached (nodeClauses c k block) u (now (values .entry)) (now (trail .entry)) top (now (values .exit)) (now (trail .exit)) r ⌝ }
+    ensures { λ r. ⌜ Reached (nodeClauses c k block) u (old values) (old trail) top (new values) (new trail) r ⌝ }
 {
     let rule = block.rule;
     let left = block.left;
@@ -83,7 +84,7 @@ fn reach_instant(
 ) -> Closed
     requires { ⌜ Node c k block (now values) (now trail) top × (all ≡ countOf k) × (InBlock k block u → ⊥) × (k * c < u) ⌝ }
     requires { ⌜ (formOf (block .rule) ≡ Intervals) × (isChop (block .rule) ≡ false) ⌝ }
-    ensures { λ r. ⌜ Reached (nodeClauses c k block) u (now (values .entry)) (now (trail .entry)) top (now (values .exit)) (now (trail .exit)) r ⌝ }
+    ensures { λ r. ⌜ Reached (nodeClauses c k block) u (old values) (old trail) top (new values) (new trail) r ⌝ }
 {
     let left = block.left;
     if !among(left, k, u) {
@@ -119,7 +120,7 @@ fn reach_chop(
 ) -> Closed
     requires { ⌜ Node c k block (now values) (now trail) top × (all ≡ countOf k) × (block .rule ≡ Chop) × (InBlock k block u → ⊥) × (k * c < u) ⌝ }
     requires { ⌜ (countOf k ≤ length (now intervals)) × IntervalsTo k (now intervals) (countOf k) ⌝ }
-    ensures { λ r. ⌜ Reached (nodeClauses c k block) u (now (values .entry)) (now (trail .entry)) top (now (values .exit)) (now (trail .exit)) r ⌝ }
+    ensures { λ r. ⌜ Reached (nodeClauses c k block) u (old values) (old trail) top (new values) (new trail) r ⌝ }
 {
     let left = block.left;
     let right = block.right;
@@ -169,7 +170,7 @@ pub fn reach(
 ) -> Closed
     requires { ⌜ Node c k block (now values) (now trail) top × (all ≡ countOf k) × (InBlock k block u → ⊥) × (k * c < u) ⌝ }
     requires { ⌜ (countOf k ≤ length (now intervals)) × IntervalsTo k (now intervals) (countOf k) ⌝ }
-    ensures { λ r. ⌜ Reached (nodeClauses c k block) u (now (values .entry)) (now (trail .entry)) top (now (values .exit)) (now (trail .exit)) r ⌝ }
+    ensures { λ r. ⌜ Reached (nodeClauses c k block) u (old values) (old trail) top (new values) (new trail) r ⌝ }
 {
     let rule = block.rule;
     if blocks::is_chop(rule) {

@@ -4,6 +4,7 @@ ghost use mathlib.Core.Path.{_≡_};
 ghost use mathlib.Core.Bool.{Bool, true};
 ghost use Prim.Native.Nat.{ℕ, _+_, _*_, _≤_, _<_};
 ghost use lib.ListN.{length, getD};
+ghost use Rattle.moments.specs.Moments.{old, new};
 ghost use Rattle.meaning.specs.Meaning.{bit};
 ghost use Rattle.closing.specs.Values.{Trailing};
 ghost use Rattle.patterns.specs.Patterns.{valueAt, Settled, patternOf, among, renamed, forcedBy, Forces, Quiets, endedBy};
@@ -373,7 +374,7 @@ fn pick(e: u8, v: u32, x: u32, y: u32, z: u32) -> u32
 // The value of a variable.
 fn value(values: &[u8], v: u32) -> u8
     requires { ⌜ Variable (length (now values)) v ⌝ }
-    ensures { λ r. ⌜ r ≡ valueAt (now (values .entry)) v ⌝ }
+    ensures { λ r. ⌜ r ≡ valueAt (old values) v ⌝ }
 {
     values[v as usize - 1]
 }
@@ -428,7 +429,7 @@ pub enum Next {
 fn next_forced(values: &[u8], gate: usize, v: u32, x: u32, y: u32, z: u32) -> Next
     requires { ⌜ ((x : ℕ) → getD (now values) x 0 ≤ 2) × (gate < 8) ⌝ }
     requires { ⌜ Variable (length (now values)) v × Variable (length (now values)) x × Variable (length (now values)) y × Variable (length (now values)) z ⌝ }
-    ensures { λ r. ⌜ Forces (renamed (among v x y z) (patternOf gate)) (now (values .entry)) r ⌝ }
+    ensures { λ r. ⌜ Forces (renamed (among v x y z) (patternOf gate)) (old values) r ⌝ }
 {
     let a = value(values, v);
     let b = value(values, x);
@@ -455,7 +456,7 @@ fn settle_on(
 ) -> usize
     requires { ⌜ Trailing (now values) (now trail) top × (gate < 8) ⌝ }
     requires { ⌜ Variable (length (now values)) v × Variable (length (now values)) x × Variable (length (now values)) y × Variable (length (now values)) z ⌝ }
-    ensures { λ r. ⌜ Settled (renamed (among v x y z) (patternOf gate)) (now (values .entry)) (now (trail .entry)) top (now (values .exit)) (now (trail .exit)) (endedBy r) ⌝ }
+    ensures { λ r. ⌜ Settled (renamed (among v x y z) (patternOf gate)) (old values) (old trail) top (new values) (new trail) (endedBy r) ⌝ }
 {
     let mut t = top;
     loop {
@@ -493,7 +494,7 @@ pub fn settle_by(
 ) -> Closed
     requires { ⌜ Trailing (now values) (now trail) top × (gate < 8) ⌝ }
     requires { ⌜ Variable (length (now values)) v × Variable (length (now values)) x × Variable (length (now values)) y × Variable (length (now values)) z ⌝ }
-    ensures { λ r. ⌜ Settled (renamed (among v x y z) (patternOf gate)) (now (values .entry)) (now (trail .entry)) top (now (values .exit)) (now (trail .exit)) r ⌝ }
+    ensures { λ r. ⌜ Settled (renamed (among v x y z) (patternOf gate)) (old values) (old trail) top (new values) (new trail) r ⌝ }
 {
     let a = value(values, v);
     let b = value(values, x);
@@ -517,7 +518,7 @@ pub fn settle_both(
     y: u32,
 ) -> Closed
     requires { ⌜ Trailing (now values) (now trail) top × Variable (length (now values)) v × InputsIn (length (now values)) (Both x y) ⌝ }
-    ensures { λ r. ⌜ Settled (clausesOf v (Both x y)) (now (values .entry)) (now (trail .entry)) top (now (values .exit)) (now (trail .exit)) r ⌝ }
+    ensures { λ r. ⌜ Settled (clausesOf v (Both x y)) (old values) (old trail) top (new values) (new trail) r ⌝ }
 {
     settle_by(values, trail, top, 2, v, x, y, v)
 }
@@ -533,7 +534,7 @@ pub fn settle_step(
     s: u32,
 ) -> Closed
     requires { ⌜ Trailing (now values) (now trail) top × Variable (length (now values)) v × InputsIn (length (now values)) (Step p q s) ⌝ }
-    ensures { λ r. ⌜ Settled (clausesOf v (Step p q s)) (now (values .entry)) (now (trail .entry)) top (now (values .exit)) (now (trail .exit)) r ⌝ }
+    ensures { λ r. ⌜ Settled (clausesOf v (Step p q s)) (old values) (old trail) top (new values) (new trail) r ⌝ }
 {
     let a = value(values, v);
     let b = value(values, p);

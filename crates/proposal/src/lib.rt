@@ -8,6 +8,7 @@ ghost use mathlib.Core.Path.{_≡_};
 ghost use mathlib.Core.List.{map};
 ghost use Prim.Native.Nat.{ℕ, _+_, _*_, _^_, _≤_, _<_};
 ghost use lib.ListN.{length, getD};
+ghost use Rattle.moments.specs.Moments.{old, new};
 ghost use Rattle.refusal.specs.Asked.{asked};
 ghost use Rattle.interval.specs.Listing.{sum};
 ghost use Rattle.interval.specs.Limits.{maxSteps};
@@ -41,7 +42,7 @@ fn ask_nodes<'a>(
     requires { ⌜ (c ≤ maxChannels) × (k ≤ maxSteps) × (count ≤ maxNodes) × Low (now firsts) × Low (now numbered) ⌝ }
     requires { ⌜ ((x : ℕ) → x < count → getD (now numbered) x 0 ≡ 0 + weightTo clauseWeight k (now kinds) (now numbers) x) ⌝ }
     requires { ⌜ AllMentioned (length (now assignment)) (definedIn c k (now kinds) (now numbers) (now sizes) (now firsts) count) ⌝ }
-    ensures { λ r. ⌜ r ≡ askClauses (valueIn (now (assignment .entry))) 0 (clausesBy (definedIn c k (now (kinds .entry)) (now (numbers .entry)) (now (sizes .entry)) (now (firsts .entry)) count)) ⌝ }
+    ensures { λ r. ⌜ r ≡ askClauses (valueIn (old assignment)) 0 (clausesBy (definedIn c k (old kinds) (old numbers) (old sizes) (old firsts) count)) ⌝ }
 {
     for x in 0..count {
         let block = clause_table::block_at(kinds, numbers, sizes, firsts, k, x);
@@ -65,7 +66,7 @@ fn ask_table<'a>(
 ) -> Reply
     requires { ⌜ (c ≤ maxChannels) × (k ≤ maxSteps) × (count ≤ maxNodes) × Low (now firsts) ⌝ }
     requires { ⌜ AllMentioned (length (now assignment)) (definedIn c k (now kinds) (now numbers) (now sizes) (now firsts) count) × Variable (length (now assignment)) (rootIn (now kinds) (now numbers) (now firsts) k) ⌝ }
-    ensures { λ r. ⌜ r ≡ askClauses (valueIn (now (assignment .entry))) 0 (clausesFor c k (now (kinds .entry)) (now (numbers .entry)) (now (sizes .entry)) (now (firsts .entry)) count) ⌝ }
+    ensures { λ r. ⌜ r ≡ askClauses (valueIn (old assignment)) 0 (clausesFor c k (old kinds) (old numbers) (old sizes) (old firsts) count) ⌝ }
 {
     let mut numbered = [0; MAX_NODES];
     let last = weights::sums(
@@ -103,7 +104,7 @@ fn ask_table<'a>(
 // Questions 12 to 14 and 18, of an accepted formula's node table, with as many places lent for the recording.
 fn ask_proposal(table: NodeTable, c: u32, k: u32, assignment: &[u8], places: usize) -> Reply
     requires { ⌜ (c ≤ maxChannels) × (k ≤ maxSteps) × (table .count ≤ maxNodes) × TableFor c table ⌝ }
-    ensures { λ r. ⌜ ((f : Tree Formula) → table ≡ tableOf (map rowOf (nodesOf f 0)) → r ≡ asked (checkQuestions c k f (now (assignment .entry)) places) Reply.No Reply.Yes) ⌝ }
+    ensures { λ r. ⌜ ((f : Tree Formula) → table ≡ tableOf (map rowOf (nodesOf f 0)) → r ≡ asked (checkQuestions c k f (old assignment) places) Reply.No Reply.Yes) ⌝ }
 {
     let mut firsts = [0; MAX_NODES];
     let s = clause_table::sizes_of(&table.kinds, &table.numbers, table.count, c, k, &mut firsts);
@@ -133,7 +134,7 @@ fn ask_proposal(table: NodeTable, c: u32, k: u32, assignment: &[u8], places: usi
 // The byte of instant t: bit b where channel b is high.
 fn recorded(assignment: &[u8], c: usize, t: usize) -> u8
     requires { ⌜ (c ≤ maxChannels) × (t ≤ maxSteps) × (t * c + c ≤ length (now assignment)) ⌝ }
-    ensures { λ r. ⌜ r ≡ sum (λ b. bit (valueIn (now (assignment .entry)) (channelOf c t b)) * 2 ^ b) c ⌝ }
+    ensures { λ r. ⌜ r ≡ sum (λ b. bit (valueIn (old assignment) (channelOf c t b)) * 2 ^ b) c ⌝ }
 {
     let at = t * c;
     let mut byte: u8 = 0;
@@ -146,7 +147,7 @@ fn recorded(assignment: &[u8], c: usize, t: usize) -> u8
 // The recording, to all of `out`.
 pub fn put_recording(out: &mut [u8], assignment: &[u8], c: usize)
     requires { ⌜ (c ≤ maxChannels) × (length (now out) ≤ maxSteps) × (length (now out) * c ≤ length (now assignment)) ⌝ }
-    ensures { λ _. ⌜ now (out .exit) ≡ recordingOf c (length (now (out .entry))) (now (assignment .entry)) ⌝ }
+    ensures { λ _. ⌜ new out ≡ recordingOf c (length (old out)) (old assignment) ⌝ }
 {
     for t in 0..out.len() {
         out[t] = recorded(assignment, c, t);
@@ -155,7 +156,7 @@ pub fn put_recording(out: &mut [u8], assignment: &[u8], c: usize)
 
 // Whether a proposed assignment meets every clause of a formula of C channels over k steps; the recording is written where it does.
 pub fn check(text: &[u8], c: u32, k: u32, assignment: &[u8], recording: &mut [u8]) -> Checked
-    ensures { λ r. ⌜ record { answer = r; recording = now (recording .exit) } ≡ proposed c k (now (text .entry)) (now (assignment .entry)) (now (recording .entry)) ⌝ }
+    ensures { λ r. ⌜ record { answer = r; recording = new recording } ≡ proposed c k (old text) (old assignment) (old recording) ⌝ }
 {
     let tabled = nodes::node_table(text, c, k);
     let reply = tabled.reply;

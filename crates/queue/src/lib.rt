@@ -6,6 +6,7 @@ use interval::Interval;
 ghost use mathlib.Core.Path.{_≡_};
 ghost use Prim.Native.Nat.{_*_, _≤_, _<_};
 ghost use lib.ListN.{length};
+ghost use Rattle.moments.specs.Moments.{old, new};
 ghost use Rattle.interval.specs.Places.{countOf};
 ghost use Rattle.gates.specs.Mentioned.{Variable};
 ghost use Rattle.closing.specs.Values.{Trailing};
@@ -35,7 +36,7 @@ fn reach_row<'a>(
 ) -> Closed
     requires { ⌜ Ground c k (now kinds) (now numbers) (now sizes) (now firsts) (now seats) (now parents) count (length (now values)) × Trailing (now values) (now trail) top ⌝ }
     requires { ⌜ Tables k (now intervals) (now starts) × (all ≡ countOf k) × (k * c < u) × (u ≤ length (now values)) ⌝ }
-    ensures { λ r. ⌜ Reached (tableBy c k (now (kinds .entry)) (now (numbers .entry)) (now (sizes .entry)) (now (firsts .entry)) count) u (now (values .entry)) (now (trail .entry)) top (now (values .exit)) (now (trail .exit)) r ⌝ }
+    ensures { λ r. ⌜ Reached (tableBy c k (old kinds) (old numbers) (old sizes) (old firsts) count) u (old values) (old trail) top (new values) (new trail) r ⌝ }
 {
     let z = decode::last_from(firsts, count, u);
     let block = letters::block_of(kinds, numbers, sizes, firsts, seats, k, z);
@@ -76,7 +77,7 @@ fn reach<'a>(
 ) -> Closed
     requires { ⌜ Ground c k (now kinds) (now numbers) (now sizes) (now firsts) (now seats) (now parents) count (length (now values)) × Trailing (now values) (now trail) top ⌝ }
     requires { ⌜ Tables k (now intervals) (now starts) × (all ≡ countOf k) × Variable (length (now values)) u ⌝ }
-    ensures { λ r. ⌜ Reached (tableBy c k (now (kinds .entry)) (now (numbers .entry)) (now (sizes .entry)) (now (firsts .entry)) count) u (now (values .entry)) (now (trail .entry)) top (now (values .exit)) (now (trail .exit)) r ⌝ }
+    ensures { λ r. ⌜ Reached (tableBy c k (old kinds) (old numbers) (old sizes) (old firsts) count) u (old values) (old trail) top (new values) (new trail) r ⌝ }
 {
     if u <= k * c {
         return letters::reach_channel(
@@ -136,7 +137,7 @@ pub fn close<'a>(
 ) -> Closed
     requires { ⌜ Ground c k (now kinds) (now numbers) (now sizes) (now firsts) (now seats) (now parents) count (length (now values)) × Tables k (now intervals) (now starts) ⌝ }
     requires { ⌜ Pending (tableBy c k (now kinds) (now numbers) (now sizes) (now firsts) count) (now values) (now trail) head top ⌝ }
-    ensures { λ r. ⌜ ClosedTo (tableBy c k (now (kinds .entry)) (now (numbers .entry)) (now (sizes .entry)) (now (firsts .entry)) count) (now (values .entry)) (now (trail .entry)) top (now (values .exit)) (now (trail .exit)) r ⌝ }
+    ensures { λ r. ⌜ ClosedTo (tableBy c k (old kinds) (old numbers) (old sizes) (old firsts) count) (old values) (old trail) top (new values) (new trail) r ⌝ }
 {
     let all = Interval::count(k as usize) as u32;
     let mut t = top;
@@ -194,7 +195,7 @@ pub fn start<'a>(
 ) -> Closed
     requires { ⌜ Ground c k (now kinds) (now numbers) (now sizes) (now firsts) (now seats) (now parents) count (length (now values)) × Tables k (now intervals) (now starts) ⌝ }
     requires { ⌜ Trailing (now values) (now trail) 0 ⌝ }
-    ensures { λ r. ⌜ ClosedTo (tableBy c k (now (kinds .entry)) (now (numbers .entry)) (now (sizes .entry)) (now (firsts .entry)) count) (now (values .entry)) (now (trail .entry)) 0 (now (values .exit)) (now (trail .exit)) r ⌝ }
+    ensures { λ r. ⌜ ClosedTo (tableBy c k (old kinds) (old numbers) (old sizes) (old firsts) count) (old values) (old trail) 0 (new values) (new trail) r ⌝ }
 {
     let r = sweeps::sweep(values, trail, 0, kinds, numbers, sizes, firsts, count, c, k);
     if r.clash {

@@ -4,6 +4,7 @@ use grammar::Sort;
 ghost use mathlib.Core.Path.{_≡_};
 ghost use Prim.Native.Nat.{_+_, _≤_};
 ghost use lib.ListN.{length, drop};
+ghost use Rattle.moments.specs.Moments.{old};
 ghost use Rattle.grammar.specs.Reader.{isJoint};
 ghost use Rattle.reader.specs.Parts.{testAt, isSign, numberAt, digitCount, onGood, PartAt, endOf, parseText};
 
@@ -21,7 +22,7 @@ pub enum Parse {
 
 // A good read with the byte v after it.
 pub fn signed_by(text: &[u8], v: u8, g: Got) -> Got
-    ensures { λ r. ⌜ r ≡ onGood (now (text .entry)) (testAt (isSign v)) g ⌝ }
+    ensures { λ r. ⌜ r ≡ onGood (old text) (testAt (isSign v)) g ⌝ }
 {
     let Got::Good(n) = g else {
         return g;
@@ -36,7 +37,7 @@ pub fn signed_by(text: &[u8], v: u8, g: Got) -> Got
 
 // A good read with a joint of the sort after it.
 fn joined_by(text: &[u8], s: Sort, g: Got) -> Got
-    ensures { λ r. ⌜ r ≡ onGood (now (text .entry)) (testAt (isJoint s)) g ⌝ }
+    ensures { λ r. ⌜ r ≡ onGood (old text) (testAt (isJoint s)) g ⌝ }
 {
     let Got::Good(n) = g else {
         return g;
@@ -52,7 +53,7 @@ fn joined_by(text: &[u8], s: Sort, g: Got) -> Got
 // The place after the digits from a place on.
 fn digits_end(text: &[u8], at: usize) -> usize
     requires { ⌜ at ≤ length (now text) ⌝ }
-    ensures { λ r. ⌜ r ≡ at + digitCount (drop at (now (text .entry))) ⌝ }
+    ensures { λ r. ⌜ r ≡ at + digitCount (drop at (old text)) ⌝ }
 {
     let mut i = at;
     while i < text.len() {
@@ -66,7 +67,7 @@ fn digits_end(text: &[u8], at: usize) -> usize
 
 // A good read with a number after it.
 pub fn numbered_by(text: &[u8], g: Got) -> Got
-    ensures { λ r. ⌜ r ≡ onGood (now (text .entry)) numberAt g ⌝ }
+    ensures { λ r. ⌜ r ≡ onGood (old text) numberAt g ⌝ }
 {
     let Got::Good(n) = g else {
         return g;
@@ -86,7 +87,7 @@ pub fn numbered_by(text: &[u8], g: Got) -> Got
 // A part of the sort from a place on. It calls itself on its parts; the bytes that remain fall.
 fn read_part(text: &[u8], s: Sort, at: usize) -> Got
     requires { ⌜ at ≤ length (now text) ⌝ }
-    ensures { λ r. ⌜ PartAt (now (text .entry)) s at r ⌝ }
+    ensures { λ r. ⌜ PartAt (old text) s at r ⌝ }
 {
     if at >= text.len() {
         return Got::Bad(at);
@@ -114,7 +115,7 @@ fn read_part(text: &[u8], s: Sort, at: usize) -> Got
 
 // Where reading a part of the sort from a place on stops.
 pub fn part_end(text: &[u8], s: Sort, at: usize) -> usize
-    ensures { λ r. ⌜ (r ≡ endOf (now (text .entry)) s at) × (r ≤ length (now (text .entry))) ⌝ }
+    ensures { λ r. ⌜ (r ≡ endOf (old text) s at) × (r ≤ length (old text)) ⌝ }
 {
     if at > text.len() {
         return text.len();
@@ -128,7 +129,7 @@ pub fn part_end(text: &[u8], s: Sort, at: usize) -> usize
 
 // Whether the whole text reads.
 pub fn check_text(text: &[u8]) -> Parse
-    ensures { λ r. ⌜ r ≡ parseText (now (text .entry)) ⌝ }
+    ensures { λ r. ⌜ r ≡ parseText (old text) ⌝ }
 {
     let g = read_part(text, Sort::Formula, 0);
     match g {

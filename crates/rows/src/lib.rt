@@ -7,6 +7,7 @@ ghost use mathlib.Core.List.{[], map};
 ghost use Prim.Native.Nat.{ℕ, _+_, _-_, _≤_, _<_};
 ghost use lib.Dec.{eqb};
 ghost use lib.ListN.{length, getD};
+ghost use Rattle.moments.specs.Moments.{old};
 ghost use Rattle.refusal.specs.declared.Reply.the-variants.{Yes};
 ghost use Rattle.grammar.specs.Limits.{maxNodes};
 ghost use Rattle.formula.specs.Nodes.{nodesIn};
@@ -46,7 +47,7 @@ pub struct NodeTable {
 
 // The byte at a place, and 0 past the end.
 pub fn byte_at(text: &[u8], at: usize) -> u8
-    ensures { λ r. ⌜ r ≡ getD (now (text .entry)) at 0 ⌝ }
+    ensures { λ r. ⌜ r ≡ getD (old text) at 0 ⌝ }
 {
     if at < text.len() { text[at] } else { 0 }
 }
@@ -82,7 +83,7 @@ fn code_after(code: u8, b: u8) -> u8
 // The rows of an accepted text before their parts are known: a loop over its bytes, a row at each first byte.
 fn begun_rows(text: &[u8]) -> NodeTable
     requires { ⌜ ((C : ℕ) × (k : ℕ) × (acceptOf C k (now text) ≡ Yes)) ⌝ }
-    ensures { λ r. ⌜ r ≡ tableOf (map begun (nodesIn (now (text .entry)))) ⌝ }
+    ensures { λ r. ⌜ r ≡ tableOf (map begun (nodesIn (old text))) ⌝ }
 {
     let mut table = empty_table();
     let mut code: u8 = 16;
@@ -139,7 +140,7 @@ fn digits_of(n: usize) -> usize
 
 // The part at a row: no nodes past the table.
 fn part_at<'a>(sizes: &'a [u8; MAX_NODES], lengths: &'a [u8; MAX_NODES], x: usize) -> Part
-    ensures { λ r. ⌜ (r ≡ partAt (now (sizes .entry)) (now (lengths .entry)) x) × (r .size ≤ 255) × (r .length ≤ 255) ⌝ }
+    ensures { λ r. ⌜ (r ≡ partAt (old sizes) (old lengths) x) × (r .size ≤ 255) × (r .length ≤ 255) ⌝ }
 {
     Part {
         size: scan::wide(byte_at(sizes, x)),
@@ -162,7 +163,7 @@ fn row_of(kind: u8, number: u8, size: usize, first: usize, length: usize) -> Row
 // The row of the node that the byte b begins at a place, p and q its parts. A letter begins no formula.
 fn row_from(text: &[u8], b: u8, code: u8, at: usize, p: Part, q: Part) -> Row
     requires { ⌜ (code ≤ 16) × (at ≤ 255) × (p .size ≤ 255) × (p .length ≤ 255) × (q .size ≤ 255) × (q .length ≤ 255) ⌝ }
-    ensures { λ r. ⌜ r ≡ rowFrom (now (text .entry)) b code at p q ⌝ }
+    ensures { λ r. ⌜ r ≡ rowFrom (old text) b code at p q ⌝ }
 {
     let size = 1 + p.size;
     let length = 1 + p.length;
@@ -194,7 +195,7 @@ fn row_at<'a>(
     x: usize,
 ) -> Row
     requires { ⌜ (x < maxNodes) × (getD (now kinds) x 0 ≤ 16) ⌝ }
-    ensures { λ r. ⌜ r ≡ rowAt (now (text .entry)) (now (kinds .entry)) (now (sizes .entry)) (now (firsts .entry)) (now (lengths .entry)) x ⌝ }
+    ensures { λ r. ⌜ r ≡ rowAt (old text) (old kinds) (old sizes) (old firsts) (old lengths) x ⌝ }
 {
     let at = scan::wide(byte_at(firsts, x));
     let p = part_at(sizes, lengths, x + 1);
@@ -205,7 +206,7 @@ fn row_at<'a>(
 // The rows of an accepted text: a loop over its nodes, the last first, so that each comes after its parts.
 pub fn rows_of(text: &[u8]) -> NodeTable
     requires { ⌜ ((C : ℕ) × (k : ℕ) × (acceptOf C k (now text) ≡ Yes)) ⌝ }
-    ensures { λ r. ⌜ r ≡ tableOf (map rowOf (nodesIn (now (text .entry)))) ⌝ }
+    ensures { λ r. ⌜ r ≡ tableOf (map rowOf (nodesIn (old text))) ⌝ }
 {
     let mut table = begun_rows(text);
     let mut x = table.count;

@@ -6,6 +6,7 @@ ghost use mathlib.Core.Bool.{true, cond};
 ghost use mathlib.Core.List.{[], _∷_};
 ghost use Prim.Native.Nat.{suc, _+_, _*_, _-_, _≤_, _<_};
 ghost use lib.ListN.{length, getD, take, drop};
+ghost use Rattle.moments.specs.Moments.{old};
 ghost use Rattle.grammar.specs.Limits.{maxNumber, maxLength};
 ghost use Rattle.grammar.specs.Reader.{isDigit};
 ghost use Rattle.scan.specs.Scans.{isOutside, aboveAt, numberFrom, capped, numberOf, digitOf, listOf, answersAt, foundIn};
@@ -57,7 +58,7 @@ fn with_digit(v: usize, b: u8) -> usize
 
 // The number from a place on, of any count of digits.
 pub fn number_at(text: &[u8], at: usize) -> usize
-    ensures { λ r. ⌜ (r ≡ numberFrom 0 (drop at (now (text .entry)))) × (r ≤ suc maxNumber) ⌝ }
+    ensures { λ r. ⌜ (r ≡ numberFrom 0 (drop at (old text))) × (r ≤ suc maxNumber) ⌝ }
 {
     let mut v: usize = 0;
     let mut i = at;
@@ -75,7 +76,7 @@ pub fn number_at(text: &[u8], at: usize) -> usize
 // The number of the duration that stands at a place.
 fn number_of(text: &[u8], at: usize) -> Number
     requires { ⌜ (length (now text) ≤ maxLength) × (at < length (now text)) ⌝ }
-    ensures { λ r. ⌜ (r .place ≡ digitOf (now (text .entry)) at) × (r .value ≡ numberOf (now (text .entry)) at) × (r .value ≤ suc maxNumber) × (r .place ≤ maxLength + 2) ⌝ }
+    ensures { λ r. ⌜ (r .place ≡ digitOf (old text) at) × (r .value ≡ numberOf (old text) at) × (r .value ≤ suc maxNumber) × (r .place ≤ maxLength + 2) ⌝ }
 {
     let place = reader::part_end(text, Sort::State, at + 1) + 2;
     Number {
@@ -97,7 +98,7 @@ fn find_if(yes: bool, place: usize) -> Find
 // The first digit of a number above the limit, at its duration's `#`.
 fn number_find(text: &[u8], i: usize) -> Find
     requires { ⌜ (length (now text) ≤ maxLength) × (i < length (now text)) ⌝ }
-    ensures { λ r. ⌜ (listOf r ≡ aboveAt (now (text .entry)) (getD (now (text .entry)) i 0) i) × (r .count ≤ 1) × (r .place ≤ maxLength + 2) ⌝ }
+    ensures { λ r. ⌜ (listOf r ≡ aboveAt (old text) (getD (old text) i 0) i) × (r .count ≤ 1) × (r .place ≤ maxLength + 2) ⌝ }
 {
     if text[i] != b'#' {
         return Find { count: 0, place: 0 };
@@ -109,7 +110,7 @@ fn number_find(text: &[u8], i: usize) -> Find
 // What a question finds at the byte at i.
 fn find_at(text: &[u8], a: Ask, i: usize) -> Find
     requires { ⌜ (length (now text) ≤ maxLength) × (i < length (now text)) ⌝ }
-    ensures { λ r. ⌜ (listOf r ≡ answersAt a (now (text .entry)) (getD (now (text .entry)) i 0) i) × (r .count ≤ 1) × (r .place ≤ maxLength + 2) ⌝ }
+    ensures { λ r. ⌜ (listOf r ≡ answersAt a (old text) (getD (old text) i 0) i) × (r .count ≤ 1) × (r .place ≤ maxLength + 2) ⌝ }
 {
     match a {
         Ask::Letters(c) => find_if(is_outside(c, text[i]), i),
@@ -121,7 +122,7 @@ fn find_at(text: &[u8], a: Ask, i: usize) -> Find
 // What a question finds first, after a number of finds.
 pub fn first_find(text: &[u8], a: Ask, skip: usize) -> Find
     requires { ⌜ length (now text) ≤ maxLength ⌝ }
-    ensures { λ r. ⌜ (listOf r ≡ take 1 (drop skip (foundIn a (now (text .entry))))) × (r .place ≤ maxLength + 2) ⌝ }
+    ensures { λ r. ⌜ (listOf r ≡ take 1 (drop skip (foundIn a (old text)))) × (r .place ≤ maxLength + 2) ⌝ }
 {
     let mut left = skip;
     let mut i = 0;

@@ -10,6 +10,7 @@ ghost use mathlib.Core.Path.{_≡_};
 ghost use mathlib.Core.List.{map};
 ghost use Prim.Native.Nat.{_*_, _^_, _≤_, _<_};
 ghost use lib.ListN.{length};
+ghost use Rattle.moments.specs.Moments.{old, new};
 ghost use Rattle.interval.specs.Limits.{maxSteps};
 ghost use Rattle.grammar.specs.Limits.{maxNodes, maxChannels};
 ghost use Rattle.grammar.specs.Trees.{Tree};
@@ -73,7 +74,7 @@ fn draw<'a>(
 ) -> Answer
     requires { ⌜ Ground c k (now kinds) (now numbers) (now sizes) (now firsts) (now seats) (now parents) count (length (now values)) × Tables k (now intervals) (now starts) ⌝ }
     requires { ⌜ (length (now values) ≤ length (now trail)) × (length (now values) < 2 ^ 32) × (length (now recording) ≡ k) ⌝ }
-    ensures { λ r. ⌜ record { answer = r; recording = now (recording .exit) } ≡ limited c k limit (now (recording .entry)) (tree (tableBy c k (now (kinds .entry)) (now (numbers .entry)) (now (sizes .entry)) (now (firsts .entry)) count) (length (now (values .entry))) (k * c)) ⌝ }
+    ensures { λ r. ⌜ record { answer = r; recording = new recording } ≡ limited c k limit (old recording) (tree (tableBy c k (old kinds) (old numbers) (old sizes) (old firsts) count) (length (old values)) (k * c)) ⌝ }
 {
     let below = tries::start(
         values,
@@ -116,7 +117,7 @@ fn search_lent(
     requires { ⌜ (c ≤ maxChannels) × (k ≤ maxSteps) × (table .count ≤ maxNodes) × TableFor c table ⌝ }
     requires { ⌜ Measured c k (table .kinds) (table .numbers) (table .count) (now firsts) s ⌝ }
     requires { ⌜ (s .variables ≤ length (now values)) × (s .variables ≤ length (now trail)) × (k ≤ length (now recording)) ⌝ }
-    ensures { λ r. ⌜ ((f : Tree Formula) → table ≡ tableOf (map rowOf (nodesOf f 0)) → record { answer = r; recording = now (recording .exit) } ≡ limited c k limit (now (recording .entry)) (treeOf c k f)) ⌝ }
+    ensures { λ r. ⌜ ((f : Tree Formula) → table ≡ tableOf (map rowOf (nodesOf f 0)) → record { answer = r; recording = new recording } ≡ limited c k limit (old recording) (treeOf c k f)) ⌝ }
 {
     let mut seats = [0; MAX_NODES];
     clause_table::put_seats(&table.kinds, &table.numbers, firsts, k, &mut seats);
@@ -160,8 +161,8 @@ fn search_table(
     recording: &mut [u8],
 ) -> Answer
     requires { ⌜ (c ≤ maxChannels) × (k ≤ maxSteps) × (table .count ≤ maxNodes) × TableFor c table ⌝ }
-    ensures { λ r. ⌜ ((f : Tree Formula) → table ≡ tableOf (map rowOf (nodesOf f 0)) → record { answer = r; recording = now (recording .exit) } ≡ searchedBy c k f limit (lentBy variables marks (now (values .entry)) (now (trail .entry)) (now (recording .entry))) (now (recording .entry))) ⌝ }
-    ensures { λ r. ⌜ Unchanged r (now (values .entry)) (now (values .exit)) × Unchanged r (now (trail .entry)) (now (trail .exit)) ⌝ }
+    ensures { λ r. ⌜ ((f : Tree Formula) → table ≡ tableOf (map rowOf (nodesOf f 0)) → record { answer = r; recording = new recording } ≡ searchedBy c k f limit (lentBy variables marks (old values) (old trail) (old recording)) (old recording)) ⌝ }
+    ensures { λ r. ⌜ Unchanged r (old values) (new values) × Unchanged r (old trail) (new trail) ⌝ }
 {
     let mut firsts = [0; MAX_NODES];
     let s = clause_table::sizes_of(&table.kinds, &table.numbers, table.count, c, k, &mut firsts);
@@ -190,9 +191,9 @@ pub fn search(
     trail: &mut [u32],
     recording: &mut [u8],
 ) -> Answer
-    ensures { λ r. ⌜ record { answer = r; recording = now (recording .exit) } ≡ searched c k (now (text .entry)) limit (lentOf (now (variables .entry)) (now (marks .entry)) (now (values .entry)) (now (trail .entry)) (now (recording .entry))) (now (recording .entry)) ⌝ }
-    ensures { λ r. ⌜ Unchanged r (now (variables .entry)) (now (variables .exit)) × Unchanged r (now (marks .entry)) (now (marks .exit)) ⌝ }
-    ensures { λ r. ⌜ Unchanged r (now (values .entry)) (now (values .exit)) × Unchanged r (now (trail .entry)) (now (trail .exit)) ⌝ }
+    ensures { λ r. ⌜ record { answer = r; recording = new recording } ≡ searched c k (old text) limit (lentOf (old variables) (old marks) (old values) (old trail) (old recording)) (old recording) ⌝ }
+    ensures { λ r. ⌜ Unchanged r (old variables) (new variables) × Unchanged r (old marks) (new marks) ⌝ }
+    ensures { λ r. ⌜ Unchanged r (old values) (new values) × Unchanged r (old trail) (new trail) ⌝ }
 {
     let tabled = nodes::node_table(text, c, k);
     let reply = tabled.reply;

@@ -7,6 +7,7 @@ use grammar::MAX_NODES;
 use interval::Interval;
 ghost use Prim.Native.Nat.{ℕ, _+_, _≤_, _<_};
 ghost use lib.ListN.{length};
+ghost use Rattle.moments.specs.Moments.{old, new};
 ghost use Rattle.interval.specs.Limits.{maxSteps, maxCount};
 ghost use Rattle.interval.specs.Listing.{rows};
 ghost use Rattle.interval.specs.Places.{countOf};
@@ -31,7 +32,7 @@ fn sweep_block(
 ) -> Closed
     requires { ⌜ (Bounded c k block × (block .points ≤ maxCount)) × Trailing (now values) (now trail) top ⌝ }
     requires { ⌜ AllMentioned (length (now values)) (definedBy c k block) ⌝ }
-    ensures { λ r. ⌜ Visited (clausesBy (definedBy c k block)) (now (values .entry)) (now (trail .entry)) top (now (values .exit)) (now (trail .exit)) r ⌝ }
+    ensures { λ r. ⌜ Visited (clausesBy (definedBy c k block)) (old values) (old trail) top (new values) (new trail) r ⌝ }
 {
     let rule = block.rule;
     let points = block.points;
@@ -71,7 +72,7 @@ fn sweep_chop(
 ) -> Closed
     requires { ⌜ Fine c k block × Trailing (now values) (now trail) top ⌝ }
     requires { ⌜ AllMentioned (length (now values)) (choppedBy c k (block .first + countOf k) block) ⌝ }
-    ensures { λ r. ⌜ Visited (clausesBy (choppedBy c k (block .first + countOf k) block)) (now (values .entry)) (now (trail .entry)) top (now (values .exit)) (now (trail .exit)) r ⌝ }
+    ensures { λ r. ⌜ Visited (clausesBy (choppedBy c k (block .first + countOf k) block)) (old values) (old trail) top (new values) (new trail) r ⌝ }
 {
     let w = node_clauses::beyond(block.first, k);
     let triples = node_clauses::triples_of(w, block);
@@ -94,7 +95,7 @@ pub fn sweep_node(
 ) -> Closed
     requires { ⌜ Fine c k block × Trailing (now values) (now trail) top ⌝ }
     requires { ⌜ AllMentioned (length (now values)) (nodeBy c k block (isChop (block .rule))) ⌝ }
-    ensures { λ r. ⌜ Visited (clausesBy (nodeBy c k block (isChop (block .rule)))) (now (values .entry)) (now (trail .entry)) top (now (values .exit)) (now (trail .exit)) r ⌝ }
+    ensures { λ r. ⌜ Visited (clausesBy (nodeBy c k block (isChop (block .rule)))) (old values) (old trail) top (new values) (new trail) r ⌝ }
 {
     let rule = block.rule;
     if blocks::is_chop(rule) {
@@ -118,7 +119,7 @@ fn sweep_nodes<'a>(
 ) -> Closed
     requires { ⌜ (c ≤ maxChannels) × (k ≤ maxSteps) × (count ≤ maxNodes) × Low (now firsts) × Trailing (now values) (now trail) top ⌝ }
     requires { ⌜ ((x : ℕ) → x < count → AllMentioned (length (now values)) (rowDefinitions c k (now kinds) (now numbers) (now sizes) (now firsts) x)) ⌝ }
-    ensures { λ r. ⌜ Visited (rows count (rowClauses c k (now (kinds .entry)) (now (numbers .entry)) (now (sizes .entry)) (now (firsts .entry)))) (now (values .entry)) (now (trail .entry)) top (now (values .exit)) (now (trail .exit)) r ⌝ }
+    ensures { λ r. ⌜ Visited (rows count (rowClauses c k (old kinds) (old numbers) (old sizes) (old firsts))) (old values) (old trail) top (new values) (new trail) r ⌝ }
 {
     let mut t = top;
     for x in 0..count {
@@ -151,7 +152,7 @@ pub fn sweep<'a>(
     requires { ⌜ (c ≤ maxChannels) × (k ≤ maxSteps) × (count ≤ maxNodes) × Low (now firsts) × Trailing (now values) (now trail) top ⌝ }
     requires { ⌜ Variable (length (now values)) (seatBy (now kinds) (now numbers) (now firsts) k 0 + k) ⌝ }
     requires { ⌜ ((x : ℕ) → x < count → AllMentioned (length (now values)) (rowDefinitions c k (now kinds) (now numbers) (now sizes) (now firsts) x)) ⌝ }
-    ensures { λ r. ⌜ Visited (tableBy c k (now (kinds .entry)) (now (numbers .entry)) (now (sizes .entry)) (now (firsts .entry)) count) (now (values .entry)) (now (trail .entry)) top (now (values .exit)) (now (trail .exit)) r ⌝ }
+    ensures { λ r. ⌜ Visited (tableBy c k (old kinds) (old numbers) (old sizes) (old firsts) count) (old values) (old trail) top (new values) (new trail) r ⌝ }
 {
     let r = sweep_nodes(
         values,

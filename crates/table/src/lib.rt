@@ -5,6 +5,7 @@ ghost use mathlib.Core.Bool.{Bool, not, cond};
 ghost use lib.Dec.{eqb};
 ghost use Prim.Native.Nat.{ℕ, suc, _+_, _-_, _≤_};
 ghost use lib.ListN.{length, replicate};
+ghost use Rattle.moments.specs.Moments.{old, new};
 ghost use Rattle.interval.specs.Limits.{maxSteps, maxCount};
 ghost use Rattle.interval.specs.Places.{countOf};
 ghost use Rattle.interval.specs.declared.Interval.{Interval};
@@ -65,7 +66,7 @@ fn measured_row(
     i: usize,
 )
     requires { ⌜ (i + length (now row) ≤ suc maxSteps) × Lows (now lows) ⌝ }
-    ensures { λ r. ⌜ RowOf i (measured kind n (bitAt word)) (now (row .exit)) ⌝ }
+    ensures { λ r. ⌜ RowOf i (measured kind n (bitAt word)) (new row) ⌝ }
 {
     for d in 0..row.len() {
         row[d] = measured_on(kind, n, lows, word, i, i + d);
@@ -101,7 +102,7 @@ pub fn joined_byte(kind: u8, a: u8, b: u8) -> u8
 // The table of `!`, `&` or `|`, from those of its parts, in the place of the first.
 pub fn join(kind: u8, p: &mut [u8], q: &[u8], k: usize)
     requires { ⌜ (k ≤ maxSteps) × (countOf k ≤ length (now p)) × (countOf k ≤ length (now q)) ⌝ }
-    ensures { λ r. ⌜ ((f g : Interval → Bool) → TableOf k f (now (p .entry)) → TableOf k g (now (q .entry)) → TableOf k (λ v. joined kind (f v) (g v)) (now (p .exit))) ⌝ }
+    ensures { λ r. ⌜ ((f g : Interval → Bool) → TableOf k f (old p) → TableOf k g (old q) → TableOf k (λ v. joined kind (f v) (g v)) (new p)) ⌝ }
 {
     for x in 0..Interval::count(k) {
         p[x] = joined_byte(kind, p[x], q[x]);

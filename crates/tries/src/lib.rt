@@ -7,6 +7,7 @@ use interval::Interval;
 ghost use mathlib.Core.Path.{_≡_};
 ghost use Prim.Native.Nat.{ℕ, _-_, _*_, _^_, _≤_, _<_};
 ghost use lib.ListN.{length, getD};
+ghost use Rattle.moments.specs.Moments.{old, new};
 ghost use Rattle.clauses.specs.Clauses.{plain};
 ghost use Rattle.clauses.specs.Entries.{entry, literalOf};
 ghost use Rattle.closure.specs.Closure.{nothing};
@@ -29,7 +30,7 @@ pub enum Below {
 // The lowest open channel variable, or 0 where none is open.
 fn lowest_open(values: &[u8], channels: u32) -> u32
     requires { ⌜ (channels ≤ length (now values)) × ((x : ℕ) → getD (now values) x 0 ≤ 2) ⌝ }
-    ensures { λ r. ⌜ Openness (now (values .entry)) channels r ⌝ }
+    ensures { λ r. ⌜ Openness (old values) channels r ⌝ }
 {
     let mut v = 0;
     while v < channels {
@@ -62,7 +63,7 @@ fn try_literal<'a>(
 ) -> Closed
     requires { ⌜ Ground c k (now kinds) (now numbers) (now sizes) (now firsts) (now seats) (now parents) count (length (now values)) × Tables k (now intervals) (now starts) ⌝ }
     requires { ⌜ Ready (tableBy c k (now kinds) (now numbers) (now sizes) (now firsts) count) (now values) (now trail) top v ⌝ }
-    ensures { λ r. ⌜ Tried (tableBy c k (now (kinds .entry)) (now (numbers .entry)) (now (sizes .entry)) (now (firsts .entry)) count) (literalOf (entry v mark)) (now (values .entry)) (now (trail .entry)) top (now (values .exit)) (now (trail .exit)) r ⌝ }
+    ensures { λ r. ⌜ Tried (tableBy c k (old kinds) (old numbers) (old sizes) (old firsts) count) (literalOf (entry v mark)) (old values) (old trail) top (new values) (new trail) r ⌝ }
 {
     let added = closing::add(values, trail, top, v, mark);
     queue::close(
@@ -104,7 +105,7 @@ fn try_high<'a>(
 ) -> Closed
     requires { ⌜ Ground c k (now kinds) (now numbers) (now sizes) (now firsts) (now seats) (now parents) count (length (now values)) × Tables k (now intervals) (now starts) ⌝ }
     requires { ⌜ Undoable (tableBy c k (now kinds) (now numbers) (now sizes) (now firsts) count) (now values) (now trail) from to ⌝ }
-    ensures { λ r. ⌜ Tried (tableBy c k (now (kinds .entry)) (now (numbers .entry)) (now (sizes .entry)) (now (firsts .entry)) count) (plain (getD (now (trail .entry)) from 0)) (undone (now (trail .entry)) from (to - from) (now (values .entry))) (now (trail .entry)) from (now (values .exit)) (now (trail .exit)) r ⌝ }
+    ensures { λ r. ⌜ Tried (tableBy c k (old kinds) (old numbers) (old sizes) (old firsts) count) (plain (getD (old trail) from 0)) (undone (old trail) from (to - from) (old values)) (old trail) from (new values) (new trail) r ⌝ }
 {
     closing::undo(values, trail, from, to);
     let v = trail[from];
@@ -150,7 +151,7 @@ fn descend<'a>(
 ) -> Below
     requires { ⌜ Ground c k (now kinds) (now numbers) (now sizes) (now firsts) (now seats) (now parents) count (length (now values)) × Tables k (now intervals) (now starts) ⌝ }
     requires { ⌜ Holding (tableBy c k (now kinds) (now numbers) (now sizes) (now firsts) count) nothing (now values) (now trail) closed ⌝ }
-    ensures { λ r. ⌜ Started (tableBy c k (now (kinds .entry)) (now (numbers .entry)) (now (sizes .entry)) (now (firsts .entry)) count) (length (now (values .entry))) (k * c) limit (now (values .exit)) r ⌝ }
+    ensures { λ r. ⌜ Started (tableBy c k (old kinds) (old numbers) (old sizes) (old firsts) count) (length (old values)) (k * c) limit (new values) r ⌝ }
 {
     let channels = k * c;
     let mut levels = [0; MAX_DEPTH];
@@ -219,7 +220,7 @@ fn descend<'a>(
 
 // No variable has a value.
 fn clear(values: &mut [u8])
-    ensures { λ _. ⌜ ((x : ℕ) → getD (now (values .exit)) x 0 ≡ 0) ⌝ }
+    ensures { λ _. ⌜ ((x : ℕ) → getD (new values) x 0 ≡ 0) ⌝ }
 {
     for x in 0..values.len() {
         values[x] = 0;
@@ -245,7 +246,7 @@ pub fn start<'a>(
 ) -> Below
     requires { ⌜ Ground c k (now kinds) (now numbers) (now sizes) (now firsts) (now seats) (now parents) count (length (now values)) × Tables k (now intervals) (now starts) ⌝ }
     requires { ⌜ (length (now values) ≤ length (now trail)) × (length (now values) < 2 ^ 32) ⌝ }
-    ensures { λ r. ⌜ Started (tableBy c k (now (kinds .entry)) (now (numbers .entry)) (now (sizes .entry)) (now (firsts .entry)) count) (length (now (values .entry))) (k * c) limit (now (values .exit)) r ⌝ }
+    ensures { λ r. ⌜ Started (tableBy c k (old kinds) (old numbers) (old sizes) (old firsts) count) (length (old values)) (k * c) limit (new values) r ⌝ }
 {
     clear(values);
     let closed = queue::start(

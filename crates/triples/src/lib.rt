@@ -4,6 +4,7 @@ use closing::Closed;
 use interval::Triple;
 ghost use mathlib.Core.Path.{_≡_};
 ghost use Prim.Native.Nat.{_+_, _-_, _≤_, _<_};
+ghost use Rattle.moments.specs.Moments.{old, new};
 ghost use Rattle.interval.specs.Limits.{maxSteps};
 ghost use Rattle.interval.specs.Places.{countOf, triplePlaceOf};
 ghost use Rattle.blocks.specs.Blocks.{bound};
@@ -38,7 +39,7 @@ pub fn visit_first(
     m: u32,
 ) -> Closed
     requires { ⌜ Standing c k block (now values) (now trail) top × (all ≡ countOf k) × (block .rule ≡ Cut) × (i ≤ m) × (m ≤ k) ⌝ }
-    ensures { λ r. ⌜ Visited (firstClauses c k block i m) (now (values .entry)) (now (trail .entry)) top (now (values .exit)) (now (trail .exit)) r ⌝ }
+    ensures { λ r. ⌜ Visited (firstClauses c k block i m) (old values) (old trail) top (new values) (new trail) r ⌝ }
 {
     let x = block.left + blocks::place(i, m - i, k, all);
     let start = blocks::place(m, 0, k, all);
@@ -73,7 +74,7 @@ pub fn visit_second(
     j: u32,
 ) -> Closed
     requires { ⌜ Standing c k block (now values) (now trail) top × (all ≡ countOf k) × (block .rule ≡ Cut) × (m ≤ j) × (j ≤ k) ⌝ }
-    ensures { λ r. ⌜ Visited (secondClauses c k block m j) (now (values .entry)) (now (trail .entry)) top (now (values .exit)) (now (trail .exit)) r ⌝ }
+    ensures { λ r. ⌜ Visited (secondClauses c k block m j) (old values) (old trail) top (new values) (new trail) r ⌝ }
 {
     let start = blocks::place(m, j - m, k, all);
     let mut x = block.left + m;

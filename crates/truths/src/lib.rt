@@ -3,6 +3,7 @@ use interval::Interval;
 ghost use mathlib.Core.Path.{_≡_};
 ghost use Prim.Native.Nat.{ℕ, _+_, _-_, _≤_, _<_, min};
 ghost use lib.ListN.{length, getD};
+ghost use Rattle.moments.specs.Moments.{old, new};
 ghost use Rattle.interval.specs.Listing.{tab};
 ghost use Rattle.interval.specs.Limits.{maxSteps, maxCount};
 ghost use Rattle.grammar.specs.Limits.{maxChannels};
@@ -24,7 +25,7 @@ fn places_from(length: usize, at: usize, n: usize) -> usize
 // The truths of n variables from `first` on, and then zeros; a variable past the assignment's end has none.
 pub fn truth_from(assignment: &[u8], first: u32, n: usize) -> [u8; Interval::MAX_COUNT]
     requires { ⌜ n ≤ maxCount ⌝ }
-    ensures { λ r. ⌜ Binary r × ((e : ℕ) → e < n → highAt r e ≡ highAt (now (assignment .entry)) (first - 1 + e)) ⌝ }
+    ensures { λ r. ⌜ Binary r × ((e : ℕ) → e < n → highAt r e ≡ highAt (old assignment) (first - 1 + e)) ⌝ }
 {
     let mut t = table::all_of(0);
     let at = if first == 0 { 0 } else { first as usize - 1 };
@@ -37,7 +38,7 @@ pub fn truth_from(assignment: &[u8], first: u32, n: usize) -> [u8; Interval::MAX
 // The first bytes of a table.
 pub fn put_table(out: &mut [u8], t: &[u8; Interval::MAX_COUNT])
     requires { ⌜ length (now out) ≤ maxCount ⌝ }
-    ensures { λ _. ⌜ now (out .exit) ≡ tab (length (now (out .entry))) (λ e. getD (now (t .entry)) e 0) ⌝ }
+    ensures { λ _. ⌜ new out ≡ tab (length (old out)) (λ e. getD (old t) e 0) ⌝ }
 {
     for e in 0..out.len() {
         out[e] = t[e];
@@ -55,7 +56,7 @@ pub fn bit_of(byte: u8, c: usize) -> u8
 // A letter: channel c at each instant.
 pub fn put_channel(out: &mut [u8], recording: &[u8], c: usize)
     requires { ⌜ c < maxChannels ⌝ }
-    ensures { λ _. ⌜ now (out .exit) ≡ tab (length (now (out .entry))) (λ t. bit (channelAt (now (recording .entry)) c t)) ⌝ }
+    ensures { λ _. ⌜ new out ≡ tab (length (old out)) (λ t. bit (channelAt (old recording) c t)) ⌝ }
 {
     for t in 0..out.len() {
         out[t] = bit_of(rows::byte_at(recording, t), c);
@@ -70,7 +71,7 @@ pub fn put_joined(
     q: &[u8; Interval::MAX_COUNT],
 )
     requires { ⌜ (length (now out) ≤ maxCount) × Binary (now p) × Binary (now q) ⌝ }
-    ensures { λ _. ⌜ now (out .exit) ≡ tab (length (now (out .entry))) (λ e. bit (joined kind (highAt (now (p .entry)) e) (highAt (now (q .entry)) e))) ⌝ }
+    ensures { λ _. ⌜ new out ≡ tab (length (old out)) (λ e. bit (joined kind (highAt (old p) e) (highAt (old q) e))) ⌝ }
 {
     for e in 0..out.len() {
         out[e] = table::joined_byte(kind, p[e], q[e]);
@@ -80,7 +81,7 @@ pub fn put_joined(
 // The word of a state assertion, from its truths.
 pub fn word_of(p: &[u8; Interval::MAX_COUNT], k: usize) -> u32
     requires { ⌜ (k ≤ maxSteps) × Binary (now p) ⌝ }
-    ensures { λ r. ⌜ WordOf k (highAt (now (p .entry))) r ⌝ }
+    ensures { λ r. ⌜ WordOf k (highAt (old p)) r ⌝ }
 {
     let mut word: u32 = 0;
     for t in 0..k {

@@ -3,6 +3,7 @@
 use clause_table::Sizes;
 ghost use mathlib.Core.Path.{_≡_};
 ghost use mathlib.Core.List.{[], _∷_};
+ghost use Rattle.moments.specs.Moments.{old, new};
 ghost use Rattle.evaluator.specs.Evaluation.{evaluated};
 ghost use Rattle.nodes.specs.Calls.{nodePlaceOf};
 ghost use Rattle.clause_table.specs.Table.{tabled};
@@ -15,7 +16,7 @@ ghost use Rattle.answers.specs.Answers.{packVerdict, packLocated, packWritten, 
 // Whether the recording satisfies the formula on [i, j]: questions 1 to 7 and 9 to 11.
 #[no_mangle]
 pub extern "C" fn tuv_evaluate(text: &[u8], c: u32, k: u32, i: u32, j: u32, recording: &[u8]) -> u64
-    ensures { λ r. ⌜ r ≡ packVerdict (evaluated c k i j (now (text .entry)) (now (recording .entry))) ⌝ }
+    ensures { λ r. ⌜ r ≡ packVerdict (evaluated c k i j (old text) (old recording)) ⌝ }
 {
     answers::pack_verdict(evaluator::evaluate(text, c, k, i, j, recording))
 }
@@ -23,7 +24,7 @@ pub extern "C" fn tuv_evaluate(text: &[u8], c: u32, k: u32, i: u32, j: u32, reco
 // Where a node's own text is in the lent text: questions 1 to 8.
 #[no_mangle]
 pub extern "C" fn tuv_node_text(text: &[u8], c: u32, k: u32, node: u32) -> u64
-    ensures { λ r. ⌜ r ≡ packLocated (nodePlaceOf c k node (now (text .entry))) ⌝ }
+    ensures { λ r. ⌜ r ≡ packLocated (nodePlaceOf c k node (old text)) ⌝ }
 {
     answers::pack_located(nodes::node_place(text, c, k, node))
 }
@@ -38,10 +39,10 @@ pub extern "C" fn tuv_table(
     variables: &mut [u32],
     marks: &mut [u8],
 ) -> u64
-    ensures { λ r. ⌜ r ≡ packWritten (tabled c k (now (text .entry)) (now (sizes .entry)) (now (variables .entry)) (now (marks .entry)) .answer) ⌝ }
-    ensures { λ r. ⌜ now (sizes .exit) ≡ tabled c k (now (text .entry)) (now (sizes .entry)) (now (variables .entry)) (now (marks .entry)) .sizes ⌝ }
-    ensures { λ r. ⌜ now (variables .exit) ≡ tabled c k (now (text .entry)) (now (sizes .entry)) (now (variables .entry)) (now (marks .entry)) .variables ⌝ }
-    ensures { λ r. ⌜ now (marks .exit) ≡ tabled c k (now (text .entry)) (now (sizes .entry)) (now (variables .entry)) (now (marks .entry)) .marks ⌝ }
+    ensures { λ r. ⌜ r ≡ packWritten (tabled c k (old text) (old sizes) (old variables) (old marks) .answer) ⌝ }
+    ensures { λ r. ⌜ new sizes ≡ tabled c k (old text) (old sizes) (old variables) (old marks) .sizes ⌝ }
+    ensures { λ r. ⌜ new variables ≡ tabled c k (old text) (old sizes) (old variables) (old marks) .variables ⌝ }
+    ensures { λ r. ⌜ new marks ≡ tabled c k (old text) (old sizes) (old variables) (old marks) .marks ⌝ }
 {
     answers::pack_written(clause_table::table(text, c, k, sizes, variables, marks))
 }
@@ -55,8 +56,8 @@ pub extern "C" fn tuv_extend(
     recording: &[u8],
     assignment: &mut [u8],
 ) -> u64
-    ensures { λ r. ⌜ r ≡ packWritten (extended c k (now (text .entry)) (now (recording .entry)) (now (assignment .entry)) .answer) ⌝ }
-    ensures { λ r. ⌜ now (assignment .exit) ≡ extended c k (now (text .entry)) (now (recording .entry)) (now (assignment .entry)) .assignment ⌝ }
+    ensures { λ r. ⌜ r ≡ packWritten (extended c k (old text) (old recording) (old assignment) .answer) ⌝ }
+    ensures { λ r. ⌜ new assignment ≡ extended c k (old text) (old recording) (old assignment) .assignment ⌝ }
 {
     answers::pack_written(extension::extend(text, c, k, recording, assignment))
 }
@@ -70,8 +71,8 @@ pub extern "C" fn tuv_check(
     assignment: &[u8],
     recording: &mut [u8],
 ) -> u64
-    ensures { λ r. ⌜ r ≡ packChecked (proposed c k (now (text .entry)) (now (assignment .entry)) (now (recording .entry)) .answer) ⌝ }
-    ensures { λ r. ⌜ now (recording .exit) ≡ proposed c k (now (text .entry)) (now (assignment .entry)) (now (recording .entry)) .recording ⌝ }
+    ensures { λ r. ⌜ r ≡ packChecked (proposed c k (old text) (old assignment) (old recording) .answer) ⌝ }
+    ensures { λ r. ⌜ new recording ≡ proposed c k (old text) (old assignment) (old recording) .recording ⌝ }
 {
     answers::pack_checked(proposal::check(text, c, k, assignment, recording))
 }
@@ -89,10 +90,10 @@ pub extern "C" fn tuv_search(
     trail: &mut [u32],
     recording: &mut [u8],
 ) -> u64
-    ensures { λ r. ⌜ r ≡ packAnswer (searched c k (now (text .entry)) limit (lentOf (now (variables .entry)) (now (marks .entry)) (now (values .entry)) (now (trail .entry)) (now (recording .entry))) (now (recording .entry)) .answer) ⌝ }
-    ensures { λ r. ⌜ now (recording .exit) ≡ searched c k (now (text .entry)) limit (lentOf (now (variables .entry)) (now (marks .entry)) (now (values .entry)) (now (trail .entry)) (now (recording .entry))) (now (recording .entry)) .recording ⌝ }
-    ensures { λ r. ⌜ Unchanged (searched c k (now (text .entry)) limit (lentOf (now (variables .entry)) (now (marks .entry)) (now (values .entry)) (now (trail .entry)) (now (recording .entry))) (now (recording .entry)) .answer) (now (variables .entry)) (now (variables .exit)) × Unchanged (searched c k (now (text .entry)) limit (lentOf (now (variables .entry)) (now (marks .entry)) (now (values .entry)) (now (trail .entry)) (now (recording .entry))) (now (recording .entry)) .answer) (now (marks .entry)) (now (marks .exit)) ⌝ }
-    ensures { λ r. ⌜ Unchanged (searched c k (now (text .entry)) limit (lentOf (now (variables .entry)) (now (marks .entry)) (now (values .entry)) (now (trail .entry)) (now (recording .entry))) (now (recording .entry)) .answer) (now (values .entry)) (now (values .exit)) × Unchanged (searched c k (now (text .entry)) limit (lentOf (now (variables .entry)) (now (marks .entry)) (now (values .entry)) (now (trail .entry)) (now (recording .entry))) (now (recording .entry)) .answer) (now (trail .entry)) (now (trail .exit)) ⌝ }
+    ensures { λ r. ⌜ r ≡ packAnswer (searched c k (old text) limit (lentOf (old variables) (old marks) (old values) (old trail) (old recording)) (old recording) .answer) ⌝ }
+    ensures { λ r. ⌜ new recording ≡ searched c k (old text) limit (lentOf (old variables) (old marks) (old values) (old trail) (old recording)) (old recording) .recording ⌝ }
+    ensures { λ r. ⌜ Unchanged (searched c k (old text) limit (lentOf (old variables) (old marks) (old values) (old trail) (old recording)) (old recording) .answer) (old variables) (new variables) × Unchanged (searched c k (old text) limit (lentOf (old variables) (old marks) (old values) (old trail) (old recording)) (old recording) .answer) (old marks) (new marks) ⌝ }
+    ensures { λ r. ⌜ Unchanged (searched c k (old text) limit (lentOf (old variables) (old marks) (old values) (old trail) (old recording)) (old recording) .answer) (old values) (new values) × Unchanged (searched c k (old text) limit (lentOf (old variables) (old marks) (old values) (old trail) (old recording)) (old recording) .answer) (old trail) (new trail) ⌝ }
 {
     answers::pack_answer(search::search(
         text,
@@ -119,8 +120,8 @@ pub extern "C" fn tuv_write_file(
     marks: &[u8],
     file: &mut [u8],
 ) -> u64
-    ensures { λ r. ⌜ r ≡ packWritten (fileWritten (sizesBy (c ∷ k ∷ v ∷ m ∷ l ∷ [])) (now (variables .entry)) (now (marks .entry)) (now (file .entry)) .answer) ⌝ }
-    ensures { λ r. ⌜ now (file .exit) ≡ fileWritten (sizesBy (c ∷ k ∷ v ∷ m ∷ l ∷ [])) (now (variables .entry)) (now (marks .entry)) (now (file .entry)) .file ⌝ }
+    ensures { λ r. ⌜ r ≡ packWritten (fileWritten (sizesBy (c ∷ k ∷ v ∷ m ∷ l ∷ [])) (old variables) (old marks) (old file) .answer) ⌝ }
+    ensures { λ r. ⌜ new file ≡ fileWritten (sizesBy (c ∷ k ∷ v ∷ m ∷ l ∷ [])) (old variables) (old marks) (old file) .file ⌝ }
 {
     let s = Sizes {
         channels: c,
@@ -140,10 +141,10 @@ pub extern "C" fn tuv_read_file(
     variables: &mut [u32],
     marks: &mut [u8],
 ) -> u64
-    ensures { λ r. ⌜ r ≡ packWritten (fileRead (now (file .entry)) (now (sizes .entry)) (now (variables .entry)) (now (marks .entry)) .answer) ⌝ }
-    ensures { λ r. ⌜ now (sizes .exit) ≡ fileRead (now (file .entry)) (now (sizes .entry)) (now (variables .entry)) (now (marks .entry)) .sizes ⌝ }
-    ensures { λ r. ⌜ now (variables .exit) ≡ fileRead (now (file .entry)) (now (sizes .entry)) (now (variables .entry)) (now (marks .entry)) .variables ⌝ }
-    ensures { λ r. ⌜ now (marks .exit) ≡ fileRead (now (file .entry)) (now (sizes .entry)) (now (variables .entry)) (now (marks .entry)) .marks ⌝ }
+    ensures { λ r. ⌜ r ≡ packWritten (fileRead (old file) (old sizes) (old variables) (old marks) .answer) ⌝ }
+    ensures { λ r. ⌜ new sizes ≡ fileRead (old file) (old sizes) (old variables) (old marks) .sizes ⌝ }
+    ensures { λ r. ⌜ new variables ≡ fileRead (old file) (old sizes) (old variables) (old marks) .variables ⌝ }
+    ensures { λ r. ⌜ new marks ≡ fileRead (old file) (old sizes) (old variables) (old marks) .marks ⌝ }
 {
     answers::pack_written(clause_file::read(file, sizes, variables, marks))
 }

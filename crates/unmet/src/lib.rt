@@ -8,6 +8,7 @@ use refusal::Reply;
 ghost use mathlib.Core.Path.{_≡_};
 ghost use Prim.Native.Nat.{ℕ, _+_, _≤_, _<_};
 ghost use lib.ListN.{length};
+ghost use Rattle.moments.specs.Moments.{old};
 ghost use Rattle.interval.specs.Limits.{maxCount};
 ghost use Rattle.interval.specs.Places.{countOf};
 ghost use Rattle.blocks.specs.Blocks.{isChop, definedBy, bound, Bounded};
@@ -22,7 +23,7 @@ ghost use Rattle.unmet.specs.Walk.{constants};
 // Question 14 of the clauses of n variables from w on that are all to be high or low (up), one clause each, numbered from m on.
 fn ask_constants(assignment: &[u8], w: u32, n: u32, up: bool, m: u32) -> Reply
     requires { ⌜ (w < bound) × (n ≤ maxCount) × (m < bound) × ((e : ℕ) → e < n → Variable (length (now assignment)) (w + e)) ⌝ }
-    ensures { λ r. ⌜ r ≡ askClauses (valueIn (now (assignment .entry))) m (clausesBy (constants w n up)) ⌝ }
+    ensures { λ r. ⌜ r ≡ askClauses (valueIn (old assignment)) m (clausesBy (constants w n up)) ⌝ }
 {
     let mut e = 0;
     while e < n {
@@ -41,7 +42,7 @@ fn ask_constants(assignment: &[u8], w: u32, n: u32, up: bool, m: u32) -> Reply
 fn ask_block(assignment: &[u8], c: u32, k: u32, block: Block, n: u32) -> Reply
     requires { ⌜ (Bounded c k block × (block .points ≤ maxCount)) × (n ≤ maxSum + maxWeight) ⌝ }
     requires { ⌜ AllMentioned (length (now assignment)) (definedBy c k block) ⌝ }
-    ensures { λ r. ⌜ r ≡ askClauses (valueIn (now (assignment .entry))) n (clausesBy (definedBy c k block)) ⌝ }
+    ensures { λ r. ⌜ r ≡ askClauses (valueIn (old assignment)) n (clausesBy (definedBy c k block)) ⌝ }
 {
     let rule = block.rule;
     let points = block.points;
@@ -70,7 +71,7 @@ fn ask_block(assignment: &[u8], c: u32, k: u32, block: Block, n: u32) -> Reply
 fn ask_chop(assignment: &[u8], c: u32, k: u32, block: Block, n: u32) -> Reply
     requires { ⌜ Fine c k block × (n ≤ maxSum) ⌝ }
     requires { ⌜ AllMentioned (length (now assignment)) (choppedBy c k (block .first + countOf k) block) ⌝ }
-    ensures { λ r. ⌜ r ≡ askClauses (valueIn (now (assignment .entry))) n (clausesBy (choppedBy c k (block .first + countOf k) block)) ⌝ }
+    ensures { λ r. ⌜ r ≡ askClauses (valueIn (old assignment)) n (clausesBy (choppedBy c k (block .first + countOf k) block)) ⌝ }
 {
     let w = node_clauses::beyond(block.first, k);
     let triples = node_clauses::triples_of(w, block);
@@ -86,7 +87,7 @@ fn ask_chop(assignment: &[u8], c: u32, k: u32, block: Block, n: u32) -> Reply
 pub fn ask_node(assignment: &[u8], c: u32, k: u32, block: Block, n: u32) -> Reply
     requires { ⌜ Fine c k block × (n ≤ maxSum) ⌝ }
     requires { ⌜ AllMentioned (length (now assignment)) (nodeBy c k block (isChop (block .rule))) ⌝ }
-    ensures { λ r. ⌜ r ≡ askClauses (valueIn (now (assignment .entry))) n (clausesBy (nodeBy c k block (isChop (block .rule)))) ⌝ }
+    ensures { λ r. ⌜ r ≡ askClauses (valueIn (old assignment)) n (clausesBy (nodeBy c k block (isChop (block .rule)))) ⌝ }
 {
     let rule = block.rule;
     if blocks::is_chop(rule) {

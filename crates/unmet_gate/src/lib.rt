@@ -5,6 +5,7 @@ use refusal::Reply;
 ghost use mathlib.Core.Path.{_≡_};
 ghost use Prim.Native.Nat.{ℕ, _+_, _≤_, _<_};
 ghost use lib.ListN.{length};
+ghost use Rattle.moments.specs.Moments.{old};
 ghost use Rattle.refusal.specs.declared.Reply.the-variants.{No};
 ghost use Rattle.circuit.specs.Gates.{valueOf};
 ghost use Rattle.blocks.specs.Blocks.{bound};
@@ -19,7 +20,7 @@ ghost use Rattle.unmet_gate.specs.First.{FirstHigh};
 // Whether variable v is high.
 pub fn high(assignment: &[u8], v: u32) -> bool
     requires { ⌜ Variable (length (now assignment)) v ⌝ }
-    ensures { λ r. ⌜ r ≡ valueIn (now (assignment .entry)) v ⌝ }
+    ensures { λ r. ⌜ r ≡ valueIn (old assignment) v ⌝ }
 {
     assignment[v as usize - 1] == 1
 }
@@ -27,7 +28,7 @@ pub fn high(assignment: &[u8], v: u32) -> bool
 // How many of n variables from w on are low before the first that is high.
 fn first_high(assignment: &[u8], w: u32, n: u32) -> u32
     requires { ⌜ (w + n ≤ 4294967296) × ((e : ℕ) → e < n → Variable (length (now assignment)) (w + e)) ⌝ }
-    ensures { λ r. ⌜ FirstHigh (valueIn (now (assignment .entry))) w n r ⌝ }
+    ensures { λ r. ⌜ FirstHigh (valueIn (old assignment)) w n r ⌝ }
 {
     let mut e = 0;
     while e < n {
@@ -42,7 +43,7 @@ fn first_high(assignment: &[u8], w: u32, n: u32) -> u32
 // The gate's value.
 fn value(assignment: &[u8], gate: Gate) -> bool
     requires { ⌜ InputsIn (length (now assignment)) gate × Within gate ⌝ }
-    ensures { λ r. ⌜ r ≡ valueOf (valueIn (now (assignment .entry))) gate ⌝ }
+    ensures { λ r. ⌜ r ≡ valueOf (valueIn (old assignment)) gate ⌝ }
 {
     match gate {
         Gate::Constant(up) => up,
@@ -58,7 +59,7 @@ fn value(assignment: &[u8], gate: Gate) -> bool
 // Which clause is the first unmet one, from 0, of a gate whose variable is high or low (up) where its value is not.
 fn first_unmet(assignment: &[u8], up: bool, gate: Gate) -> u32
     requires { ⌜ InputsIn (length (now assignment)) gate × Within gate ⌝ }
-    ensures { λ r. ⌜ ((v n : ℕ) → up ≡ valueIn (now (assignment .entry)) v → (up ≡ valueOf (valueIn (now (assignment .entry))) gate → ⊥) → No (record { number = 14; place = n + r }) ≡ askClauses (valueIn (now (assignment .entry))) n (clausesOf v gate)) ⌝ }
+    ensures { λ r. ⌜ ((v n : ℕ) → up ≡ valueIn (old assignment) v → (up ≡ valueOf (valueIn (old assignment)) gate → ⊥) → No (record { number = 14; place = n + r }) ≡ askClauses (valueIn (old assignment)) n (clausesOf v gate)) ⌝ }
 {
     match gate {
         Gate::Constant(_) => 0,
@@ -90,7 +91,7 @@ fn first_unmet(assignment: &[u8], up: bool, gate: Gate) -> u32
 // Question 14 of a gate's clauses, numbered from n on: all are met where the variable has the gate's value.
 pub fn ask_gate(assignment: &[u8], v: u32, gate: Gate, n: u32) -> Reply
     requires { ⌜ Variable (length (now assignment)) v × InputsIn (length (now assignment)) gate × Within gate × (weightOf clauseWeight gate ≤ maxWeight) × (n < bound) ⌝ }
-    ensures { λ r. ⌜ r ≡ askClauses (valueIn (now (assignment .entry))) n (clausesOf v gate) ⌝ }
+    ensures { λ r. ⌜ r ≡ askClauses (valueIn (old assignment)) n (clausesOf v gate) ⌝ }
 {
     let up = high(assignment, v);
     if up == value(assignment, gate) {

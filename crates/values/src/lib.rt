@@ -7,6 +7,7 @@ ghost use mathlib.Core.Bool.{Bool};
 ghost use mathlib.Core.List.{_++_};
 ghost use Prim.Native.Nat.{ℕ, suc, _+_, _*_, _≤_};
 ghost use lib.ListN.{length};
+ghost use Rattle.moments.specs.Moments.{old, new};
 ghost use Rattle.interval.specs.Listing.{rows, tab};
 ghost use Rattle.interval.specs.Limits.{maxSteps};
 ghost use Rattle.interval.specs.Places.{countOf, tripleCountOf};
@@ -22,7 +23,7 @@ ghost use Rattle.values.specs.Values.{valuesBy, Fits};
 // An instant's channels.
 fn put_instant(out: &mut [u8], byte: u8)
     requires { ⌜ length (now out) ≤ maxChannels ⌝ }
-    ensures { λ _. ⌜ now (out .exit) ≡ tab (length (now (out .entry))) (λ c. bit (bitAt byte c)) ⌝ }
+    ensures { λ _. ⌜ new out ≡ tab (length (old out)) (λ c. bit (bitAt byte c)) ⌝ }
 {
     for c in 0..out.len() {
         out[c] = truths::bit_of(byte, c);
@@ -32,7 +33,7 @@ fn put_instant(out: &mut [u8], byte: u8)
 // The channels at all instants.
 pub fn put_channels(out: &mut [u8], c: usize, recording: &[u8])
     requires { ⌜ (c ≤ maxChannels) × (length (now recording) ≤ maxSteps) × (length (now out) ≡ length (now recording) * c) ⌝ }
-    ensures { λ _. ⌜ now (out .exit) ≡ channelValues c (length (now (recording .entry))) (now (recording .entry)) ⌝ }
+    ensures { λ _. ⌜ new out ≡ channelValues c (length (old recording)) (old recording) ⌝ }
 {
     let mut at = 0;
     for t in 0..recording.len() {
@@ -45,7 +46,7 @@ pub fn put_channels(out: &mut [u8], c: usize, recording: &[u8])
 // Levels 0 to n of a duration, from the word of its state assertion.
 fn put_levels(out: &mut [u8], n: u32, word: u32, k: usize)
     requires { ⌜ (k ≤ maxSteps) × (n ≤ 255) × (length (now out) ≡ suc n * countOf k) ⌝ }
-    ensures { λ _. ⌜ ((f : ℕ → Bool) → WordOf k f word → now (out .exit) ≡ rows (suc n) (λ c. truthValues Formula k (lasts c f))) ⌝ }
+    ensures { λ _. ⌜ ((f : ℕ → Bool) → WordOf k f word → new out ≡ rows (suc n) (λ c. truthValues Formula k (lasts c f))) ⌝ }
 {
     let count = Interval::count(k);
     let mut at = 0;
@@ -62,7 +63,7 @@ fn put_levels(out: &mut [u8], n: u32, word: u32, k: usize)
 // A chop: its intervals, then its triples.
 fn put_chop(out: &mut [u8], p: &[u8; Interval::MAX_COUNT], q: &[u8; Interval::MAX_COUNT], k: usize)
     requires { ⌜ (k ≤ maxSteps) × (length (now out) ≡ countOf k + tripleCountOf k) × Binary (now p) × Binary (now q) ⌝ }
-    ensures { λ _. ⌜ now (out .exit) ≡ truthValues Formula k (chops (onPlaces k (highAt (now (p .entry)))) (onPlaces k (highAt (now (q .entry))))) ++ cutValues k (onPlaces k (highAt (now (p .entry)))) (onPlaces k (highAt (now (q .entry)))) ⌝ }
+    ensures { λ _. ⌜ new out ≡ truthValues Formula k (chops (onPlaces k (highAt (old p))) (onPlaces k (highAt (old q)))) ++ cutValues k (onPlaces k (highAt (old p))) (onPlaces k (highAt (old q))) ⌝ }
 {
     let count = Interval::count(k);
     truths::put_table(&mut out[..count], &chop::chop_table(p, q, k));
@@ -79,7 +80,7 @@ pub fn put_values(
     q: &[u8; Interval::MAX_COUNT],
 )
     requires { ⌜ (k ≤ maxSteps) × Fits k (length (now out)) rule × Binary (now p) × Binary (now q) ⌝ }
-    ensures { λ _. ⌜ now (out .exit) ≡ valuesBy k (now (recording .entry)) (length (now (out .entry))) (highAt (now (p .entry))) (highAt (now (q .entry))) rule ⌝ }
+    ensures { λ _. ⌜ new out ≡ valuesBy k (old recording) (length (old out)) (highAt (old p)) (highAt (old q)) rule ⌝ }
 {
     match rule {
         Rule::Fixed(up) => truths::put_table(out, &table::all_of(table::byte_of(up))),

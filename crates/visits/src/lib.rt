@@ -5,6 +5,7 @@ ghost use mathlib.Core.Path.{_≡_};
 ghost use mathlib.Core.Bool.{true, false};
 ghost use Prim.Native.Nat.{_+_, _<_};
 ghost use lib.ListN.{length};
+ghost use Rattle.moments.specs.Moments.{old, new};
 ghost use Rattle.clauses.specs.Clauses.{clausesOf, Clause};
 ghost use Rattle.closing.specs.Values.{Trailing, heldIn};
 ghost use Rattle.gates.specs.Within.{Within};
@@ -21,7 +22,7 @@ ghost use Rattle.closing.specs.Free.{freeOf, Tally};
 // v is high or w is low, for each of n variables from w on.
 fn visit_each(values: &mut [u8], trail: &mut [u32], top: usize, v: u32, w: u32, n: u32) -> Closed
     requires { ⌜ Trailing (now values) (now trail) top × Variable (length (now values)) v × Row (length (now values)) w n ⌝ }
-    ensures { λ r. ⌜ Visited (rows n (raisedBy v w)) (now (values .entry)) (now (trail .entry)) top (now (values .exit)) (now (trail .exit)) r ⌝ }
+    ensures { λ r. ⌜ Visited (rows n (raisedBy v w)) (old values) (old trail) top (new values) (new trail) r ⌝ }
 {
     let mut t = top;
     for e in 0..n {
@@ -47,7 +48,7 @@ fn visit_tallied(
     mark: u8,
 ) -> Closed
     requires { ⌜ Trailing (now values) (now trail) top × Variable (length (now values)) variable × ((free ≡ 1) → heldIn (now values) (opposite (literalOf (entry variable mark))) ≡ false) ⌝ }
-    ensures { λ r. ⌜ ((c : Clause) → 0 < length c → Tally (freeOf (heldIn (now (values .entry))) c) free (literalOf (entry variable mark)) → Visited (c ∷ []) (now (values .entry)) (now (trail .entry)) top (now (values .exit)) (now (trail .exit)) r) ⌝ }
+    ensures { λ r. ⌜ ((c : Clause) → 0 < length c → Tally (freeOf (heldIn (old values)) c) free (literalOf (entry variable mark)) → Visited (c ∷ []) (old values) (old trail) top (new values) (new trail) r) ⌝ }
 {
     if free == 0 {
         return Closed {
@@ -78,7 +79,7 @@ fn one_free(opposed: bool) -> usize
 // v is low or one of n variables from w on is high.
 fn visit_long(values: &mut [u8], trail: &mut [u32], top: usize, v: u32, w: u32, n: u32) -> Closed
     requires { ⌜ Trailing (now values) (now trail) top × Variable (length (now values)) v × Row (length (now values)) w n ⌝ }
-    ensures { λ r. ⌜ Visited (longBy v w n ∷ []) (now (values .entry)) (now (trail .entry)) top (now (values .exit)) (now (trail .exit)) r ⌝ }
+    ensures { λ r. ⌜ Visited (longBy v w n ∷ []) (old values) (old trail) top (new values) (new trail) r ⌝ }
 {
     let mut free = one_free(closing::opposed(values, v, 0));
     let mut last = v;
@@ -102,7 +103,7 @@ fn visit_long(values: &mut [u8], trail: &mut [u32], top: usize, v: u32, w: u32, 
 // v is any of n variables from w on.
 fn visit_any(values: &mut [u8], trail: &mut [u32], top: usize, v: u32, w: u32, n: u32) -> Closed
     requires { ⌜ Trailing (now values) (now trail) top × Variable (length (now values)) v × Row (length (now values)) w n ⌝ }
-    ensures { λ r. ⌜ Visited (clausesOf v (AnyOf w n)) (now (values .entry)) (now (trail .entry)) top (now (values .exit)) (now (trail .exit)) r ⌝ }
+    ensures { λ r. ⌜ Visited (clausesOf v (AnyOf w n)) (old values) (old trail) top (new values) (new trail) r ⌝ }
 {
     let r = visit_each(values, trail, top, v, w, n);
     if r.clash {
@@ -122,7 +123,7 @@ pub fn visit_one(
     n: u32,
 ) -> Closed
     requires { ⌜ Trailing (now values) (now trail) top × Variable (length (now values)) v × Row (length (now values)) w n × (e < n) ⌝ }
-    ensures { λ r. ⌜ Visited (raisedBy v w e ++ longBy v w n ∷ []) (now (values .entry)) (now (trail .entry)) top (now (values .exit)) (now (trail .exit)) r ⌝ }
+    ensures { λ r. ⌜ Visited (raisedBy v w e ++ longBy v w n ∷ []) (old values) (old trail) top (new values) (new trail) r ⌝ }
 {
     let r = patterns::settle_by(values, trail, top, 7, v, w + e, v, v);
     if r.clash {
@@ -141,7 +142,7 @@ pub fn constant(up: bool) -> usize
 // The gate that defines v.
 pub fn visit(values: &mut [u8], trail: &mut [u32], top: usize, v: u32, gate: Gate) -> Closed
     requires { ⌜ Trailing (now values) (now trail) top × Variable (length (now values)) v × InputsIn (length (now values)) gate × Within gate ⌝ }
-    ensures { λ r. ⌜ Visited (clausesOf v gate) (now (values .entry)) (now (trail .entry)) top (now (values .exit)) (now (trail .exit)) r ⌝ }
+    ensures { λ r. ⌜ Visited (clausesOf v gate) (old values) (old trail) top (new values) (new trail) r ⌝ }
 {
     match gate {
         Gate::Constant(up) => patterns::settle_by(values, trail, top, constant(up), v, v, v, v),

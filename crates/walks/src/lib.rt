@@ -5,6 +5,7 @@ use blocks::Rule;
 use closing::Closed;
 ghost use mathlib.Core.Path.{_≡_};
 ghost use Prim.Native.Nat.{_^_, _<_};
+ghost use Rattle.moments.specs.Moments.{old, new};
 ghost use Rattle.interval.specs.Places.{countOf};
 ghost use Rattle.blocks.specs.Blocks.{formOf, definedBy, Placed, Before, Bounded};
 ghost use Rattle.blocks.specs.declared.Form.the-variants.{Line};
@@ -28,7 +29,7 @@ pub fn visit_at(
 ) -> Closed
     requires { ⌜ Standing c k block (now values) (now trail) top × (all ≡ countOf k) ⌝ }
     requires { ⌜ Placed (block .points) k (block .rule) x (p .row) (p .line) (p .cell) × (block .rule ≡ Chop → Before (block .points) k Chop p) ⌝ }
-    ensures { λ r. ⌜ Visited (clausesAt (definedBy c k block) x) (now (values .entry)) (now (trail .entry)) top (now (values .exit)) (now (trail .exit)) r ⌝ }
+    ensures { λ r. ⌜ Visited (clausesAt (definedBy c k block) x) (old values) (old trail) top (new values) (new trail) r ⌝ }
 {
     let first = block.first;
     let gate = blocks::gate_at(c, k, all, block, x, p);
@@ -51,7 +52,7 @@ pub fn visit_cut(
 ) -> Closed
     requires { ⌜ Standing c k block (now values) (now trail) top × (all ≡ countOf k) × (block .rule ≡ Cut) ⌝ }
     requires { ⌜ Placed (block .points) k (block .rule) x i d e ⌝ }
-    ensures { λ r. ⌜ Visited (clausesAt (definedBy c k block) x) (now (values .entry)) (now (trail .entry)) top (now (values .exit)) (now (trail .exit)) r ⌝ }
+    ensures { λ r. ⌜ Visited (clausesAt (definedBy c k block) x) (old values) (old trail) top (new values) (new trail) r ⌝ }
 {
     let v = block.first + x;
     let first = block.left + blocks::place(i, e, k, all);
@@ -135,7 +136,7 @@ pub fn visit_line(
 ) -> Closed
     requires { ⌜ Standing c k block (now values) (now trail) top × (formOf (block .rule) ≡ Line) ⌝ }
     requires { ⌜ Placed (block .points) k (block .rule) x 0 0 x ⌝ }
-    ensures { λ r. ⌜ Visited (clausesAt (definedBy c k block) x) (now (values .entry)) (now (trail .entry)) top (now (values .exit)) (now (trail .exit)) r ⌝ }
+    ensures { λ r. ⌜ Visited (clausesAt (definedBy c k block) x) (old values) (old trail) top (new values) (new trail) r ⌝ }
 {
     let v = block.first + x;
     let i = inputs_of(c, k, block, x, v);

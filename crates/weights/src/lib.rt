@@ -6,6 +6,7 @@ use interval::Triple;
 ghost use mathlib.Core.Path.{_≡_};
 ghost use Prim.Native.Nat.{_≤_, _*_, _^_};
 ghost use lib.ListN.{length};
+ghost use Rattle.moments.specs.Moments.{old, new};
 ghost use Rattle.interval.specs.Limits.{maxSteps, maxCount};
 ghost use Rattle.grammar.specs.Limits.{maxNodes};
 ghost use Rattle.weights.specs.Weights.{variableWeight, clauseWeight, literalWeight, longerBy, weightBy, maxWeight, Light, Small, pointsBy, rowWeight, Summed};
@@ -119,7 +120,7 @@ pub fn sums<'a>(
 ) -> u32
     requires { ⌜ Small w k ⌝ }
     requires { ⌜ (count ≤ maxNodes) × (start ≤ 2 ^ 20) × (length (now out) ≡ maxNodes) ⌝ }
-    ensures { λ r. ⌜ Summed w k (now (kinds .entry)) (now (numbers .entry)) start count (now (out .entry)) (now (out .exit)) r ⌝ }
+    ensures { λ r. ⌜ Summed w k (old kinds) (old numbers) start count (old out) (new out) r ⌝ }
 {
     let mut total = start;
     for x in 0..count {

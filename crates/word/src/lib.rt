@@ -5,6 +5,7 @@ ghost use mathlib.Core.Bool.{Bool, not};
 ghost use Prim.Native.Nat.{ℕ, _-_, _^_, _≤_, _<_};
 ghost use lib.Dec.{eqb};
 ghost use lib.ListN.{length};
+ghost use Rattle.moments.specs.Moments.{old};
 ghost use Rattle.interval.specs.Limits.{maxSteps};
 ghost use Rattle.grammar.specs.Limits.{maxChannels};
 ghost use Rattle.meaning.specs.Meaning.{bit, bitAt, channelAt, highs};
@@ -51,7 +52,7 @@ pub fn count_high(lows: &[u32; Interval::MAX_ENDS], word: u32, i: usize, j: usiz
 // 1 where channel c is high at instant t.
 fn high_at(recording: &[u8], c: usize, t: usize) -> u32
     requires { ⌜ (t < length (now recording)) × (c < maxChannels) ⌝ }
-    ensures { λ r. ⌜ r ≡ bit (channelAt (now (recording .entry)) c t) ⌝ }
+    ensures { λ r. ⌜ r ≡ bit (channelAt (old recording) c t) ⌝ }
 {
     ((recording[t] >> c) % 2) as u32
 }
@@ -59,7 +60,7 @@ fn high_at(recording: &[u8], c: usize, t: usize) -> u32
 // A letter's word: channel c at each instant.
 pub fn channel_word(recording: &[u8], c: usize) -> u32
     requires { ⌜ (length (now recording) ≤ maxSteps) × (c < maxChannels) ⌝ }
-    ensures { λ r. ⌜ WordOf (length (now (recording .entry))) (channelAt (now (recording .entry)) c) r ⌝ }
+    ensures { λ r. ⌜ WordOf (length (old recording)) (channelAt (old recording) c) r ⌝ }
 {
     let mut word: u32 = 0;
     for t in 0..recording.len() {

@@ -1,0 +1,11 @@
+-- What stands behind a parameter that is a reference, at a call's two moments: a slice's list, an array's, a number.
+use denote.Ref.{RefT}
+use denote.Triple.Both.{Both}
+
+-- before the call
+abbrev pub old {ℓ} : {A : Type 0} {X : Type ℓ} → Both (RefT A) X → A
+old x = x .entry .now
+
+-- after it
+abbrev pub new {ℓ} : {E : Type ℓ} {A : Type 0} → Both E (RefT A) → A
+new x = x .exit .now

@@ -1,0 +1,1 @@
+// The two moments of a call, for contracts: no code.
