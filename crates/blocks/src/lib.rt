@@ -52,15 +52,15 @@ pub struct Position {
 pub fn rule_of(kind: u8, number: u8) -> Rule
     ensures { λ r. ⌜ r ≡ ruleBy kind number ⌝ }
 {
-    match kind % 16 {
-        0 => Rule::Fixed(false),
-        1 => Rule::Fixed(true),
-        2 => Rule::Negation,
-        3 => Rule::And,
-        4 => Rule::Or,
-        5 => Rule::Chop,
-        6 => Rule::Letter(number as u32),
-        7 => Rule::Duration(number as u32),
+    match kind % rows::FORMULA {
+        rows::FALSE => Rule::Fixed(false),
+        rows::TRUE => Rule::Fixed(true),
+        rows::NOT => Rule::Negation,
+        rows::AND => Rule::And,
+        rows::OR => Rule::Or,
+        rows::CHOP => Rule::Chop,
+        rows::LETTER => Rule::Letter(number as u32),
+        rows::DURATION => Rule::Duration(number as u32),
         _ => Rule::Throughout,
     }
 }

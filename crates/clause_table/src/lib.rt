@@ -57,7 +57,7 @@ pub fn seat<'a>(
     ensures { λ r. ⌜ (r ≡ seatBy (old kinds) (old numbers) (old firsts) k y) × (r < bound) ⌝ }
 {
     let first = number_at(firsts, y);
-    if rows::byte_at(kinds, y) == 23 {
+    if rows::byte_at(kinds, y) == rows::FORMULA_DURATION {
         let n = rows::byte_at(numbers, y) as u32;
         return first + n * Interval::count(k as usize) as u32;
     }

@@ -11,7 +11,7 @@ use Rattle.grammar.specs.declared.Lead.{Lead}
 use Rattle.grammar.specs.declared.Lead.the-variants.{Leaf, Not, Open, Measure, Enter, Other}
 use Rattle.scan.specs.Scans.{numberFrom}
 use Rattle.formula.specs.Nodes.{Node}
-use Rattle.rows.specs.Table.{sortCode, constantCode, heading}
+use Rattle.rows.specs.Table.{sortCode, constantCode, negationCode, letterCode, durationCode, throughoutCode, heading}
 use Rattle.rows.specs.declared.Part.{Part}
 use Rattle.rows.specs.declared.Row.{Row}
 
@@ -40,12 +40,12 @@ partAt sizes lengths x = record { size = getD sizes x 0; length = getD lengths x
 
 -- a duration's row, n its number and p its part
 abbrev pub durationRow : ℕ → ℕ → Part → Row
-durationRow n at p = record { head = heading 23 n; size = 1 + p .size; first = at; length = 1 + p .length + 2 + digitsOf n }
+durationRow n at p = record { head = heading (sortCode Formula + durationCode) n; size = 1 + p .size; first = at; length = 1 + p .length + 2 + digitsOf n }
 
 -- the row of the node that the byte b begins at a place, p and q its parts: the first follows b
 abbrev pub rowBy : List ℕ → ℕ → ℕ → ℕ → Part → Part → Lead → Row
 rowBy t b code at p q Leaf = record { head = heading (code + constantCode (eqb b 84)) 0; size = 1; first = at; length = 1 }
-rowBy t b code at p q Not = record { head = heading (code + 2) 0; size = 1 + p .size; first = at; length = 1 + p .length }
+rowBy t b code at p q Not = record { head = heading (code + negationCode) 0; size = 1 + p .size; first = at; length = 1 + p .length }
 rowBy t b code at p q Open = record {
   head = heading (code + linkOf (getD t (at + (1 + p .length)) 0)) 0;
   size = 1 + p .size + q .size;
@@ -53,8 +53,8 @@ rowBy t b code at p q Open = record {
   length = 1 + p .length + q .length + 2;
 }
 rowBy t b code at p q Measure = durationRow (numberFrom 0 (drop (at + (1 + p .length) + 2) t)) at p
-rowBy t b code at p q Enter = record { head = heading 24 0; size = 1 + p .size; first = at; length = 1 + p .length + 1 }
-rowBy t b code at p q Other = record { head = heading 6 (b - 97); size = 1; first = at; length = 1 }
+rowBy t b code at p q Enter = record { head = heading (sortCode Formula + throughoutCode) 0; size = 1 + p .size; first = at; length = 1 + p .length + 1 }
+rowBy t b code at p q Other = record { head = heading letterCode (b - 97); size = 1; first = at; length = 1 }
 
 unfoldable pub rowFrom : List ℕ → ℕ → ℕ → ℕ → Part → Part → Row
 rowFrom t b code at p q = rowBy t b code at p q (leadOf Formula b)

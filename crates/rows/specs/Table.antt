@@ -21,10 +21,22 @@ abbrev pub constantCode : Bool → ℕ
 constantCode false = 0
 constantCode true = 1
 
+abbrev pub negationCode : ℕ
+negationCode = 2
+
 abbrev pub linkCode : {s : Sort} → Link s → ℕ
 linkCode and = 3
 linkCode or = 4
 linkCode chop = 5
+
+abbrev pub letterCode : ℕ
+letterCode = 6
+
+abbrev pub durationCode : ℕ
+durationCode = 7
+
+abbrev pub throughoutCode : ℕ
+throughoutCode = 8
 
 -- a node's kind, and its number: a letter's channel, a duration's n, 0 for any other
 abbrev pub heading : ℕ → ℕ → Head
@@ -32,11 +44,11 @@ heading k n = record { kind = k; number = n }
 
 abbrev pub headOf : {s : Sort} → Tree s → Head
 headOf {s} (constant v) = heading (sortCode s + constantCode v) 0
-headOf {s} (negation x) = heading (sortCode s + 2) 0
+headOf {s} (negation x) = heading (sortCode s + negationCode) 0
 headOf {s} (pair l x y) = heading (sortCode s + linkCode l) 0
-headOf (letter c) = heading 6 c
-headOf (duration x n) = heading (sortCode Formula + 7) n
-headOf (throughout x) = heading (sortCode Formula + 8) 0
+headOf (letter c) = heading letterCode c
+headOf (duration x n) = heading (sortCode Formula + durationCode) n
+headOf (throughout x) = heading (sortCode Formula + throughoutCode) 0
 
 -- a node's row: its size is how many nodes it has, itself included
 abbrev pub rowOf : Node → Row

@@ -15,7 +15,35 @@ ghost use Rattle.formula.specs.Questions.{acceptOf};
 ghost use Rattle.rows.specs.Table.{constantCode, heading, rowOf, tableOf};
 ghost use Rattle.rows.specs.Rows.{codeAfter, begun, linkOf, digitsOf, partAt, rowFrom, rowAt};
 
-// What a node is: its kind, numbered as in specs/Table.antt, and its number (a letter's channel, a duration's n).
+// What a node can be, by number; a formula's is FORMULA more.
+pub const FALSE: u8 = 0;
+
+pub const TRUE: u8 = 1;
+
+pub const NOT: u8 = 2;
+
+pub const AND: u8 = 3;
+
+pub const OR: u8 = 4;
+
+pub const CHOP: u8 = 5;
+
+pub const LETTER: u8 = 6;
+
+pub const DURATION: u8 = 7;
+
+pub const THROUGHOUT: u8 = 8;
+
+pub const STATE: u8 = 0;
+
+pub const FORMULA: u8 = 16;
+
+// These two stand in formulas only.
+pub const FORMULA_DURATION: u8 = FORMULA + DURATION;
+
+pub const FORMULA_THROUGHOUT: u8 = FORMULA + THROUGHOUT;
+
+// What a node is: its kind, which is one of these, and its number (a letter's channel, a duration's n).
 pub struct Head {
     pub kind: u8,
     pub number: u8,
@@ -67,15 +95,15 @@ pub fn empty_table() -> NodeTable
     }
 }
 
-// The number of the sort of what stands after a byte: 0 for state assertions, 16 for formulas.
+// The number of the sort of what stands after a byte.
 fn code_after(code: u8, b: u8) -> u8
     ensures { λ r. ⌜ r ≡ codeAfter code b ⌝ }
 {
     match b {
-        b'#' => 0,
-        b'[' => 0,
-        b'>' => 16,
-        b']' => 16,
+        b'#' => STATE,
+        b'[' => STATE,
+        b'>' => FORMULA,
+        b']' => FORMULA,
         _ => code,
     }
 }
@@ -86,7 +114,7 @@ fn begun_rows(text: &[u8]) -> NodeTable
     ensures { λ r. ⌜ r ≡ tableOf (map begun (nodesIn (old text))) ⌝ }
 {
     let mut table = empty_table();
-    let mut code: u8 = 16;
+    let mut code = FORMULA;
     let mut i = 0;
     while i < text.len() {
         let b = text[i];
@@ -109,7 +137,7 @@ fn begun_rows(text: &[u8]) -> NodeTable
 fn constant_code(b: u8) -> u8
     ensures { λ r. ⌜ (r ≡ constantCode (eqb b 84)) × (r ≤ 1) ⌝ }
 {
-    if b == b'T' { 1 } else { 0 }
+    if b == b'T' { TRUE } else { FALSE }
 }
 
 // What joins the parts of a node: the byte after its first part tells.
@@ -117,9 +145,9 @@ fn link_of(b: u8) -> u8
     ensures { λ r. ⌜ (r ≡ linkOf b) × (r ≤ 5) ⌝ }
 {
     match b {
-        b'&' => 3,
-        b'|' => 4,
-        b';' => 5,
+        b'&' => AND,
+        b'|' => OR,
+        b';' => CHOP,
         _ => 0,
     }
 }
@@ -171,17 +199,23 @@ fn row_from(text: &[u8], b: u8, code: u8, at: usize, p: Part, q: Part) -> Row
     let l = grammar::lead_of(Sort::Formula, b);
     match l {
         Lead::Leaf => row_of(code + constant_code(b), 0, 1, at, 1),
-        Lead::Not => row_of(code + 2, 0, size, at, length),
+        Lead::Not => row_of(code + NOT, 0, size, at, length),
         Lead::Open => {
             let kind = code + link_of(byte_at(text, end));
             row_of(kind, 0, size + q.size, at, length + q.length + 2)
         }
         Lead::Measure => {
             let n = scan::number_at(text, end + 2);
-            row_of(23, n as u8, size, at, length + 2 + digits_of(n))
+            row_of(
+                FORMULA_DURATION,
+                n as u8,
+                size,
+                at,
+                length + 2 + digits_of(n),
+            )
         }
-        Lead::Enter => row_of(24, 0, size, at, length + 1),
-        Lead::Other => row_of(6, channel_of(b), 1, at, 1),
+        Lead::Enter => row_of(FORMULA_THROUGHOUT, 0, size, at, length + 1),
+        Lead::Other => row_of(LETTER, channel_of(b), 1, at, 1),
     }
 }
 

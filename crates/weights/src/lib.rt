@@ -86,7 +86,7 @@ pub fn points_of(kind: u8, k: u32) -> u32
     requires { ⌜ k ≤ maxSteps ⌝ }
     ensures { λ r. ⌜ (r ≡ pointsBy k kind) × (r ≤ maxCount) ⌝ }
 {
-    if kind < 16 {
+    if kind < rows::FORMULA {
         k
     } else {
         Interval::count(k as usize) as u32
