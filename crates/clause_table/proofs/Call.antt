@@ -2,7 +2,7 @@
 -- 18 is asked of the true L, and what is written over the lent arrays is the table's places.
 use mathlib.Core.Path.{_≡_, refl, sym, ap, _∙_, subst}
 use mathlib.Core.Bool.{Bool, true, false, cond, false≢true, _&&_}
-use mathlib.Core.List.{List, [], _∷_, map, flatMap, append-nil}
+use mathlib.Core.List.{List, [], _∷_, _++_, map, flatMap, append-nil}
 use Prim.Native.Nat.{ℕ, zero, suc, _+_, _*_, _≤_}
 use native.Mathlib.Nat.{zero-add}
 use native.Mathlib.Omega.{arith}
@@ -48,7 +48,7 @@ use Rattle.literals.specs.Written.{Room, Wrote}
 use Rattle.clauses.proofs.Sizes.{length-flat-join, clauses-by, literals-by}
 use Rattle.clause_table.specs.Table.{After, onTree, sizesOf, sizesIn, placesIn, askRoom, over, refused, writtenTable, fiveOf, tabled}
 use Rattle.node_clauses.specs.Nodes.{tripleBlock, intervalBlock, nodeBy, nodePlaces}
-use Rattle.clause_table.specs.Rows.{blockBy, rowDefinitions, rowPlaces, tablePlaces, Low, Measured, tabledBy}
+use Rattle.clause_table.specs.Rows.{nodeTableOf, blockBy, rowDefinitions, rowPlaces, rootPlaces, nodesPlaces, tablePlaces, Low, Measured, tabledBy}
 use Rattle.clause_table.specs.declared.Sizes.{Sizes}
 use Rattle.clause_table.specs.declared.Written.the-variants.{Done}
 use Rattle.clause_table.proofs.Measure.{stored-over}
@@ -94,15 +94,16 @@ module _ (C k : ℕ) (kinds numbers sizes firsts : List ℕ) where
   unfolding weightTo weightAll
   rows-weigh w n = measure-rows (weightAll w) refl (weight-append w) (rowDefinitions C k kinds numbers sizes firsts) (λ y. rowWeight w k (getD kinds y 0) (getD numbers y 0)) (row-weighs w) n
 
-  row-length : (x : ℕ) → length (rowPlaces C k kinds numbers sizes firsts x) ≡ rowWeight literalWeight k (getD kinds x 0) (getD numbers x 0)
+module _ (C k : ℕ) (T : NodeTable) (firsts : List ℕ) where
+  row-length : (x : ℕ) → length (rowPlaces C k (T .kinds) (T .numbers) (T .sizes) firsts x) ≡ rowWeight literalWeight k (getD (T .kinds) x 0) (getD (T .numbers) x 0)
   unfolding nodePlaces
-  row-length x = literals-by (rowDefinitions C k kinds numbers sizes firsts x) ∙ row-weighs literalWeight x
+  row-length x = literals-by (rowDefinitions C k (T .kinds) (T .numbers) (T .sizes) firsts x) ∙ row-weighs C k (T .kinds) (T .numbers) (T .sizes) firsts literalWeight x
 
-  places-length : (n : ℕ) → length (tablePlaces C k kinds numbers sizes firsts n) ≡ 1 + weightTo literalWeight k kinds numbers n
+  places-length : length (tablePlaces C k T firsts) ≡ 1 + weightTo literalWeight k (T .kinds) (T .numbers) (T .count)
   unfolding weightTo rows
-  places-length n =
-      length-append (rows n (rowPlaces C k kinds numbers sizes firsts)) _
-      ∙ omega (arith, length-rows (rowPlaces C k kinds numbers sizes firsts) (λ y. rowWeight literalWeight k (getD kinds y 0) (getD numbers y 0)) row-length n)
+  places-length =
+      length-append (nodesPlaces C k T firsts) _
+      ∙ omega (arith, length-rows (rowPlaces C k (T .kinds) (T .numbers) (T .sizes) firsts) (λ y. rowWeight literalWeight k (getD (T .kinds) y 0) (getD (T .numbers) y 0)) row-length (T .count))
 
 -- ---- question 18, answered with yes
 
@@ -114,10 +115,10 @@ module _ (L s v m : ℕ) (e : askRoom L s v m ≡ Yes) where
   pub room-enough : (5 ≤ s) × (L ≤ v) × (L ≤ m)
   room-enough = (leb-true 5 s (room-yes .0), leb-true L v (room-yes .1), leb-true L m (room-yes .2))
 
-pub table-room : {C k : ℕ} {kinds numbers : List ℕ} (sizes : List ℕ) {firsts : List ℕ} {n : ℕ} {s : Sizes} {v m : List ℕ} → Measured C k kinds numbers n firsts s → s .literals ≤ length v → s .literals ≤ length m
-    → Room v m 0 (tablePlaces C k kinds numbers sizes firsts n)
-table-room {C} {k} {kinds} {numbers} sizes {firsts} {n} w g h =
-    let l = places-length C k kinds numbers sizes firsts n in
+pub table-room : {C k : ℕ} {T : NodeTable} {firsts : List ℕ} {s : Sizes} {v m : List ℕ} → Measured C k (T .kinds) (T .numbers) (T .count) firsts s → s .literals ≤ length v → s .literals ≤ length m
+    → Room v m 0 (tablePlaces C k T firsts)
+table-room {C} {k} {T} {firsts} w g h =
+    let l = places-length C k T firsts in
     record { variables = omega (arith, l, w .literals, g); marks = omega (arith, l, w .literals, h) }
 
 -- ---- the table of a formula
@@ -152,7 +153,7 @@ module _ (C k : ℕ) (f : Tree Formula) where
   unfolding variablesOf weightTo sum
   variables-are = omega (arith, ap (weightBefore variableWeight k nodes) (zero-add (length nodes)), part-width k nodes 0 nodes [] (sym (append-nil nodes)))
 
-  module _ {T : NodeTable} (e : T ≡ tableOf (map rowOf nodes)) {F : List ℕ} {s : Sizes} (w : Measured C k (T .kinds) (T .numbers) (T .count) F s) where
+  module _ {T : NodeTable} (e : T ≡ nodeTableOf f) {F : List ℕ} {s : Sizes} (w : Measured C k (T .kinds) (T .numbers) (T .count) F s) where
     pub known : Measured C k (kinds nodes) (numbers nodes) (length nodes) F s
     unfolding tableOf
     known =
@@ -171,16 +172,16 @@ module _ (C k : ℕ) (f : Tree Formula) where
         let m = known .clauses ∙ sym clauses-are in
         λ i. known .channels i ∷ known .steps i ∷ variables-known i ∷ m i ∷ literals-known i ∷ []
 
-    places-known : tablePlaces C k (T .kinds) (T .numbers) (T .sizes) F (T .count) ≡ places
+    places-known : tablePlaces C k T F ≡ places
     unfolding tableOf
     places-known =
-        ap (λ (T : NodeTable). tablePlaces C k (T .kinds) (T .numbers) (T .sizes) F (T .count)) e
-        ∙ ap (tablePlaces C k (kinds nodes) (numbers nodes) (sizes nodes) F) (length-map nodes rowOf)
+        ap (λ (T : NodeTable). tablePlaces C k T F) e
+        ∙ ap (λ (n : ℕ). rows n (rowPlaces C k (kinds nodes) (numbers nodes) (sizes nodes) F) ++ rows 1 (rootPlaces (kinds nodes) (numbers nodes) F k)) (length-map nodes rowOf)
         ∙ table-places C k f F (known .first)
 
     -- the table, once its places are written
     arrays-written : {variables marks variables′ marks′ : List ℕ} {at : ℕ} → s .literals ≤ length variables → s .literals ≤ length marks
-        → Wrote variables marks 0 (tablePlaces C k (T .kinds) (T .numbers) (T .sizes) F (T .count)) variables′ marks′ at
+        → Wrote variables marks 0 (tablePlaces C k T F) variables′ marks′ at
         → (variables′ ≡ over (variablesIn places) variables) × (marks′ ≡ over (marksIn places) marks)
     arrays-written {variables} {marks} g h t = (
       stored-over (variablesIn places) variables (t .variables ∙ ap (λ (F : List Entry). sets variables 0 (variablesIn F)) places-known) (omega (arith, g, literals-known, length-map places (λ (e : Entry). e .variable))),
@@ -197,7 +198,7 @@ module _ (C k : ℕ) (f : Tree Formula) where
           ap (λ (a : Reply). asked (a ∷ []) (refused five variables marks) (writtenTable (sizesOf C k f) places five variables marks)) (sym (ap question (sym literals-known) ∙ q))
 
       pub written-known : question (s .literals) ≡ Yes → {five′ variables′ marks′ : List ℕ} {at : ℕ} → five′ ≡ over (fiveOf s) five
-          → Wrote variables marks 0 (tablePlaces C k (T .kinds) (T .numbers) (T .sizes) F (T .count)) variables′ marks′ at
+          → Wrote variables marks 0 (tablePlaces C k T F) variables′ marks′ at
           → record { answer = Done; sizes = five′; variables = variables′; marks = marks′ } ≡ tabledBy C k f five variables marks
       unfolding tabledBy
       written-known q {five′} {variables′} {marks′} z t =

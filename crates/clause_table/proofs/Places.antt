@@ -31,7 +31,7 @@ use Rattle.clauses.specs.Clauses.{plain, clausesBy, clauseTable}
 use Rattle.clauses.specs.Entries.{Entry, entry, entriesOf, flat}
 use Rattle.clauses.proofs.Sizes.{flat-join}
 use Rattle.node_clauses.specs.Nodes.{nodeBy, nodePlaces}
-use Rattle.clause_table.specs.Rows.{truthBy, seatBy, blockBy, rowDefinitions, rowPlaces, rootPlaces, tablePlaces}
+use Rattle.clause_table.specs.Rows.{truthBy, seatBy, blockBy, rowDefinitions, rowPlaces, rootPlaces}
 use Rattle.node_clauses.proofs.Walk.{rows-first}
 use Rattle.node_clauses.proofs.Nodes.{places-join}
 
@@ -228,7 +228,7 @@ module _ (C k : ℕ) (f : Tree Formula) (firsts : List ℕ) (h : (y : ℕ) → y
   places-rows zero = refl
   places-rows (suc n) = ap (λ (F : List Entry). F ++ flat (clausesBy (defined n))) (places-rows n) ∙ places-join (rows n defined) (defined n)
 
-  pub table-places : tablePlaces C k (kinds nodes) (numbers nodes) (sizes nodes) firsts (length nodes) ≡ flat (clauseTable C k f)
+  pub table-places : rows (length nodes) (rowPlaces C k (kinds nodes) (numbers nodes) (sizes nodes) firsts) ++ rows 1 (rootPlaces (kinds nodes) (numbers nodes) firsts k) ≡ flat (clauseTable C k f)
   unfolding clauseTable
   table-places =
       ap₂ (λ (F G : List Entry). F ++ G) (places-rows (length nodes) ∙ ap (λ (D : List Definition). flat (clausesBy D)) rows-defined) root-places

@@ -1,7 +1,7 @@
 -- What a row of the node table defines, as the code goes by it. Nothing here need be believed: no call open to others cites it.
 use mathlib.Core.Bool.{cond}
 use mathlib.Core.Path.{_≡_}
-use mathlib.Core.List.{List, [], _∷_, _++_}
+use mathlib.Core.List.{List, [], _∷_, _++_, map}
 use Prim.Native.Nat.{ℕ, _+_, _*_, _≤_, _<_}
 use lib.Dec.{eqb}
 use lib.ListN.{length, getD}
@@ -10,6 +10,9 @@ use Rattle.interval.specs.Listing.{rows}
 use Rattle.interval.specs.Places.{countOf}
 use Rattle.grammar.specs.Trees.{Tree}
 use Rattle.grammar.specs.declared.Sort.the-variants.{Formula}
+use Rattle.formula.specs.Nodes.{nodesOf}
+use Rattle.rows.specs.Table.{sortCode, durationCode, rowOf, tableOf}
+use Rattle.rows.specs.declared.NodeTable.{NodeTable}
 use Rattle.circuit.specs.Circuit.{Definition}
 use Rattle.blocks.specs.Blocks.{ruleBy, isChop, bound}
 use Rattle.blocks.specs.declared.Block.{Block}
@@ -21,9 +24,13 @@ use Rattle.node_clauses.specs.Nodes.{nodeBy, nodePlaces}
 use Rattle.clause_table.specs.Table.{After, sizesOf, askRoom, refused, writtenTable}
 use Rattle.clause_table.specs.declared.Sizes.{Sizes}
 
--- where in its block a node's truth begins: a duration, 23, has its levels below it
+-- a formula's node table
+abbrev pub nodeTableOf : Tree Formula → NodeTable
+nodeTableOf f = tableOf (map rowOf (nodesOf f 0))
+
+-- where in its block a node's truth begins: a duration has its levels below it
 abbrev pub truthBy : ℕ → ℕ → ℕ → ℕ
-truthBy k kind n = cond (eqb kind 23) (n * countOf k) 0
+truthBy k kind n = cond (eqb kind (sortCode Formula + durationCode)) (n * countOf k) 0
 
 -- the first variable of the truth of the node at row y, firsts being the first variables of the nodes
 unfoldable pub seatBy : List ℕ → List ℕ → List ℕ → ℕ → ℕ → ℕ
@@ -50,8 +57,12 @@ rowPlaces C k kinds numbers sizes firsts x = nodePlaces C k (blockBy kinds numbe
 abbrev pub rootPlaces : List ℕ → List ℕ → List ℕ → ℕ → ℕ → List Entry
 rootPlaces kinds numbers firsts k = runOf (seatBy kinds numbers firsts k 0 + k) 3
 
-abbrev pub tablePlaces : ℕ → ℕ → List ℕ → List ℕ → List ℕ → List ℕ → ℕ → List Entry
-tablePlaces C k kinds numbers sizes firsts n = rows n (rowPlaces C k kinds numbers sizes firsts) ++ rows 1 (rootPlaces kinds numbers firsts k)
+-- the places of a whole node table: the nodes', then the root's
+abbrev pub nodesPlaces : ℕ → ℕ → NodeTable → List ℕ → List Entry
+nodesPlaces C k T firsts = rows (T .count) (rowPlaces C k (T .kinds) (T .numbers) (T .sizes) firsts)
+
+abbrev pub tablePlaces : ℕ → ℕ → NodeTable → List ℕ → List Entry
+tablePlaces C k T firsts = nodesPlaces C k T firsts ++ rows 1 (rootPlaces (T .kinds) (T .numbers) firsts k)
 
 -- first variables are below this, whatever the node table says
 abbrev pub Low : List ℕ → Type 0

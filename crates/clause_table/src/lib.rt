@@ -6,22 +6,20 @@ use refusal::Refusal;
 use refusal::Reply;
 use rows::NodeTable;
 ghost use mathlib.Core.Path.{_≡_};
-ghost use mathlib.Core.List.{map};
 ghost use Prim.Native.Nat.{ℕ, _+_, _≤_, _<_};
 ghost use lib.ListN.{length, getD};
 ghost use Rattle.moments.specs.Moments.{old, new};
-ghost use Rattle.interval.specs.Listing.{rows};
 ghost use Rattle.grammar.specs.Limits.{maxNodes, maxChannels};
 ghost use Rattle.interval.specs.Limits.{maxSteps};
 ghost use Rattle.grammar.specs.Trees.{Tree};
 ghost use Rattle.grammar.specs.declared.Sort.the-variants.{Formula};
-ghost use Rattle.formula.specs.Nodes.{nodesOf};
-ghost use Rattle.rows.specs.Table.{rowOf, tableOf};
 ghost use Rattle.blocks.specs.Blocks.{bound};
-ghost use Rattle.literals.specs.Written.{Room, Wrote};
+ghost use Rattle.literals.specs.Written.{Room};
+ghost use Rattle.literals.specs.Writes.{Writes};
 ghost use Rattle.clause_table.specs.Table.{askRoom, fiveOf, over, tabled};
+ghost use Rattle.clause_table.specs.Left.{left};
 ghost use Rattle.node_clauses.specs.Nodes.{Fine};
-ghost use Rattle.clause_table.specs.Rows.{Low, Seated, seatBy, blockBy, rowPlaces, tablePlaces, Measured, tabledBy};
+ghost use Rattle.clause_table.specs.Rows.{nodeTableOf, Low, Seated, seatBy, blockBy, nodesPlaces, tablePlaces, Measured, tabledBy};
 
 // What the call answers.
 pub enum Written {
@@ -36,6 +34,12 @@ pub struct Sizes {
     pub variables: u32,
     pub clauses: u32,
     pub literals: u32,
+}
+
+// A formula's sizes, and the first variable of each node.
+pub struct Layout {
+    pub sizes: Sizes,
+    pub firsts: [u32; MAX_NODES],
 }
 
 // The number at a place, and 0 past the end.
@@ -106,80 +110,87 @@ pub fn block_at<'a>(
 }
 
 // The clauses of all nodes, in number order.
-fn put_nodes<'a>(
+fn put_nodes(
     variables: &mut [u32],
     marks: &mut [u8],
-    kinds: &'a [u8; MAX_NODES],
-    numbers: &'a [u8; MAX_NODES],
-    sizes: &'a [u8; MAX_NODES],
+    table: NodeTable,
     firsts: &[u32; MAX_NODES],
-    count: usize,
     c: u32,
     k: u32,
 ) -> usize
-    requires { ⌜ Room (now variables) (now marks) 0 (rows count (rowPlaces c k (now kinds) (now numbers) (now sizes) (now firsts))) ⌝ }
-    requires { ⌜ (c ≤ maxChannels) × (k ≤ maxSteps) × (count ≤ maxNodes) × Low (now firsts) ⌝ }
-    ensures { λ r. ⌜ Wrote (old variables) (old marks) 0 (rows count (rowPlaces c k (old kinds) (old numbers) (old sizes) (old firsts))) (new variables) (new marks) r ⌝ }
+    requires { ⌜ Room (now variables) (now marks) 0 (nodesPlaces c k table (now firsts)) ⌝ }
+    requires { ⌜ (c ≤ maxChannels) × (k ≤ maxSteps) × (table .count ≤ maxNodes) × Low (now firsts) ⌝ }
+    ensures { λ r. ⌜ Writes variables marks 0 (nodesPlaces c k table (old firsts)) r ⌝ }
 {
     let mut at = 0;
-    for x in 0..count {
-        let block = block_at(kinds, numbers, sizes, firsts, k, x);
+    for x in 0..table.count {
+        let block = block_at(&table.kinds, &table.numbers, &table.sizes, firsts, k, x);
         at = node_clauses::put_node(variables, marks, at, c, k, block);
     }
     at
 }
 
 // The whole table: the nodes' clauses, then the root alone.
-fn put_table<'a>(
+fn put_table(
     variables: &mut [u32],
     marks: &mut [u8],
-    kinds: &'a [u8; MAX_NODES],
-    numbers: &'a [u8; MAX_NODES],
-    sizes: &'a [u8; MAX_NODES],
+    table: NodeTable,
     firsts: &[u32; MAX_NODES],
-    count: usize,
     c: u32,
     k: u32,
 ) -> usize
-    requires { ⌜ Room (now variables) (now marks) 0 (tablePlaces c k (now kinds) (now numbers) (now sizes) (now firsts) count) ⌝ }
-    requires { ⌜ (c ≤ maxChannels) × (k ≤ maxSteps) × (count ≤ maxNodes) × Low (now firsts) ⌝ }
-    ensures { λ r. ⌜ Wrote (old variables) (old marks) 0 (tablePlaces c k (old kinds) (old numbers) (old sizes) (old firsts) count) (new variables) (new marks) r ⌝ }
+    requires { ⌜ Room (now variables) (now marks) 0 (tablePlaces c k table (now firsts)) ⌝ }
+    requires { ⌜ (c ≤ maxChannels) × (k ≤ maxSteps) × (table .count ≤ maxNodes) × Low (now firsts) ⌝ }
+    ensures { λ r. ⌜ Writes variables marks 0 (tablePlaces c k table (old firsts)) r ⌝ }
 {
-    let at = put_nodes(variables, marks, kinds, numbers, sizes, firsts, count, c, k);
-    let root = seat(kinds, numbers, firsts, k, 0) + k;
-    literals::put_run(variables, marks, at, root, 1, 3)
+    let at = put_nodes(variables, marks, table, firsts, c, k);
+    let root = seat(&table.kinds, &table.numbers, firsts, k, 0) + k;
+    literals::put_run(variables, marks, at, root, 1, literals::LAST_PLAIN)
 }
 
-// The sizes of a formula, by its node table, and the first variable of each node: one sum along the nodes, for each of the three.
-pub fn sizes_of<'a>(
-    kinds: &'a [u8; MAX_NODES],
-    numbers: &'a [u8; MAX_NODES],
-    count: usize,
-    c: u32,
-    k: u32,
-    firsts: &mut [u32; MAX_NODES],
-) -> Sizes
-    requires { ⌜ (c ≤ maxChannels) × (k ≤ maxSteps) × (count ≤ maxNodes) × (length (now firsts) ≡ maxNodes) × Low (now firsts) ⌝ }
-    ensures { λ r. ⌜ Measured c k (old kinds) (old numbers) count (new firsts) r ⌝ }
+// How a formula's table is laid out, by its node table: one sum along the nodes for each of V, M and L.
+pub fn layout_of(table: NodeTable, c: u32, k: u32) -> Layout
+    requires { ⌜ (c ≤ maxChannels) × (k ≤ maxSteps) × (table .count ≤ maxNodes) ⌝ }
+    ensures { λ r. ⌜ Measured c k (table .kinds) (table .numbers) (table .count) (r .firsts) (r .sizes) ⌝ }
 {
-    let clauses = weights::sums(kinds, numbers, count, k, weights::clauses(), 1, firsts);
-    let literals = weights::sums(kinds, numbers, count, k, weights::literals(), 1, firsts);
+    let mut firsts = [0; MAX_NODES];
+    let clauses = weights::sums(
+        &table.kinds,
+        &table.numbers,
+        table.count,
+        k,
+        weights::clauses(),
+        1,
+        &mut firsts,
+    );
+    let literals = weights::sums(
+        &table.kinds,
+        &table.numbers,
+        table.count,
+        k,
+        weights::literals(),
+        1,
+        &mut firsts,
+    );
     let start = 1 + k * c;
     let end = weights::sums(
-        kinds,
-        numbers,
-        count,
+        &table.kinds,
+        &table.numbers,
+        table.count,
         k,
         weights::variables(),
         start,
-        firsts,
+        &mut firsts,
     );
-    Sizes {
-        channels: c,
-        steps: k,
-        variables: end - 1,
-        clauses,
-        literals,
+    Layout {
+        sizes: Sizes {
+            channels: c,
+            steps: k,
+            variables: end - 1,
+            clauses,
+            literals,
+        },
+        firsts,
     }
 }
 
@@ -188,17 +199,7 @@ pub fn ask_room(literals: u32, sizes: usize, variables: usize, marks: usize) -> 
     ensures { λ r. ⌜ r ≡ askRoom literals sizes variables marks ⌝ }
 {
     let l = literals as usize;
-    if 5 <= sizes {
-        if l <= variables {
-            if l <= marks {
-                return Reply::Yes;
-            }
-        }
-    }
-    Reply::No(Refusal {
-        number: 18,
-        place: 0,
-    })
+    refusal::ask(18, (5 <= sizes) & (l <= variables) & (l <= marks))
 }
 
 // The five sizes.
@@ -223,25 +224,15 @@ fn write_table(
     marks: &mut [u8],
 ) -> Written
     requires { ⌜ (c ≤ maxChannels) × (k ≤ maxSteps) × (table .count ≤ maxNodes) ⌝ }
-    ensures { λ r. ⌜ ((f : Tree Formula) → table ≡ tableOf (map rowOf (nodesOf f 0)) → record { answer = r; sizes = new sizes; variables = new variables; marks = new marks } ≡ tabledBy c k f (old sizes) (old variables) (old marks)) ⌝ }
+    ensures { λ r. ⌜ ((f : Tree Formula) → table ≡ nodeTableOf f → left r sizes variables marks ≡ tabledBy c k f (old sizes) (old variables) (old marks)) ⌝ }
 {
-    let mut firsts = [0; MAX_NODES];
-    let s = sizes_of(&table.kinds, &table.numbers, table.count, c, k, &mut firsts);
+    let layout = layout_of(table, c, k);
+    let s = layout.sizes;
     if let Reply::No(r) = ask_room(s.literals, sizes.len(), variables.len(), marks.len()) {
         return Written::Refused(r);
     }
     put_sizes(sizes, s);
-    put_table(
-        variables,
-        marks,
-        &table.kinds,
-        &table.numbers,
-        &table.sizes,
-        &firsts,
-        table.count,
-        c,
-        k,
-    );
+    put_table(variables, marks, table, &layout.firsts, c, k);
     Written::Done
 }
 
@@ -254,7 +245,7 @@ pub fn table(
     variables: &mut [u32],
     marks: &mut [u8],
 ) -> Written
-    ensures { λ r. ⌜ record { answer = r; sizes = new sizes; variables = new variables; marks = new marks } ≡ tabled c k (old text) (old sizes) (old variables) (old marks) ⌝ }
+    ensures { λ r. ⌜ left r sizes variables marks ≡ tabled c k (old text) (old sizes) (old variables) (old marks) ⌝ }
 {
     let tabled = nodes::node_table(text, c, k);
     let reply = tabled.reply;

@@ -1,21 +1,25 @@
-// The clauses of a gate, written to a table in memory.
+// The clauses of a gate, written to a table in memory: its Tseitin encoding, both sides of the equivalence.
 use circuit::Gate;
-ghost use Rattle.moments.specs.Moments.{old, new};
 ghost use Rattle.clauses.specs.Clauses.{clausesOf};
 ghost use Rattle.clauses.specs.Entries.{flat};
-ghost use Rattle.literals.specs.Written.{Room, Wrote};
+ghost use Rattle.literals.specs.Written.{Room};
+ghost use Rattle.literals.specs.Writes.{Writes};
 ghost use Rattle.gates.specs.Within.{Within};
 
-// The clauses that define v by a gate.
+// The clauses that define v by a gate, as document 01 prints them. A mark is 1 for a plain literal, and 2 more for its clause's last.
 pub fn put_gate(variables: &mut [u32], marks: &mut [u8], at: usize, v: u32, gate: Gate) -> usize
     requires { ⌜ Room (now variables) (now marks) at (flat (clausesOf v gate)) ⌝ }
     requires { ⌜ Within gate ⌝ }
-    ensures { λ r. ⌜ Wrote (old variables) (old marks) at (flat (clausesOf v gate)) (new variables) (new marks) r ⌝ }
+    ensures { λ r. ⌜ Writes variables marks at (flat (clausesOf v gate)) r ⌝ }
 {
     match gate {
+        // (v) or (-v)
         Gate::Constant(up) => literals::put(variables, marks, at, &[v], &[literals::closing(up)]),
+        // (-v u)(v -u)
         Gate::Copy(u) => literals::put(variables, marks, at, &[v, u, v, u], &[0, 3, 1, 2]),
+        // (v x)(-v -x)
         Gate::Inverse(x) => literals::put(variables, marks, at, &[v, x, v, x], &[1, 3, 0, 2]),
+        // (-v x)(-v y)(v -x -y)
         Gate::Both(x, y) => literals::put(
             variables,
             marks,
@@ -23,6 +27,7 @@ pub fn put_gate(variables: &mut [u32], marks: &mut [u8], at: usize, v: u32, gate
             &[v, x, v, y, v, x, y],
             &[0, 3, 0, 3, 1, 0, 2],
         ),
+        // (v -x)(v -y)(-v x y)
         Gate::Either(x, y) => literals::put(
             variables,
             marks,
@@ -30,7 +35,9 @@ pub fn put_gate(variables: &mut [u32], marks: &mut [u8], at: usize, v: u32, gate
             &[v, x, v, y, v, x, y],
             &[1, 2, 1, 2, 0, 1, 3],
         ),
+        // (v -w) for each w, (-v w .. w)
         Gate::AnyOf(w, n) => literals::put_any(variables, marks, at, v, w, n),
+        // (-v p q)(-v p s)(v -p)(v -q -s)
         Gate::Step(p, q, s) => literals::put(
             variables,
             marks,

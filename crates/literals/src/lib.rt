@@ -10,7 +10,17 @@ ghost use Rattle.clauses.specs.Entries.{Entry, variablesIn, marksIn, flat};
 ghost use Rattle.circuit.specs.declared.Gate.the-variants.{AnyOf};
 ghost use Rattle.meaning.specs.Meaning.{bit};
 ghost use Rattle.clauses.specs.Clauses.{clausesOf};
-ghost use Rattle.literals.specs.Written.{Room, Wrote, runOf, raisedOf, longOf, limit};
+ghost use Rattle.literals.specs.Written.{Room, runOf, raisedOf, longOf, limit};
+ghost use Rattle.literals.specs.Writes.{Writes};
+
+// A literal's mark: whether it is plain, and whether it is its clause's last.
+pub const NEGATED: u8 = 0;
+
+pub const PLAIN: u8 = 1;
+
+pub const LAST_NEGATED: u8 = 2;
+
+pub const LAST_PLAIN: u8 = 3;
 
 // Stores numbers from a place on.
 pub fn put_numbers(variables: &mut [u32], at: usize, more: &[u32])
@@ -35,7 +45,7 @@ pub fn put_bytes(bytes: &mut [u8], at: usize, more: &[u8])
 // Numbers and their marks, from a place on; the place after them. The numbers go before the marks, so that each are stored together.
 pub fn put(variables: &mut [u32], marks: &mut [u8], at: usize, n: &[u32], m: &[u8]) -> usize
     requires { ⌜ (at + length (now n) ≤ length (now variables)) × (at + length (now m) ≤ length (now marks)) ⌝ }
-    ensures { λ r. ⌜ ((F : List Entry) → variablesIn F ≡ old n → marksIn F ≡ old m → Wrote (old variables) (old marks) at F (new variables) (new marks) r) ⌝ }
+    ensures { λ r. ⌜ ((F : List Entry) → variablesIn F ≡ old n → marksIn F ≡ old m → Writes variables marks at F r) ⌝ }
 {
     put_numbers(variables, at, n);
     put_bytes(marks, at, m);
@@ -53,7 +63,7 @@ pub fn put_run(
 ) -> usize
     requires { ⌜ Room (now variables) (now marks) at (rows n (runOf w mark)) ⌝ }
     requires { ⌜ w + n ≤ limit ⌝ }
-    ensures { λ r. ⌜ Wrote (old variables) (old marks) at (rows n (runOf w mark)) (new variables) (new marks) r ⌝ }
+    ensures { λ r. ⌜ Writes variables marks at (rows n (runOf w mark)) r ⌝ }
 {
     let mut b = at;
     for e in 0..n {
@@ -68,11 +78,11 @@ pub fn put_run(
 fn put_raised(variables: &mut [u32], marks: &mut [u8], at: usize, v: u32, w: u32, n: u32) -> usize
     requires { ⌜ Room (now variables) (now marks) at (rows n (raisedOf v w)) ⌝ }
     requires { ⌜ w + n ≤ limit ⌝ }
-    ensures { λ r. ⌜ Wrote (old variables) (old marks) at (rows n (raisedOf v w)) (new variables) (new marks) r ⌝ }
+    ensures { λ r. ⌜ Writes variables marks at (rows n (raisedOf v w)) r ⌝ }
 {
     let mut b = at;
     for e in 0..n {
-        b = put(variables, marks, b, &[v, w + e], &[1, 2]);
+        b = put(variables, marks, b, &[v, w + e], &[PLAIN, LAST_NEGATED]);
     }
     b
 }
@@ -81,19 +91,19 @@ fn put_raised(variables: &mut [u32], marks: &mut [u8], at: usize, v: u32, w: u32
 fn put_long(variables: &mut [u32], marks: &mut [u8], at: usize, v: u32, w: u32, n: u32) -> usize
     requires { ⌜ Room (now variables) (now marks) at (longOf v w n) ⌝ }
     requires { ⌜ (1 ≤ n) × (w + n ≤ limit) ⌝ }
-    ensures { λ r. ⌜ Wrote (old variables) (old marks) at (longOf v w n) (new variables) (new marks) r ⌝ }
+    ensures { λ r. ⌜ Writes variables marks at (longOf v w n) r ⌝ }
 {
     let last = n - 1;
-    let b = put(variables, marks, at, &[v], &[0]);
-    let d = put_run(variables, marks, b, w, last, 1);
-    put(variables, marks, d, &[w + last], &[3])
+    let b = put(variables, marks, at, &[v], &[NEGATED]);
+    let d = put_run(variables, marks, b, w, last, PLAIN);
+    put(variables, marks, d, &[w + last], &[LAST_PLAIN])
 }
 
 // v is any of n variables from w on.
 pub fn put_any(variables: &mut [u32], marks: &mut [u8], at: usize, v: u32, w: u32, n: u32) -> usize
     requires { ⌜ Room (now variables) (now marks) at (flat (clausesOf v (AnyOf w n))) ⌝ }
     requires { ⌜ (1 ≤ n) × (w + n ≤ limit) ⌝ }
-    ensures { λ r. ⌜ Wrote (old variables) (old marks) at (flat (clausesOf v (AnyOf w n))) (new variables) (new marks) r ⌝ }
+    ensures { λ r. ⌜ Writes variables marks at (flat (clausesOf v (AnyOf w n))) r ⌝ }
 {
     let b = put_raised(variables, marks, at, v, w, n);
     put_long(variables, marks, b, v, w, n)
@@ -103,5 +113,5 @@ pub fn put_any(variables: &mut [u32], marks: &mut [u8], at: usize, v: u32, w: u3
 pub fn closing(plain: bool) -> u8
     ensures { λ r. ⌜ r ≡ bit plain + 2 ⌝ }
 {
-    if plain { 3 } else { 2 }
+    if plain { LAST_PLAIN } else { LAST_NEGATED }
 }

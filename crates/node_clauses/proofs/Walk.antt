@@ -1,15 +1,15 @@
--- A block's definitions stand in the order of places, so the walk writes the definition in place x at its turn x: the position is that
--- of place x, and the next position that of the next place.
+-- A block's definitions stand in the order of places, so the gate at the cursor is that of the definition in its place: the position is
+-- that of the place, and the next position that of the next place.
 use mathlib.Core.Path.{_≡_, refl, sym, ap, ap₂, _∙_, subst}
 use mathlib.Core.Bool.{Bool, true, false, cond}
 use mathlib.Core.List.{List, [], _∷_, _++_, flatMap, append-assoc, append-nil}
-use Prim.Native.Nat.{ℕ, zero, suc, _+_, _≤_, _<_}
+use Prim.Native.Nat.{ℕ, zero, suc, _+_, _-_, _≤_, _<_}
 use native.Mathlib.Omega.{arith}
 use lib.Dec.{eqb}
 use lib.ListN.{length}
 use Rattle.interval.specs.Listing.{rows}
 use Rattle.interval.specs.Limits.{maxSteps, maxCount}
-use Rattle.interval.specs.Places.{tripleCountOf}
+use Rattle.interval.specs.Places.{countOf, tripleCountOf}
 use Rattle.interval.specs.declared.Triple.{Triple}
 use Rattle.interval.proofs.Shape.{place, getD-per}
 use Rattle.interval.proofs.Counts.{triple-count-le}
@@ -29,11 +29,12 @@ use Rattle.weights.proofs.Weights.{block-length, shape-weight}
 use Rattle.weights.proofs.Rows.{small}
 use Rattle.clauses.specs.Clauses.{clausesOf, clausesBy}
 use Rattle.clauses.specs.Entries.{Entry, flat}
-use Rattle.literals.specs.Written.{Room, Wrote}
+use Rattle.literals.specs.Written.{Room, Wrote, Sofar}
 use Rattle.gates.specs.Within.{Within}
 use Rattle.clauses.proofs.Sizes.{flat-join}
 use Rattle.literals.proofs.Written.{begun, turn, room, done, named}
-use Rattle.node_clauses.specs.Walk.{definitionIn, placesAt, Walks, Walked}
+use Rattle.node_clauses.specs.Walk.{definitionIn, placesAt, DefinedAt, Walkable, Walks, Walked}
+use Rattle.node_clauses.specs.declared.Cursor.{Cursor}
 
 -- ---- the places of definitions, one definition after another
 
@@ -47,63 +48,48 @@ unfolding rows clausesBy flat flatMap
 by-rows [] = refl
 by-rows (d ∷ D) = rows-first (length D) (placesAt (d ∷ D)) ∙ ap (λ (F : List Entry). flat (clausesOf (d .variable) (d .gate)) ++ F) (by-rows D) ∙ sym (flat-join (clausesOf (d .variable) (d .gate)) (clausesBy D))
 
--- ---- where the walk stands, and the definition in place x
+-- ---- where the walk stands
 
-module _ (C k : ℕ) (block : Block) where
-  abbrev D : List Definition
-  D = definedBy C k block
-
-  pub begins : {n : ℕ} {one : Weight} → one ≡ variableWeight → n ≡ weightBy one k (block .points) (block .rule) → n ≤ maxWeight → Walks C k block n (record { row = 0; line = 0; cell = 0; before = 0 }) 0
-  begins o e l =
+module _ {k : ℕ} {block : Block} where
+  pub begins : {n all : ℕ} {one : Weight} → one ≡ variableWeight → n ≡ weightBy one k (block .points) (block .rule) → n ≤ maxWeight → all ≡ countOf k
+      → Walks k block (record { place = 0; end = n; all = all; position = record { row = 0; line = 0; cell = 0; before = 0 } })
+  begins o e l a =
       let c = e ∙ ap (λ (w : Weight). weightBy w k (block .points) (block .rule)) o ∙ shape-weight k (block .points) (block .rule) in
       record {
-        whole = c ∙ sym (block-length C k block);
+        whole = c;
         few = l;
+        intervals = a;
         here = λ h. first-placed (block .points) k (block .rule) (omega (arith, c));
         before = first-before (block .points) k (block .rule);
       }
 
-  module _ {n x : ℕ} {p : Position} (w : Walks C k block n p x) (h : x < n) where
-    pub goes-on : {q : Position} → q ≡ nextOf (block .points) k (block .rule) p → Walks C k block n q (x + 1)
+  module _ {c : Cursor} (w : Walks k block c) (h : c .place < c .end) where
+    pub goes-on : {q : Position} → q ≡ nextOf (block .points) k (block .rule) (c .position) → Walks k block (record { place = c .place + 1; end = c .end; all = c .all; position = q })
     goes-on e = record {
       whole = w .whole;
       few = w .few;
-      here = λ l. subst (λ (q : Position). Placed (block .points) k (block .rule) (x + 1) (q .row) (q .line) (q .cell)) (sym e)
-          (next-placed (block .points) k (block .rule) x p (w .here h) (omega (arith, w .whole, block-length C k block)));
-      before = subst (Before (block .points) k (block .rule)) (sym e) (next-before (block .points) k (block .rule) p (w .here h) (w .before));
+      intervals = w .intervals;
+      here = λ l. subst (λ (q : Position). Placed (block .points) k (block .rule) (c .place + 1) (q .row) (q .line) (q .cell)) (sym e)
+          (next-placed (block .points) k (block .rule) (c .place) (c .position) (w .here h) (omega (arith, w .whole)));
+      before = subst (Before (block .points) k (block .rule)) (sym e) (next-before (block .points) k (block .rule) (c .position) (w .here h) (w .before));
     }
 
-  pub definition-here : {x a i d : ℕ} → Placed (block .points) k (block .rule) x a i d → {gate : Gate} → gate ≡ gateOf C k block x a i d → definitionIn D x ≡ define (block .first + x) gate
-  unfolding definedBy
-  definition-here {x} {a} {i} {d} p g =
-      let s = shapeOf (block .points) k (block .rule) in
-      let at = p .at in
-      ap (definitionIn D) at
-      ∙ getD-per s (λ e. define (block .first + place s e) (gateOf C k block (place s e) (e .0) (e .1 .0) (e .1 .1))) (a, (i, d)) (define 0 (Constant false)) (p .inside)
-      ∙ ap₂ (λ (y : ℕ) (g : Gate). define (block .first + y) g) (sym at) (ap (λ (y : ℕ). gateOf C k block y a i d) (sym at) ∙ sym g)
+    pub small-here : Walkable k block → (k ≤ maxSteps) × (c .position .row < bound) × (c .position .line < bound) × (c .position .cell < bound) × (c .position .before < bound)
+    small-here s = omega (arith, s .steps, position-small (w .here h) (s .number) (s .steps) (s .points), before-small (c .position) (w .here h) (w .before) (s .steps) (s .points))
 
-  -- the writing loop's laws
-  module _ {v m : List ℕ} {at n : ℕ} where
-    pub walk-begun : Walks C k block n (record { row = 0; line = 0; cell = 0; before = 0 }) 0 → Walked C k block v m at n v m (record { row = 0; line = 0; cell = 0; before = 0 }) at 0
-    walk-begun w = record { walks = w; sofar = begun }
+  -- one turn less is left
+  pub one-less : {c d : Cursor} → Walks k block c → c .place < c .end → Walks k block d → d .place ≡ c .place + 1 → d .end - d .place < c .end - c .place
+  one-less v h w e = omega (arith, v .whole, w .whole, e)
 
-    module _ {v′ m′ : List ℕ} {p : Position} {b x : ℕ} (w : Walked C k block v m at n v′ m′ p b x) where
-      all : rows n (placesAt D) ≡ flat (clausesBy D)
-      all = ap (λ (n : ℕ). rows n (placesAt D)) (w .walks .whole) ∙ by-rows D
+  -- as many gates as definitions
+  pub all-defined : (C : ℕ) {c : Cursor} → Walks k block c → c .end ≡ length (definedBy C k block)
+  all-defined C w = w .whole ∙ sym (block-length C k block)
 
-      pub walk-done : n ≤ x → Wrote v m at (flat (clausesBy D)) v′ m′ b
-      walk-done h = named all (done (w .sofar) h)
+pub walkable : {C k : ℕ} {block : Block} → Bounded C k block → block .points ≤ maxCount → Walkable k block
+walkable s p = record { steps = s .steps; points = p; number = s .number }
 
-      module _ (h : x < n) {gate : Gate} (g : gate ≡ gateOf C k block x (p .row) (p .line) (p .cell)) where
-        places : placesAt D x ≡ flat (clausesOf (block .first + x) gate)
-        places = ap (λ (e : Definition). flat (clausesOf (e .variable) (e .gate))) (definition-here (w .walks .here h) g)
-
-        pub walk-room : Room v m at (flat (clausesBy D)) → Room v′ m′ b (flat (clausesOf (block .first + x) gate))
-        walk-room r = room (w .sofar) h places (subst (Room v m at) (sym all) r)
-
-        pub walk-turn : {v″ m″ : List ℕ} {b″ : ℕ} {q : Position} → Wrote v′ m′ b (flat (clausesOf (block .first + x) gate)) v″ m″ b″ → q ≡ nextOf (block .points) k (block .rule) p
-            → Walked C k block v m at n v″ m″ q b″ (x + 1)
-        walk-turn t e = record { walks = goes-on (w .walks) h e; sofar = turn (w .sofar) h places t }
+pub light : {k : ℕ} {block : Block} → Walkable k block → {w v : Weight} → w ≡ v → v .copy ≤ 4 → v .each ≤ 3 → v .step ≤ 11 → Light w k (block .points) (block .rule)
+light s e a b c = record { small = small e a b c (s .steps); points = s .points; number = s .number }
 
 -- ---- the inputs of a block's gates are numbers of 32 bits
 
@@ -136,14 +122,44 @@ module _ (C k : ℕ) (block : Block) (s : Bounded C k block) where
       go Throughout e = within-cond (eqb d 0) (Constant true) _ tt tt
       go Cut e = tt
 
--- ---- what each turn asks of the code that it calls
+-- ---- the definition in place x
 
-module _ {C k : ℕ} {block : Block} (s : Bounded C k block × (block .points ≤ maxCount)) where
-  pub light : {w v : Weight} → w ≡ v → v .copy ≤ 4 → v .each ≤ 3 → v .step ≤ 11 → Light w k (block .points) (block .rule)
-  light e a b c = record { small = small e a b c (s .0 .steps); points = s .1; number = s .0 .number }
+pub defined-at : {C k : ℕ} {block : Block} → Bounded C k block → {x a i d : ℕ} → Placed (block .points) k (block .rule) x a i d → {gate : Gate} → gate ≡ gateOf C k block x a i d → DefinedAt C k block x gate
+unfolding definedBy
+defined-at {C} {k} {block} b {x} {a} {i} {d} p g =
+    let s = shapeOf (block .points) k (block .rule) in
+    let at = p .at in
+    record {
+      here = ap (definitionIn (definedBy C k block)) at
+          ∙ getD-per s (λ e. define (block .first + place s e) (gateOf C k block (place s e) (e .0) (e .1 .0) (e .1 .1))) (a, (i, d)) (define 0 (Constant false)) (p .inside)
+          ∙ ap₂ (λ (y : ℕ) (g : Gate). define (block .first + y) g) (sym at) (ap (λ (y : ℕ). gateOf C k block y a i d) (sym at) ∙ sym g);
+      within = subst Within (sym g) (gate-within C k block b x a i d p);
+    }
 
-  pub within-here : {x a i d : ℕ} → Placed (block .points) k (block .rule) x a i d → {gate : Gate} → gate ≡ gateOf C k block x a i d → Within gate
-  within-here {x} {a} {i} {d} p g = subst Within (sym g) (gate-within C k block (s .0) x a i d p)
+-- ---- the writing loop
 
-  pub small-here : {n x : ℕ} {p : Position} → Walks C k block n p x → x < n → (k ≤ maxSteps) × (p .row < bound) × (p .line < bound) × (p .cell < bound) × (p .before < bound)
-  small-here {p = p} w h = omega (arith, s .0 .steps, position-small (w .here h) (s .0 .number) (s .0 .steps) (s .1), before-small p (w .here h) (w .before) (s .0 .steps) (s .1))
+module _ (C k : ℕ) (block : Block) where
+  abbrev D : List Definition
+  D = definedBy C k block
+
+  module _ {v m : List ℕ} {at : ℕ} where
+    pub walk-begun : {c : Cursor} → Walks k block c → c .place ≡ 0 → Walked C k block v m at v m c at
+    walk-begun w e = record { walks = w; sofar = subst (Sofar v m at (placesAt D) (length D) v m at) (sym e) begun }
+
+    module _ {v′ m′ : List ℕ} {c : Cursor} {b : ℕ} (w : Walked C k block v m at v′ m′ c b) where
+      pub walk-done : c .end ≤ c .place → Wrote v m at (flat (clausesBy D)) v′ m′ b
+      walk-done h = named (by-rows D) (done (w .sofar) (omega (arith, all-defined C (w .walks))))
+
+      module _ (h : c .place < c .end) {gate : Gate} (g : DefinedAt C k block (c .place) gate) where
+        inside : c .place < length D
+        inside = omega (arith, all-defined C (w .walks))
+
+        places : placesAt D (c .place) ≡ flat (clausesOf (block .first + c .place) gate)
+        places = ap (λ (e : Definition). flat (clausesOf (e .variable) (e .gate))) (g .here)
+
+        pub walk-room : Room v m at (flat (clausesBy D)) → Room v′ m′ b (flat (clausesOf (block .first + c .place) gate))
+        walk-room r = room (w .sofar) inside places (subst (Room v m at) (sym (by-rows D)) r)
+
+        pub walk-turn : {v″ m″ : List ℕ} {b″ : ℕ} {d : Cursor} → Wrote v′ m′ b (flat (clausesOf (block .first + c .place) gate)) v″ m″ b″ → Walks k block d × (d .place ≡ c .place + 1)
+            → Walked C k block v m at v″ m″ d b″
+        walk-turn {v″} {m″} {b″} t e = record { walks = e .0; sofar = subst (Sofar v m at (placesAt D) (length D) v″ m″ b″) (sym (e .1)) (turn (w .sofar) inside places t) }

@@ -1,19 +1,24 @@
--- The walk of a block after x positions: where it stands, and what it has written. Nothing here need be believed: no call open to others
+-- The walk through a block's gates: where it stands, and what it has written. Nothing here need be believed: no call open to others
 -- cites it.
 use mathlib.Core.Path.{_≡_}
 use mathlib.Core.Bool.{false}
 use mathlib.Core.List.{List}
-use Prim.Native.Nat.{ℕ, _≤_, _<_}
+use Prim.Native.Nat.{ℕ, _+_, _≤_, _<_}
 use lib.ListN.{length, getD}
+use Rattle.interval.proofs.Shape.{count}
+use Rattle.interval.specs.Limits.{maxSteps, maxCount}
+use Rattle.interval.specs.Places.{countOf}
 use Rattle.circuit.specs.Circuit.{Definition, define}
+use Rattle.circuit.specs.declared.Gate.{Gate}
 use Rattle.circuit.specs.declared.Gate.the-variants.{Constant}
-use Rattle.blocks.specs.Blocks.{definedBy, Placed, Before}
+use Rattle.blocks.specs.Blocks.{shapeOf, definedBy, Placed, Before, numberOf}
 use Rattle.blocks.specs.declared.Block.{Block}
-use Rattle.blocks.specs.declared.Position.{Position}
 use Rattle.weights.specs.Weights.{maxWeight}
 use Rattle.clauses.specs.Clauses.{clausesOf}
 use Rattle.clauses.specs.Entries.{Entry, flat}
+use Rattle.gates.specs.Within.{Within}
 use Rattle.literals.specs.Written.{Sofar}
+use Rattle.node_clauses.specs.declared.Cursor.{Cursor}
 
 -- the definition in place x
 abbrev pub definitionIn : List Definition → ℕ → Definition
@@ -23,13 +28,25 @@ definitionIn D x = getD D x (define 0 (Constant false))
 abbrev pub placesAt : List Definition → ℕ → List Entry
 placesAt D x = let d = definitionIn D x in flat (clausesOf (d .variable) (d .gate))
 
--- n being how many positions there are, place x, if it is one of them, is that of position p
-pub record Walks (C k : ℕ) (block : Block) (n : ℕ) (p : Position) (x : ℕ) : Type 0 where
-  pub whole : n ≡ length (definedBy C k block)
-  pub few : n ≤ maxWeight
-  pub here : x < n → Placed (block .points) k (block .rule) x (p .row) (p .line) (p .cell)
-  pub before : Before (block .points) k (block .rule) p
+-- gate is that of the definition in place x of a block, and its inputs are numbers of 32 bits
+pub record DefinedAt (C k : ℕ) (block : Block) (x : ℕ) (gate : Gate) : Type 0 where
+  pub here : definitionIn (definedBy C k block) x ≡ define (block .first + x) gate
+  pub within : Within gate
 
-pub record Walked (C k : ℕ) (block : Block) (v m : List ℕ) (at n : ℕ) (v′ m′ : List ℕ) (p : Position) (at′ x : ℕ) : Type 0 where
-  pub walks : Walks C k block n p x
-  pub sofar : Sofar v m at (placesAt (definedBy C k block)) n v′ m′ at′ x
+-- what a walk asks of a block
+pub record Walkable (k : ℕ) (block : Block) : Type 0 where
+  pub steps : k ≤ maxSteps
+  pub points : block .points ≤ maxCount
+  pub number : numberOf (block .rule) ≤ 255
+
+-- the place, if it is one of the block's, is that of the position
+pub record Walks (k : ℕ) (block : Block) (c : Cursor) : Type 0 where
+  pub whole : c .end ≡ count (shapeOf (block .points) k (block .rule))
+  pub few : c .end ≤ maxWeight
+  pub intervals : c .all ≡ countOf k
+  pub here : c .place < c .end → Placed (block .points) k (block .rule) (c .place) (c .position .row) (c .position .line) (c .position .cell)
+  pub before : Before (block .points) k (block .rule) (c .position)
+
+pub record Walked (C k : ℕ) (block : Block) (v m : List ℕ) (at : ℕ) (v′ m′ : List ℕ) (c : Cursor) (at′ : ℕ) : Type 0 where
+  pub walks : Walks k block c
+  pub sofar : Sofar v m at (placesAt (definedBy C k block)) (length (definedBy C k block)) v′ m′ at′ (c .place)

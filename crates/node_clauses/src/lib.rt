@@ -2,20 +2,74 @@
 use blocks::Block;
 use blocks::Position;
 use blocks::Rule;
+use circuit::Gate;
 use interval::Interval;
 ghost use mathlib.Core.Path.{_≡_};
-ghost use Prim.Native.Nat.{_+_, _≤_};
-ghost use Rattle.moments.specs.Moments.{old, new};
+ghost use Prim.Native.Nat.{_+_, _≤_, _<_};
 ghost use Rattle.interval.specs.Places.{countOf};
 ghost use Rattle.interval.specs.Limits.{maxSteps, maxCount};
 ghost use Rattle.blocks.specs.Blocks.{definedBy, Bounded};
 ghost use Rattle.weights.specs.Weights.{maxSum};
 ghost use Rattle.clauses.specs.Clauses.{clausesBy};
 ghost use Rattle.clauses.specs.Entries.{flat};
-ghost use Rattle.literals.specs.Written.{Room, Wrote};
+ghost use Rattle.literals.specs.Written.{Room};
+ghost use Rattle.literals.specs.Writes.{Writes};
+ghost use Rattle.node_clauses.specs.Walk.{Walkable, Walks, DefinedAt};
 ghost use Rattle.node_clauses.specs.Nodes.{tripleBlock, intervalBlock, choppedBy, nodePlaces, Fine};
 
-// The clauses of a block, position after position.
+// Where a walk through the gates of a block stands: at a place, past the last one at `end`, and at that place's position; k steps have
+// I intervals in `all`.
+pub struct Cursor {
+    pub place: u32,
+    pub end: u32,
+    pub all: u32,
+    pub position: Position,
+}
+
+impl Cursor {
+    // At the first gate.
+    pub fn start(k: u32, block: Block) -> Cursor
+        requires { ⌜ Walkable k block ⌝ }
+        ensures { λ r. ⌜ Walks k block r × (r .place ≡ 0) ⌝ }
+    {
+        let rule = block.rule;
+        Cursor {
+            place: 0,
+            end: weights::weigh(weights::variables(), k, block.points, rule),
+            all: Interval::count(k as usize) as u32,
+            position: Position {
+                row: 0,
+                line: 0,
+                cell: 0,
+                before: 0,
+            },
+        }
+    }
+
+    // The gate here: that of the block's definition in this place.
+    pub fn gate(self, c: u32, k: u32, block: Block) -> Gate
+        requires { ⌜ Bounded c k block × Walks k block self × (self .place < self .end) ⌝ }
+        ensures { λ r. ⌜ DefinedAt c k block (self .place) r ⌝ }
+    {
+        blocks::gate_at(c, k, self.all, block, self.place, self.position)
+    }
+
+    // At the next gate.
+    pub fn next(self, k: u32, block: Block) -> Cursor
+        requires { ⌜ Walkable k block × Walks k block self × (self .place < self .end) ⌝ }
+        ensures { λ r. ⌜ Walks k block r × (r .place ≡ self .place + 1) ⌝ }
+    {
+        let rule = block.rule;
+        Cursor {
+            place: self.place + 1,
+            end: self.end,
+            all: self.all,
+            position: blocks::next(rule, block.points, k, self.position),
+        }
+    }
+}
+
+// The clauses of a block, gate after gate.
 fn walk_block(
     variables: &mut [u32],
     marks: &mut [u8],
@@ -26,24 +80,14 @@ fn walk_block(
 ) -> usize
     requires { ⌜ Room (now variables) (now marks) at (flat (clausesBy (definedBy c k block))) ⌝ }
     requires { ⌜ Bounded c k block × (block .points ≤ maxCount) ⌝ }
-    ensures { λ r. ⌜ Wrote (old variables) (old marks) at (flat (clausesBy (definedBy c k block))) (new variables) (new marks) r ⌝ }
+    ensures { λ r. ⌜ Writes variables marks at (flat (clausesBy (definedBy c k block))) r ⌝ }
 {
-    let rule = block.rule;
-    let points = block.points;
-    let first = block.first;
-    let all = Interval::count(k as usize) as u32;
-    let count = weights::weigh(weights::variables(), k, points, rule);
-    let mut p = Position {
-        row: 0,
-        line: 0,
-        cell: 0,
-        before: 0,
-    };
+    let mut cursor = Cursor::start(k, block);
     let mut b = at;
-    for x in 0..count {
-        let gate = blocks::gate_at(c, k, all, block, x, p);
-        b = gates::put_gate(variables, marks, b, first + x, gate);
-        p = blocks::next(rule, points, k, p);
+    while cursor.place < cursor.end {
+        let gate = cursor.gate(c, k, block);
+        b = gates::put_gate(variables, marks, b, block.first + cursor.place, gate);
+        cursor = cursor.next(k, block);
     }
     b
 }
@@ -59,7 +103,7 @@ fn put_block(
 ) -> usize
     requires { ⌜ Room (now variables) (now marks) at (flat (clausesBy (definedBy c k block))) ⌝ }
     requires { ⌜ Bounded c k block × (block .points ≤ maxCount) ⌝ }
-    ensures { λ r. ⌜ Wrote (old variables) (old marks) at (flat (clausesBy (definedBy c k block))) (new variables) (new marks) r ⌝ }
+    ensures { λ r. ⌜ Writes variables marks at (flat (clausesBy (definedBy c k block))) r ⌝ }
 {
     let rule = block.rule;
     if let Rule::Fixed(up) = rule {
@@ -120,7 +164,7 @@ fn put_chop(
 ) -> usize
     requires { ⌜ Room (now variables) (now marks) at (flat (clausesBy (choppedBy c k (block .first + countOf k) block))) ⌝ }
     requires { ⌜ Fine c k block ⌝ }
-    ensures { λ r. ⌜ Wrote (old variables) (old marks) at (flat (clausesBy (choppedBy c k (block .first + countOf k) block))) (new variables) (new marks) r ⌝ }
+    ensures { λ r. ⌜ Writes variables marks at (flat (clausesBy (choppedBy c k (block .first + countOf k) block))) r ⌝ }
 {
     let w = beyond(block.first, k);
     let triples = triples_of(w, block);
@@ -140,7 +184,7 @@ pub fn put_node(
 ) -> usize
     requires { ⌜ Room (now variables) (now marks) at (nodePlaces c k block) ⌝ }
     requires { ⌜ Fine c k block ⌝ }
-    ensures { λ r. ⌜ Wrote (old variables) (old marks) at (nodePlaces c k block) (new variables) (new marks) r ⌝ }
+    ensures { λ r. ⌜ Writes variables marks at (nodePlaces c k block) r ⌝ }
 {
     let rule = block.rule;
     if blocks::is_chop(rule) {

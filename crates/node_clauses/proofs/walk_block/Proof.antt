@@ -1,65 +1,51 @@
--- At turn x the position is that of place x, so the gate is that of the definition in place x,
+-- The gate at the cursor is that of the definition in its place,
 -- whose clauses the turn writes (Walk.antt).
-use Rattle.node_clauses.specs.Walk.{Walked}
-use Rattle.node_clauses.proofs.Walk.{begins, walk-begun, walk-room, walk-turn, walk-done, light, within-here, small-here}
 use Prim.Native.Nat.{_-_}
 use native.Mathlib.Omega.{arith}
 use borrow.Author.Needs.{needs}
+use Rattle.node_clauses.specs.Walk.{Walked}
+use Rattle.node_clauses.proofs.Walk.{walkable, one-less, walk-begun, walk-room, walk-turn, walk-done}
 use Rattle.node_clauses.proofs.walk_block.Statement.{statement}
 use Rattle.node_clauses.proofs.walk_block.Tie as tie
 
 abbrev Inv-loop : tie.InvT-loop
-Inv-loop variables₀ marks₀ at c k block rule points first all count p₀ b₀ x₀ variables marks p b x = Walked c k block variables₀ marks₀ at count variables marks p b x
+Inv-loop variables₀ marks₀ at c k block cursor₀ b₀ variables marks cursor b = Walked c k block variables₀ marks₀ at variables marks cursor b
 
 abbrev μ-loop : tie.MeasureT-loop
-μ-loop variables₀ marks₀ at c k block rule points first all count p₀ b₀ x₀ variables marks p b x = count - x
+μ-loop variables₀ marks₀ at c k block cursor₀ b₀ variables marks cursor b = cursor .end - cursor .place
 
-count-requires : tie.Need-count-requires Inv-loop μ-loop
-count-requires c κs = search needs
-
-cast-all : tie.Need-cast-all Inv-loop μ-loop
-cast-all c = search needs
-
-variables-requires : tie.Need-variables-requires Inv-loop μ-loop
-variables-requires c κs = search needs
-
-weigh-requires : tie.Need-weigh-requires Inv-loop μ-loop
-weigh-requires c κs = light (c .before .before .before .before .pre .1) (c .variables .ensures) (omega arith) (omega arith) (omega arith)
+start-requires : tie.Need-start-requires Inv-loop μ-loop
+start-requires c κs = let p = c .before .before .pre .1 in walkable (p .0) (p .1)
 
 loop-holds : tie.Need-loop-holds Inv-loop μ-loop
-loop-holds c = walk-begun _ _ _ (begins _ _ _ (c .before .variables .ensures) (c .weigh .ensures .0) (c .weigh .ensures .1))
+loop-holds c = walk-begun _ _ _ (c .start .ensures .0) (c .start .ensures .1)
 
-gate-at-requires : tie.Need-gate-at-requires Inv-loop μ-loop
-gate-at-requires c κs = let w = c .before .loop .inv .walks in ((c .before .before .before .before .before .before .before .pre .1 .0, omega (arith, w .few, c .loop-test .taken), c .before .before .before .before .count .ensures .0), (w .here (search needs), λ _. w .before))
+gate-requires : tie.Need-gate-requires Inv-loop μ-loop
+gate-requires c κs = (c .before .before .before .before .before .before .pre .1 .0, c .before .before .loop .inv .walks, c .if1 .taken)
 
 add-put-gate : tie.Need-add-put-gate Inv-loop μ-loop
-add-put-gate c = let w = c .before .before .before .before .loop .inv .walks in omega (arith, w .few, c .before .before .before .loop-test .taken, c .before .before .before .before .before .before .before .before .before .before .pre .1 .0 .first)
+add-put-gate c = omega (arith, c .before .before .before .before .before .before .before .loop .inv .walks .few, c .before .before .before .before .before .if1 .taken, c .before .before .before .before .before .before .before .before .before .before .before .pre .1 .0 .first)
 
 put-gate-requires : tie.Need-put-gate-requires Inv-loop μ-loop
-put-gate-requires c κs = let w = c .before .before .before .before .loop .inv in
-    let g = c .before .before .gate-at .ensures in
-    (walk-room _ _ _ w (search needs) g (c .before .before .before .before .before .before .before .before .before .before .pre .0), within-here (c .before .before .before .before .before .before .before .before .before .before .pre .1) (w .walks .here (search needs)) g)
+put-gate-requires c κs = let g = c .before .before .before .before .gate .ensures in (walk-room _ _ _ (c .before .before .before .before .before .before .before .loop .inv) (c .before .before .before .before .before .if1 .taken) g (c .before .before .before .before .before .before .before .before .before .before .before .pre .0), g .within)
 
 next-requires : tie.Need-next-requires Inv-loop μ-loop
-next-requires c κs = small-here (c .before .before .before .before .before .before .before .before .before .before .before .before .before .before .before .pre .1) (c .before .before .before .before .before .before .before .before .before .loop .inv .walks) (search needs)
-
-add-x : tie.Need-add-x Inv-loop μ-loop
-add-x c = search needs
+next-requires c κs = let p = c .before .before .before .before .before .before .before .before .before .before .before .before .before .before .before .before .pre .1 in (walkable (p .0) (p .1), c .before .before .before .before .before .before .before .before .before .before .before .before .loop .inv .walks, c .before .before .before .before .before .before .before .before .before .before .if1 .taken)
 
 loop-less : tie.Need-loop-less Inv-loop μ-loop
-loop-less c = search needs
+loop-less c = one-less (c .before .before .before .before .before .before .before .before .before .before .before .before .before .loop .inv .walks) (c .before .before .before .before .before .before .before .before .before .before .before .if1 .taken) (c .next .ensures .0) (c .next .ensures .1)
 
 loop-again : tie.Need-loop-again Inv-loop μ-loop
-loop-again c = walk-turn _ _ _ (c .before .before .before .before .before .before .before .before .before .before .loop .inv) (search needs) (c .before .before .before .before .before .before .before .before .gate-at .ensures) (c .before .before .before .before .before .put-gate .ensures) (c .next .ensures)
+loop-again c = walk-turn _ _ _ (c .before .before .before .before .before .before .before .before .before .before .before .before .before .loop .inv) (c .before .before .before .before .before .before .before .before .before .before .before .if1 .taken) (c .before .before .before .before .before .before .before .before .before .before .gate .ensures) (c .before .before .before .before .before .put-gate .ensures) (c .next .ensures)
 
 same-length : tie.Need-same-length Inv-loop μ-loop
-same-length c = c .before .loop .inv .sofar .long
+same-length c = c .before .before .loop .inv .sofar .long
 
 same-length-2 : tie.Need-same-length-2 Inv-loop μ-loop
-same-length-2 c = c .before .loop .inv .sofar .wide
+same-length-2 c = c .before .before .loop .inv .sofar .wide
 
 returns : tie.Need-returns Inv-loop μ-loop
-returns c = walk-done _ _ _ (c .before .loop .inv) (search needs)
+returns c = walk-done _ _ _ (c .before .before .loop .inv) (omega (arith, c .if1 .left))
 
 pub walk-block-spec : {M : Type 1} → statement M
 walk-block-spec =
@@ -67,16 +53,12 @@ walk-block-spec =
     (tie.spec
     Inv-loop
     μ-loop
-    count-requires
-    cast-all
-    variables-requires
-    weigh-requires
+    start-requires
     loop-holds
-    gate-at-requires
+    gate-requires
     add-put-gate
     put-gate-requires
     next-requires
-    add-x
     loop-less
     loop-again
     same-length

@@ -1,0 +1,20 @@
+-- The next position is that of the next place,
+-- if the block has one more (Walk.antt).
+use mathlib.Core.Path.{refl}
+use native.Mathlib.Omega.{arith}
+use borrow.Author.Needs.{needs}
+use Rattle.node_clauses.proofs.Walk.{goes-on, small-here}
+use Rattle.node_clauses.proofs.Cursor.next.Statement.{statement}
+use Rattle.node_clauses.proofs.Cursor.next.Tie as tie
+
+add-t5 : tie.Need-add-t5
+add-t5 c = search needs
+
+next-requires : tie.Need-next-requires
+next-requires c κs = let p = c .before .pre in small-here (p .1) (p .2) (p .0)
+
+returns : tie.Need-returns
+returns c = let p = c .before .before .pre in (goes-on (p .1) (p .2) (c .next .ensures), refl)
+
+pub next-spec : {M : Type 1} → statement M
+next-spec = tie.close (tie.spec add-t5 next-requires returns)

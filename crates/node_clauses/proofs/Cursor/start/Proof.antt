@@ -1,0 +1,26 @@
+-- Position 0 is that of place 0, and a block has as many gates as variables:
+-- what `weigh` answers for variables (Walk.antt).
+use native.Mathlib.Omega.{arith}
+use mathlib.Core.Path.{refl}
+use borrow.Author.Needs.{needs}
+use Rattle.node_clauses.proofs.Walk.{begins, light}
+use Rattle.node_clauses.proofs.Cursor.start.Statement.{statement}
+use Rattle.node_clauses.proofs.Cursor.start.Tie as tie
+
+variables-requires : tie.Need-variables-requires
+variables-requires c κs = search needs
+
+weigh-requires : tie.Need-weigh-requires
+weigh-requires c κs = light (c .before .pre) (c .variables .ensures) (omega arith) (omega arith) (omega arith)
+
+count-requires : tie.Need-count-requires
+count-requires c κs = c .before .before .pre .steps
+
+cast-t8 : tie.Need-cast-t8
+cast-t8 c = search needs
+
+returns : tie.Need-returns
+returns c = (begins (c .before .before .variables .ensures) (c .before .weigh .ensures .0) (c .before .weigh .ensures .1) (c .count .ensures .0), refl)
+
+pub start-spec : {M : Type 1} → statement M
+start-spec = tie.close (tie.spec variables-requires weigh-requires count-requires cast-t8 returns)
