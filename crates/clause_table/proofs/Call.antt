@@ -7,7 +7,7 @@ use Prim.Native.Nat.{ℕ, zero, suc, _+_, _*_, _≤_}
 use native.Mathlib.Nat.{zero-add}
 use native.Mathlib.Omega.{arith}
 use lib.Dec.{leb}
-use lib.ListN.{length, getD, replicate, length-append, length-map}
+use lib.ListN.{length, getD, length-append, length-map}
 use lib.Seq.{sets}
 use borrow.Author.Tests.{leb-true}
 use Rattle.refusal.specs.Asked.{asked}
@@ -53,16 +53,6 @@ use Rattle.clause_table.specs.declared.Sizes.{Sizes}
 use Rattle.clause_table.specs.declared.Written.the-variants.{Done}
 use Rattle.clause_table.proofs.Measure.{stored-over}
 use Rattle.clause_table.proofs.Places.{kinds, numbers, sizes, table-places}
-
--- ---- no first variable is known yet
-
-pub zeros-low : Low (replicate maxNodes 0)
-zeros-low y = omega (arith, zeros maxNodes y)
-  where
-    zeros : (n y : ℕ) → getD {A = ℕ} (replicate n 0) y 0 ≡ 0
-    zeros zero y = refl
-    zeros (suc n) zero = refl
-    zeros (suc n) (suc y) = zeros n y
 
 -- ---- how many places a table takes, whatever the node table says
 
@@ -115,9 +105,9 @@ module _ (L s v m : ℕ) (e : askRoom L s v m ≡ Yes) where
   pub room-enough : (5 ≤ s) × (L ≤ v) × (L ≤ m)
   room-enough = (leb-true 5 s (room-yes .0), leb-true L v (room-yes .1), leb-true L m (room-yes .2))
 
-pub table-room : {C k : ℕ} {T : NodeTable} {firsts : List ℕ} {s : Sizes} {v m : List ℕ} → Measured C k (T .kinds) (T .numbers) (T .count) firsts s → s .literals ≤ length v → s .literals ≤ length m
+pub table-room : {C k : ℕ} (T : NodeTable) {firsts : List ℕ} {s : Sizes} {v m : List ℕ} → Measured C k (T .kinds) (T .numbers) (T .count) firsts s → s .literals ≤ length v → s .literals ≤ length m
     → Room v m 0 (tablePlaces C k T firsts)
-table-room {C} {k} {T} {firsts} w g h =
+table-room {C} {k} T {firsts} w g h =
     let l = places-length C k T firsts in
     record { variables = omega (arith, l, w .literals, g); marks = omega (arith, l, w .literals, h) }
 

@@ -2,13 +2,13 @@
 -- first variable, and no first variable is above the whole.
 use mathlib.Core.Path.{_≡_, refl, ap, _∙_, subst}
 use mathlib.Core.List.{List, _++_}
-use Prim.Native.Nat.{ℕ, _+_, _-_, _*_, _≤_}
+use Prim.Native.Nat.{ℕ, zero, suc, _+_, _-_, _*_, _≤_}
 use native.Mathlib.Nat.{mul-le-mul}
 use native.Mathlib.Omega.{arith}
-use lib.ListN.{length, drop}
+use lib.ListN.{length, getD, replicate, drop}
 use lib.Seq.{sets, sets-eq}
 use Rattle.interval.specs.Limits.{maxSteps}
-use Rattle.grammar.specs.Limits.{maxChannels}
+use Rattle.grammar.specs.Limits.{maxNodes, maxChannels}
 use Rattle.weights.specs.Weights.{variableWeight, clauseWeight, literalWeight, weightTo, Summed}
 use Rattle.weights.specs.declared.Weight.{Weight}
 use Rattle.weights.proofs.Rows.{all-low}
@@ -17,6 +17,15 @@ use Rattle.clause_table.specs.Rows.{Low, Measured}
 
 pub channels-few : (C k : ℕ) → C ≤ maxChannels → k ≤ maxSteps → k * C ≤ maxSteps * maxChannels
 channels-few C k h l = mul-le-mul {n₂ = maxSteps} {m₂ = maxChannels} l h
+
+-- no first variable is known at first
+pub zeros-low : Low (replicate maxNodes 0)
+zeros-low y = omega (arith, zeros maxNodes y)
+  where
+    zeros : (n y : ℕ) → getD {A = ℕ} (replicate n 0) y 0 ≡ 0
+    zeros zero y = refl
+    zeros (suc n) zero = refl
+    zeros (suc n) (suc y) = zeros n y
 
 pub measured : {C k : ℕ} {kinds numbers : List ℕ} {n : ℕ} {a b c d : List ℕ} {m l e : ℕ} {x y z : Weight} → Low a → x ≡ clauseWeight → Summed x k kinds numbers 1 n a b m
     → y ≡ literalWeight → Summed y k kinds numbers 1 n b c l → z ≡ variableWeight → Summed z k kinds numbers (1 + k * C) n c d e

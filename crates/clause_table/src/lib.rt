@@ -154,34 +154,10 @@ pub fn layout_of(table: NodeTable, c: u32, k: u32) -> Layout
     ensures { λ r. ⌜ Measured c k (table .kinds) (table .numbers) (table .count) (r .firsts) (r .sizes) ⌝ }
 {
     let mut firsts = [0; MAX_NODES];
-    let clauses = weights::sums(
-        &table.kinds,
-        &table.numbers,
-        table.count,
-        k,
-        weights::clauses(),
-        1,
-        &mut firsts,
-    );
-    let literals = weights::sums(
-        &table.kinds,
-        &table.numbers,
-        table.count,
-        k,
-        weights::literals(),
-        1,
-        &mut firsts,
-    );
+    let clauses = weights::sums(table, k, weights::clauses(), 1, &mut firsts);
+    let literals = weights::sums(table, k, weights::literals(), 1, &mut firsts);
     let start = 1 + k * c;
-    let end = weights::sums(
-        &table.kinds,
-        &table.numbers,
-        table.count,
-        k,
-        weights::variables(),
-        start,
-        &mut firsts,
-    );
+    let end = weights::sums(table, k, weights::variables(), start, &mut firsts);
     Layout {
         sizes: Sizes {
             channels: c,

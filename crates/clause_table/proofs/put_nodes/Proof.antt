@@ -12,20 +12,20 @@ use Rattle.clause_table.proofs.put_nodes.Statement.{statement}
 use Rattle.clause_table.proofs.put_nodes.Tie as tie
 
 abbrev Inv-loop : tie.InvT-loop
-Inv-loop variables₀ marks₀ kinds numbers sizes firsts count c k at₀ x₀ variables marks at x = Sofar variables₀ marks₀ 0 (rowPlaces c k kinds numbers sizes firsts) count variables marks at x
+Inv-loop variables₀ marks₀ firsts c k table at₀ x₀ x-end variables marks at x = Sofar variables₀ marks₀ 0 (rowPlaces c k (table .kinds) (table .numbers) (table .sizes) firsts) (table .count) variables marks at x
 
 abbrev μ-loop : tie.MeasureT-loop
-μ-loop variables₀ marks₀ kinds numbers sizes firsts count c k at₀ x₀ variables marks at x = count - x
+μ-loop variables₀ marks₀ firsts c k table at₀ x₀ x-end variables marks at x = table .count - x
 
 loop-holds : tie.Need-loop-holds Inv-loop μ-loop
 loop-holds c = begun
 
 block-at-requires : tie.Need-block-at-requires Inv-loop μ-loop
-block-at-requires c κs = let p = c .before .before .before .before .pre .1 in (p .1, omega (arith, p .2, c .loop-test .taken), p .3)
+block-at-requires c κs = let p = c .before .before .before .before .before .before .before .before .pre .1 in (p .1, omega (arith, p .2, c .before .before .before .before .loop-test .taken), p .3)
 
 put-node-requires : tie.Need-put-node-requires Inv-loop μ-loop
 put-node-requires c κs = let e = c .before .before .block-at .ensures in
-    (room (c .before .before .before .before .loop .inv) (search needs) (ap (nodePlaces _ _) (sym (e .0))) (c .before .before .before .before .before .before .before .pre .0), e .1 _ (c .before .before .before .before .before .before .before .pre .1 .0))
+    (room (c .before .before .before .before .before .before .before .before .loop .inv) (search needs) (ap (nodePlaces _ _) (sym (e .0))) (c .before .before .before .before .before .before .before .before .before .before .before .pre .0), e .1 _ (c .before .before .before .before .before .before .before .before .before .before .before .pre .1 .0))
 
 add-x : tie.Need-add-x Inv-loop μ-loop
 add-x c = search needs
@@ -34,7 +34,7 @@ loop-less : tie.Need-loop-less Inv-loop μ-loop
 loop-less c = search needs
 
 loop-again : tie.Need-loop-again Inv-loop μ-loop
-loop-again c = turn (c .before .before .before .before .before .before .before .before .before .loop .inv) (search needs) (ap (nodePlaces _ _) (sym (c .before .before .before .before .before .before .before .block-at .ensures .0))) (c .before .before .before .before .put-node .ensures)
+loop-again c = turn (c .before .before .before .before .before .before .before .before .before .before .before .before .before .loop .inv) (search needs) (ap (nodePlaces _ _) (sym (c .before .before .before .before .before .before .before .block-at .ensures .0))) (c .before .before .before .before .put-node .ensures)
 
 same-length : tie.Need-same-length Inv-loop μ-loop
 same-length c = search needs

@@ -18,7 +18,7 @@ add-root : tie.Need-add-root
 add-root c = search needs
 
 put-run-requires : tie.Need-put-run-requires
-put-run-requires c κs = (root-room _ _ (c .before .before .seat .ensures .0) (c .before .before .before .before .before .before .before .before .before .before .before .before .pre .0) (c .before .before .before .before .before .before .before .put-nodes .ensures), omega (arith, c .before .before .seat .ensures .1, c .before .before .before .before .before .before .before .before .before .before .before .before .pre .1 .1))
+put-run-requires c κs = (root-room _ _ (c .before .before .seat .ensures .0) (c .before .before .before .before .before .before .before .before .before .before .before .before .before .before .before .pre .0) (c .before .before .before .before .before .before .before .before .before .before .put-nodes .ensures), omega (arith, c .before .before .seat .ensures .1, c .before .before .before .before .before .before .before .before .before .before .before .before .before .before .before .pre .1 .1))
 
 same-length : tie.Need-same-length
 same-length c = search needs
@@ -27,7 +27,7 @@ same-length-2 : tie.Need-same-length-2
 same-length-2 c = search needs
 
 returns : tie.Need-returns
-returns c = root-wrote _ _ (c .before .before .before .before .before .before .before .seat .ensures .0) (c .before .before .before .before .before .before .before .before .before .before .before .before .put-nodes .ensures) (c .before .before .before .before .put-run .ensures)
+returns c = root-wrote _ _ (c .before .before .before .before .before .before .before .seat .ensures .0) (c .before .before .before .before .before .before .before .before .before .before .before .before .before .before .before .put-nodes .ensures) (c .before .before .before .before .put-run .ensures)
 
 pub put-table-spec : {M : Type 1} → statement M
 put-table-spec =
