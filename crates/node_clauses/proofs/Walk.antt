@@ -124,17 +124,18 @@ module _ (C k : ℕ) (block : Block) (s : Bounded C k block) where
 
 -- ---- the definition in place x
 
-pub defined-at : {C k : ℕ} {block : Block} → Bounded C k block → {x a i d : ℕ} → Placed (block .points) k (block .rule) x a i d → {gate : Gate} → gate ≡ gateOf C k block x a i d → DefinedAt C k block x gate
-unfolding definedBy
-defined-at {C} {k} {block} b {x} {a} {i} {d} p g =
-    let s = shapeOf (block .points) k (block .rule) in
-    let at = p .at in
-    record {
-      here = ap (definitionIn (definedBy C k block)) at
-          ∙ getD-per s (λ e. define (block .first + place s e) (gateOf C k block (place s e) (e .0) (e .1 .0) (e .1 .1))) (a, (i, d)) (define 0 (Constant false)) (p .inside)
-          ∙ ap₂ (λ (y : ℕ) (g : Gate). define (block .first + y) g) (sym at) (ap (λ (y : ℕ). gateOf C k block y a i d) (sym at) ∙ sym g);
-      within = subst Within (sym g) (gate-within C k block b x a i d p);
-    }
+module _ (C k : ℕ) (block : Block) {x a i d : ℕ} (p : Placed (block .points) k (block .rule) x a i d) {gate : Gate} (g : gate ≡ gateOf C k block x a i d) where
+  pub definition-here : definitionIn (definedBy C k block) x ≡ define (block .first + x) gate
+  unfolding definedBy
+  definition-here =
+      let s = shapeOf (block .points) k (block .rule) in
+      let at = p .at in
+      ap (definitionIn (definedBy C k block)) at
+      ∙ getD-per s (λ e. define (block .first + place s e) (gateOf C k block (place s e) (e .0) (e .1 .0) (e .1 .1))) (a, (i, d)) (define 0 (Constant false)) (p .inside)
+      ∙ ap₂ (λ (y : ℕ) (g : Gate). define (block .first + y) g) (sym at) (ap (λ (y : ℕ). gateOf C k block y a i d) (sym at) ∙ sym g)
+
+  pub defined-at : Bounded C k block → DefinedAt C k block x gate
+  defined-at b = record { here = definition-here; within = subst Within (sym g) (gate-within C k block b x a i d p) }
 
 -- ---- the writing loop
 

@@ -2,22 +2,22 @@
 -- By its gate it is one visit.
 use mathlib.Core.Path.{_≡_, refl, sym, ap, _∙_, subst}
 use mathlib.Core.List.{List, [], _∷_, _++_, flatMap}
-use Prim.Native.Nat.{ℕ, _+_, _≤_}
+use Prim.Native.Nat.{ℕ, _+_, _≤_, _<_}
 use native.Mathlib.Omega.{arith}
 use lib.ListN.{length}
 use Rattle.interval.specs.Listing.{rows}
 use Rattle.interval.specs.Limits.{maxCount}
 use Rattle.interval.proofs.Shape.{place-lt}
-use Rattle.circuit.specs.Circuit.{Definition, define}
+use Rattle.circuit.specs.Circuit.{Definition}
 use Rattle.circuit.specs.declared.Gate.{Gate}
 use Rattle.blocks.specs.Blocks.{shapeOf, gateOf, definedBy, Placed, Bounded}
 use Rattle.blocks.specs.declared.Block.{Block}
-use Rattle.blocks.specs.declared.Position.{Position}
 use Rattle.clauses.specs.Clauses.{Clause, clausesOf, clausesBy}
 use Rattle.gates.specs.Within.{Within}
 use Rattle.weights.proofs.Weights.{block-length}
-use Rattle.node_clauses.specs.Walk.{definitionIn, Walks}
-use Rattle.node_clauses.proofs.Walk.{rows-first, definition-here, within-here}
+use Rattle.node_clauses.specs.Walk.{DefinedAt, Walks}
+use Rattle.node_clauses.specs.declared.Cursor.{Cursor}
+use Rattle.node_clauses.proofs.Walk.{rows-first, all-defined, definition-here, defined-at}
 use mathlib.Core.Bool.{Bool}
 use Rattle.interval.specs.Places.{countOf}
 use Rattle.blocks.specs.Blocks.{isChop}
@@ -32,20 +32,24 @@ unfolding rows clausesBy flatMap
 by-rows [] = refl
 by-rows (d ∷ D) = rows-first (length D) (clausesAt (d ∷ D)) ∙ ap (λ (T : List Clause). clausesOf (d .variable) (d .gate) ++ T) (by-rows D)
 
-module _ (C k : ℕ) (block : Block) {x a i d : ℕ} (p : Placed (block .points) k (block .rule) x a i d) {gate : Gate} (g : gate ≡ gateOf C k block x a i d) where
-  here : definitionIn (definedBy C k block) x ≡ define (block .first + x) gate
-  here = definition-here C k block p g
+-- the definition in place x
+module _ {C k : ℕ} {block : Block} {x : ℕ} {gate : Gate} (g : DefinedAt C k block x gate) where
+  pub clauses-at : clausesOf (block .first + x) gate ≡ clausesAt (definedBy C k block) x
+  clauses-at = sym (ap (λ (d : Definition). clausesOf (d .variable) (d .gate)) (g .here))
 
+  pub asks-at : {l : ℕ} → x < length (definedBy C k block) → AllMentioned l (definedBy C k block) → Variable l (block .first + x) × InputsIn l gate × Within gate
+  asks-at {l} h f = let e = subst (Mentioned l) (g .here) (f x h) in (e .variable, e .inputs, g .within)
+
+-- the same by its position
+module _ (C k : ℕ) (block : Block) {x a i d : ℕ} (p : Placed (block .points) k (block .rule) x a i d) {gate : Gate} (g : gate ≡ gateOf C k block x a i d) where
   pub clauses-here : clausesOf (block .first + x) gate ≡ clausesAt (definedBy C k block) x
-  clauses-here = sym (ap (λ (d : Definition). clausesOf (d .variable) (d .gate)) here)
+  clauses-here = sym (ap (λ (d : Definition). clausesOf (d .variable) (d .gate)) (definition-here C k block p g))
 
   pub visit-asks : {l : ℕ} → Bounded C k block × (block .points ≤ maxCount) → AllMentioned l (definedBy C k block) → Variable l (block .first + x) × InputsIn l gate × Within gate
-  visit-asks {l} s f =
-      let e = subst (Mentioned l) here (f x (omega (arith, p .at, block-length C k block, place-lt (shapeOf (block .points) k (block .rule)) (a, (i, d)) (p .inside)))) in
-      (e .variable, e .inputs, within-here s p g)
+  visit-asks s f = asks-at (defined-at C k block p g (s .0)) (omega (arith, p .at, block-length C k block, place-lt (shapeOf (block .points) k (block .rule)) (a, (i, d)) (p .inside))) f
 
-pub whole-block : {C k : ℕ} {block : Block} {n : ℕ} {p : Position} {x : ℕ} → Walks C k block n p x → rows n (clausesAt (definedBy C k block)) ≡ clausesBy (definedBy C k block)
-whole-block {C} {k} {block} w = ap (λ (n : ℕ). rows n (clausesAt (definedBy C k block))) (w .whole) ∙ by-rows (definedBy C k block)
+pub whole-block : (C : ℕ) {k : ℕ} {block : Block} {c : Cursor} → Walks k block c → rows (c .end) (clausesAt (definedBy C k block)) ≡ clausesBy (definedBy C k block)
+whole-block C {k} {block} w = ap (λ (n : ℕ). rows n (clausesAt (definedBy C k block))) (all-defined C w) ∙ by-rows (definedBy C k block)
 
 -- ---- a length that is the same
 

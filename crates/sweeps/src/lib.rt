@@ -1,10 +1,9 @@
 // Every gate of the circuit visited, block after block.
 use blocks::Block;
-use blocks::Position;
 use circuit::Gate;
 use closing::Closed;
 use grammar::MAX_NODES;
-use interval::Interval;
+use node_clauses::Cursor;
 ghost use Prim.Native.Nat.{ℕ, _+_, _≤_, _<_};
 ghost use lib.ListN.{length};
 ghost use Rattle.moments.specs.Moments.{old, new};
@@ -21,7 +20,7 @@ ghost use Rattle.closing.specs.Values.{Trailing};
 ghost use Rattle.visits.specs.Visits.{Visited};
 ghost use Rattle.sweeps.specs.Sweeps.{rowClauses, tableBy};
 
-// The gates of a block, position after position.
+// The gates of a block, one after another.
 fn sweep_block(
     values: &mut [u8],
     trail: &mut [u32],
@@ -34,26 +33,16 @@ fn sweep_block(
     requires { ⌜ AllMentioned (length (now values)) (definedBy c k block) ⌝ }
     ensures { λ r. ⌜ Visited (clausesBy (definedBy c k block)) (old values) (old trail) top (new values) (new trail) r ⌝ }
 {
-    let rule = block.rule;
-    let points = block.points;
-    let first = block.first;
-    let all = Interval::count(k as usize) as u32;
-    let count = weights::weigh(weights::variables(), k, points, rule);
-    let mut p = Position {
-        row: 0,
-        line: 0,
-        cell: 0,
-        before: 0,
-    };
+    let mut cursor = Cursor::start(k, block);
     let mut t = top;
-    for x in 0..count {
-        let gate = blocks::gate_at(c, k, all, block, x, p);
-        let r = visits::visit(values, trail, t, first + x, gate);
+    while cursor.place < cursor.end {
+        let gate = cursor.gate(c, k, block);
+        let r = visits::visit(values, trail, t, block.first + cursor.place, gate);
         if r.clash {
             return r;
         }
         t = r.top;
-        p = blocks::next(rule, points, k, p);
+        cursor = cursor.next(k, block);
     }
     Closed {
         clash: false,

@@ -21,7 +21,6 @@ use Rattle.circuit.specs.declared.Gate.{Gate}
 use Rattle.circuit.specs.declared.Gate.the-variants.{Constant}
 use Rattle.blocks.specs.Blocks.{isChop, gateOf, definedBy, Bounded, bound}
 use Rattle.blocks.specs.declared.Block.{Block}
-use Rattle.blocks.specs.declared.Position.{Position}
 use Rattle.blocks.specs.declared.Rule.the-variants.{Fixed, Cut}
 use Rattle.weights.specs.Weights.{clauseWeight, weightOf, weightBy, maxWeight, maxSum}
 use Rattle.weights.specs.declared.Weight.{Weight}
@@ -30,8 +29,9 @@ use Rattle.clauses.specs.Clauses.{Clause, clausesOf, clausesBy, meetsClause}
 use Rattle.clauses.proofs.Sizes.{gate-clauses, clauses-by}
 use Rattle.gates.specs.Within.{Within}
 use Rattle.node_clauses.specs.Nodes.{choppedBy, nodeBy}
-use Rattle.node_clauses.specs.Walk.{definitionIn, Walks}
-use Rattle.node_clauses.proofs.Walk.{definition-here, light, within-here}
+use Rattle.node_clauses.specs.Walk.{definitionIn, DefinedAt, Walks}
+use Rattle.node_clauses.specs.declared.Cursor.{Cursor}
+use Rattle.node_clauses.proofs.Walk.{all-defined, walkable, light}
 use Rattle.node_clauses.proofs.Nodes.{clauses-join, Halves, chopped, node-known}
 use Rattle.assignments.specs.Calls.{askClauses}
 use Rattle.gates.specs.Mentioned.{Variable, InputsIn, Mentioned, AllMentioned}
@@ -84,9 +84,9 @@ pub record Met (a : Assignment) (n : ℕ) (D : List Definition) (m x : ℕ) : Ty
   pub next : m ≡ n + length (clausesBy (take x D))
 
 module _ {a : Assignment} {n : ℕ} {D : List Definition} where
-  pub met-begun : Met a n D n 0
+  pub met-begun : {x : ℕ} → x ≡ 0 → Met a n D n x
   unfolding askClauses clausesBy flatMap
-  met-begun = record { all = refl; next = omega arith }
+  met-begun e = subst (Met a n D n) (sym e) (record { all = refl; next = omega arith })
 
   module _ {m x : ℕ} (t : Met a n D m x) where
     pub met-done : length D ≤ x → Yes ≡ askClauses a n (clausesBy D)
@@ -123,32 +123,28 @@ block-clauses C k b = clauses-by (definedBy C k b) ∙ block-weight clauseWeight
 module _ {C k : ℕ} {block : Block} (s : Bounded C k block × (block .points ≤ maxCount)) where
   clauses-few : length (clausesBy (definedBy C k block)) ≤ maxWeight
   clauses-few =
-      let l = light s {v = clauseWeight} refl (omega arith) (omega arith) (omega arith) in
+      let l = light (walkable (s .0) (s .1)) {v = clauseWeight} refl (omega arith) (omega arith) (omega arith) in
       omega (arith, block-clauses C k block, weighed l (block .rule) refl refl .1)
 
-  module _ {a : Assignment} {n count m x : ℕ} {p : Position} (w : Walks C k block count p x) (t : Met a n (definedBy C k block) m x) (h : x < count)
-      {gate : Gate} (g : gate ≡ gateOf C k block x (p .row) (p .line) (p .cell)) where
-    inside : x < length (definedBy C k block)
-    inside = omega (arith, w .whole)
-
-    here : definitionIn (definedBy C k block) x ≡ define (block .first + x) gate
-    here = definition-here C k block (w .here h) g
+  module _ {a : Assignment} {n m : ℕ} {c : Cursor} (w : Walks k block c) (t : Met a n (definedBy C k block) m (c .place)) (h : c .place < c .end) {gate : Gate} (g : DefinedAt C k block (c .place) gate) where
+    inside : c .place < length (definedBy C k block)
+    inside = omega (arith, all-defined C w)
 
     pub gate-few : (weightOf clauseWeight gate ≤ maxWeight) × (m + weightOf clauseWeight gate ≤ n + maxWeight)
-    gate-few = omega (arith, t .next, met-few t inside here, clauses-few)
+    gate-few = omega (arith, t .next, met-few t inside (g .here), clauses-few)
 
     pub gate-asks : {l : ℕ} → AllMentioned l (definedBy C k block) → n ≤ maxSum + maxWeight
-        → Variable l (block .first + x) × InputsIn l gate × Within gate × (weightOf clauseWeight gate ≤ maxWeight) × (m < bound)
+        → Variable l (block .first + c .place) × InputsIn l gate × Within gate × (weightOf clauseWeight gate ≤ maxWeight) × (m < bound)
     gate-asks {l} f i =
-        let d = subst (Mentioned l) here (f x inside) in
-        (d .variable, d .inputs, within-here s (w .here h) g, gate-few .0, omega (arith, gate-few .1))
+        let d = subst (Mentioned l) (g .here) (f (c .place) inside) in
+        (d .variable, d .inputs, g .within, gate-few .0, omega (arith, gate-few .1))
 
-    module _ {q : Reply} (f : q ≡ askClauses a m (clausesOf (block .first + x) gate)) where
-      pub block-turn : {w : ℕ} → q ≡ Yes → w ≡ weightOf clauseWeight gate → Met a n (definedBy C k block) (m + w) (x + 1)
-      block-turn e i = met-turn t inside here f e i
+    module _ {q : Reply} (f : q ≡ askClauses a m (clausesOf (block .first + c .place) gate)) where
+      pub block-turn : {w x : ℕ} → q ≡ Yes → w ≡ weightOf clauseWeight gate → x ≡ c .place + 1 → Met a n (definedBy C k block) (m + w) x
+      block-turn {w} e i j = subst (Met a n (definedBy C k block) (m + w)) (sym j) (met-turn t inside (g .here) f e i)
 
       pub block-stopped : {r : Refusal} → q ≡ No r → No r ≡ askClauses a n (clausesBy (definedBy C k block))
-      block-stopped e = met-stopped t inside here f e
+      block-stopped e = met-stopped t inside (g .here) f e
 
 -- ---- a constant's block: one clause a variable
 
@@ -161,7 +157,7 @@ module _ (w n : ℕ) (up : Bool) (e : ℕ) (h : e < n) where
 
 module _ (a : Assignment) (m w n : ℕ) (up : Bool) where
   pub constants-begun : Met a m (constants w n up) (m + 0) 0
-  constants-begun = let s : Met a m (constants w n up) m 0 = met-begun in record { all = s .all; next = omega (arith, s .next) }
+  constants-begun = let s : Met a m (constants w n up) m 0 = met-begun refl in record { all = s .all; next = omega (arith, s .next) }
 
   pub constants-done : {e : ℕ} → Met a m (constants w n up) (m + e) e → n ≤ e → Yes ≡ askClauses a m (clausesBy (constants w n up))
   constants-done t h = met-done t (omega (arith, length-tab n (λ e. define (w + e) (Constant up))))

@@ -1,8 +1,7 @@
 // Question 14, whether an assignment meets clauses, asked clause after clause as the circuit gives them: of a block, a node.
 use blocks::Block;
-use blocks::Position;
 use blocks::Rule;
-use interval::Interval;
+use node_clauses::Cursor;
 use refusal::Refusal;
 use refusal::Reply;
 ghost use mathlib.Core.Path.{_≡_};
@@ -38,31 +37,26 @@ fn ask_constants(assignment: &[u8], w: u32, n: u32, up: bool, m: u32) -> Reply
     Reply::Yes
 }
 
-// Question 14 of a block's clauses, position after position.
+// Question 14 of a block's clauses, gate after gate.
 fn ask_block(assignment: &[u8], c: u32, k: u32, block: Block, n: u32) -> Reply
     requires { ⌜ (Bounded c k block × (block .points ≤ maxCount)) × (n ≤ maxSum + maxWeight) ⌝ }
     requires { ⌜ AllMentioned (length (now assignment)) (definedBy c k block) ⌝ }
     ensures { λ r. ⌜ r ≡ askClauses (valueIn (old assignment)) n (clausesBy (definedBy c k block)) ⌝ }
 {
-    let rule = block.rule;
-    let points = block.points;
-    let first = block.first;
-    let all = Interval::count(k as usize) as u32;
-    let count = weights::weigh(weights::variables(), k, points, rule);
-    let mut p = Position {
-        row: 0,
-        line: 0,
-        cell: 0,
-        before: 0,
-    };
+    let mut cursor = Cursor::start(k, block);
     let mut m = n;
-    for x in 0..count {
-        let gate = blocks::gate_at(c, k, all, block, x, p);
-        if let Reply::No(r) = unmet_gate::ask_gate(assignment, first + x, gate, m) {
+    while cursor.place < cursor.end {
+        let gate = cursor.gate(c, k, block);
+        if let Reply::No(r) = unmet_gate::ask_gate(
+            assignment,
+            block.first + cursor.place,
+            gate,
+            m,
+        ) {
             return Reply::No(r);
         }
         m += unmet_gate::clause_count(gate);
-        p = blocks::next(rule, points, k, p);
+        cursor = cursor.next(k, block);
     }
     Reply::Yes
 }

@@ -9,7 +9,7 @@ gate-at-requires : tie.Need-gate-at-requires
 gate-at-requires c κs = let p = c .pre in let w = p .1 in ((p .0, omega (arith, w .few, p .2), w .intervals), (w .here (p .2), λ _. w .before))
 
 returns : tie.Need-returns
-returns c = let p = c .before .pre in defined-at (p .0) (p .1 .here (p .2)) (c .gate-at .ensures)
+returns c = let p = c .before .pre in defined-at _ _ _ (p .1 .here (p .2)) (c .gate-at .ensures) (p .0)
 
 pub gate-spec : {M : Type 1} → statement M
 gate-spec = tie.close (tie.spec gate-at-requires returns)
