@@ -28,7 +28,7 @@ use Rattle.nodes.proofs.Laws.{accepts, table-is}
 use Rattle.circuit.specs.Circuit.{variablesOf}
 use Rattle.clauses.specs.Clauses.{clauseTable}
 use Rattle.clause_table.specs.Table.{onTree, over}
-use Rattle.clause_table.specs.Rows.{Measured}
+use Rattle.clause_table.specs.Rows.{nodeTableOf, Measured}
 use Rattle.clause_table.specs.declared.Sizes.{Sizes}
 use Rattle.assignments.specs.Extension.{valueIn, recordingOf}
 use Rattle.assignments.specs.Calls.{askAssignment, askValues, askClauses, askPlaces, clausesIn, Proposed, notAccepted, proposed}
@@ -44,7 +44,7 @@ length-yes A n e = eqb-true (length A) n (test-yes 12 0 _ e)
 
 -- ---- 12 to 14 and 18, of an accepted formula's node table
 
-module _ (C k : ℕ) (f : Tree Formula) {T : NodeTable} (e : T ≡ tableOf (map rowOf (nodesOf f 0))) {F : List ℕ} {s : Sizes} (w : Measured C k (T .kinds) (T .numbers) (T .count) F s) (A : List ℕ) (places : ℕ) where
+module _ (C k : ℕ) (f : Tree Formula) {T : NodeTable} (e : T ≡ nodeTableOf f) {F : List ℕ} {s : Sizes} (w : Measured C k (T .kinds) (T .numbers) (T .count) F s) (A : List ℕ) (places : ℕ) where
   abbrev whole : Reply
   whole = asked (checkQuestions C k f A places) No Yes
 
@@ -52,11 +52,11 @@ module _ (C k : ℕ) (f : Tree Formula) {T : NodeTable} (e : T ≡ tableOf (map 
   unfolding askAssignment
   length-known = ap (λ (n : ℕ). question 12 0 (eqb (length A) n)) (variables-known C k f e w)
 
-  clauses-asked : askClauses (valueIn A) 0 (clausesFor C k (T .kinds) (T .numbers) (T .sizes) F (T .count)) ≡ askClauses (valueIn A) 0 (clauseTable C k f)
+  clauses-asked : askClauses (valueIn A) 0 (clausesFor C k T F) ≡ askClauses (valueIn A) 0 (clauseTable C k f)
   clauses-asked = ap (askClauses (valueIn A) 0) (clauses-known C k f e w)
 
   -- what the first three come to, as the code has asked them
-  in-order : (a b c : Reply) → question 12 0 (eqb (length A) (s .variables)) ≡ a → askValues A ≡ b → askClauses (valueIn A) 0 (clausesFor C k (T .kinds) (T .numbers) (T .sizes) F (T .count)) ≡ c
+  in-order : (a b c : Reply) → question 12 0 (eqb (length A) (s .variables)) ≡ a → askValues A ≡ b → askClauses (valueIn A) 0 (clausesFor C k T F) ≡ c
       → whole ≡ asked (a ∷ b ∷ c ∷ askPlaces k places ∷ []) No Yes
   in-order a b c p q r =
       (λ i. asked ((sym length-known ∙ p) i ∷ q i ∷ (sym clauses-asked ∙ r) i ∷ askPlaces k places ∷ []) No Yes)
@@ -69,10 +69,10 @@ module _ (C k : ℕ) (f : Tree Formula) {T : NodeTable} (e : T ≡ tableOf (map 
     values-no {r} q = sym (in-order Yes (No r) _ p q refl)
 
     module _ (q : askValues A ≡ Yes) where
-      pub clauses-no : {r : Refusal} → askClauses (valueIn A) 0 (clausesFor C k (T .kinds) (T .numbers) (T .sizes) F (T .count)) ≡ No r → No r ≡ whole
+      pub clauses-no : {r : Refusal} → askClauses (valueIn A) 0 (clausesFor C k T F) ≡ No r → No r ≡ whole
       clauses-no {r} o = sym (in-order Yes Yes (No r) p q o)
 
-      pub places-last : askClauses (valueIn A) 0 (clausesFor C k (T .kinds) (T .numbers) (T .sizes) F (T .count)) ≡ Yes → {a : Reply} → a ≡ question 18 0 (leb k places) → a ≡ whole
+      pub places-last : askClauses (valueIn A) 0 (clausesFor C k T F) ≡ Yes → {a : Reply} → a ≡ question 18 0 (leb k places) → a ≡ whole
       unfolding askPlaces
       places-last o z = z ∙ sym (in-order Yes Yes Yes p q o ∙ asked-one _)
 
@@ -102,7 +102,7 @@ module _ (C k : ℕ) (t A recording : List ℕ) where
   -- once the formula is accepted
   module _ (T : Tabled) (e : T ≡ tabledOf C k t) (y : T .reply ≡ Yes) where
     -- the reply to 12 to 14 and 18
-    module _ {q : Reply} (g : (f : Tree Formula) → T .table ≡ tableOf (map rowOf (nodesOf f 0)) → q ≡ asked (checkQuestions C k f A (length recording)) No Yes) where
+    module _ {q : Reply} (g : (f : Tree Formula) → T .table ≡ nodeTableOf f → q ≡ asked (checkQuestions C k f A (length recording)) No Yes) where
       reply-known : q ≡ asked later No Yes
       unfolding clausesIn table-for
       reply-known =

@@ -3,7 +3,7 @@
 use mathlib.Core.Path.{_≡_, refl, sym, ap, ap₂, _∙_, subst}
 use mathlib.Core.Logic.{⊎-elim}
 use mathlib.Core.Bool.{Bool, true, false, cond, _||_}
-use mathlib.Core.List.{List, [], _∷_, _++_, append-assoc, append-nil, map, flatMap}
+use mathlib.Core.List.{List, [], _∷_, _++_, append-assoc, append-nil, flatMap}
 use Prim.Native.Nat.{ℕ, zero, suc, _+_, _≤_, _<_}
 use native.Mathlib.Nat.{eq-or-lt-of-le}
 use native.Mathlib.Numerals.{add-one}
@@ -15,8 +15,6 @@ use Rattle.refusal.specs.declared.Reply.the-variants.{Yes, No}
 use Rattle.interval.specs.Listing.{rows}
 use Rattle.grammar.specs.Trees.{Tree}
 use Rattle.grammar.specs.declared.Sort.the-variants.{Formula}
-use Rattle.formula.specs.Nodes.{nodesOf}
-use Rattle.rows.specs.Table.{rowOf, tableOf}
 use Rattle.rows.specs.declared.NodeTable.{NodeTable}
 use Rattle.circuit.specs.Gates.{Assignment}
 use Rattle.circuit.specs.Circuit.{Definition}
@@ -26,7 +24,7 @@ use Rattle.weights.specs.Weights.{clauseWeight, weightTo}
 use Rattle.clauses.specs.Clauses.{Clause, plain, clausesBy, clauseTable, meetsClause}
 use Rattle.clauses.proofs.Sizes.{clauses-by}
 use Rattle.node_clauses.specs.Nodes.{nodeBy}
-use Rattle.clause_table.specs.Rows.{rowDefinitions, Measured}
+use Rattle.clause_table.specs.Rows.{nodeTableOf, rowDefinitions, Measured}
 use Rattle.clause_table.specs.declared.Sizes.{Sizes}
 use Rattle.clause_table.proofs.Mentioned.{defined-known, root-known}
 use Rattle.clause_table.proofs.Call.{rows-weigh}
@@ -118,7 +116,7 @@ module _ (a : Assignment) (T : List Clause) (v : ℕ) {q : Reply} (f : q ≡ ask
 
 -- ---- a formula's table
 
-module _ (C k : ℕ) (f : Tree Formula) {T : NodeTable} (e : T ≡ tableOf (map rowOf (nodesOf f 0))) {F : List ℕ} {s : Sizes} (w : Measured C k (T .kinds) (T .numbers) (T .count) F s) where
-  pub clauses-known : clausesFor C k (T .kinds) (T .numbers) (T .sizes) F (T .count) ≡ clauseTable C k f
+module _ (C k : ℕ) (f : Tree Formula) {T : NodeTable} (e : T ≡ nodeTableOf f) {F : List ℕ} {s : Sizes} (w : Measured C k (T .kinds) (T .numbers) (T .count) F s) where
+  pub clauses-known : clausesFor C k T F ≡ clauseTable C k f
   unfolding clauseTable
   clauses-known = ap₂ (λ (D : List Definition) (v : ℕ). clausesBy D ++ (plain v ∷ []) ∷ []) (defined-known C k f e w) (root-known C k f e w)

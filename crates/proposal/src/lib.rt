@@ -5,7 +5,6 @@ use refusal::Refusal;
 use refusal::Reply;
 use rows::NodeTable;
 ghost use mathlib.Core.Path.{_≡_};
-ghost use mathlib.Core.List.{map};
 ghost use Prim.Native.Nat.{ℕ, _+_, _*_, _^_, _≤_, _<_};
 ghost use lib.ListN.{length, getD};
 ghost use Rattle.moments.specs.Moments.{old, new};
@@ -15,37 +14,39 @@ ghost use Rattle.interval.specs.Limits.{maxSteps};
 ghost use Rattle.grammar.specs.Limits.{maxNodes, maxChannels};
 ghost use Rattle.grammar.specs.Trees.{Tree};
 ghost use Rattle.grammar.specs.declared.Sort.the-variants.{Formula};
-ghost use Rattle.formula.specs.Nodes.{nodesOf};
-ghost use Rattle.rows.specs.Table.{rowOf, tableOf};
 ghost use Rattle.meaning.specs.Meaning.{bit};
 ghost use Rattle.circuit.specs.Circuit.{channelOf};
 ghost use Rattle.weights.specs.Weights.{clauseWeight, weightTo};
 ghost use Rattle.clauses.specs.Clauses.{clausesBy};
-ghost use Rattle.clause_table.specs.Rows.{Low};
+ghost use Rattle.clause_table.specs.Rows.{nodeTableOf, Low};
 ghost use Rattle.assignments.specs.Extension.{valueIn, recordingOf};
 ghost use Rattle.assignments.specs.Calls.{askClauses, proposed};
 ghost use Rattle.gates.specs.Mentioned.{Variable, AllMentioned};
 ghost use Rattle.proposal.specs.Rows.{definedIn, rootIn, clausesFor, TableFor, checkQuestions};
 
 // Question 14 of the clauses of all nodes, in number order; `numbered` has the number of each node's first clause.
-fn ask_nodes<'a>(
+fn ask_nodes(
     assignment: &[u8],
-    kinds: &'a [u8; MAX_NODES],
-    numbers: &'a [u8; MAX_NODES],
-    sizes: &'a [u8; MAX_NODES],
+    table: NodeTable,
     firsts: &[u32; MAX_NODES],
     numbered: &[u32; MAX_NODES],
-    count: usize,
     c: u32,
     k: u32,
 ) -> Reply
-    requires { ⌜ (c ≤ maxChannels) × (k ≤ maxSteps) × (count ≤ maxNodes) × Low (now firsts) × Low (now numbered) ⌝ }
-    requires { ⌜ ((x : ℕ) → x < count → getD (now numbered) x 0 ≡ 0 + weightTo clauseWeight k (now kinds) (now numbers) x) ⌝ }
-    requires { ⌜ AllMentioned (length (now assignment)) (definedIn c k (now kinds) (now numbers) (now sizes) (now firsts) count) ⌝ }
-    ensures { λ r. ⌜ r ≡ askClauses (valueIn (old assignment)) 0 (clausesBy (definedIn c k (old kinds) (old numbers) (old sizes) (old firsts) count)) ⌝ }
+    requires { ⌜ (c ≤ maxChannels) × (k ≤ maxSteps) × (table .count ≤ maxNodes) × Low (now firsts) × Low (now numbered) ⌝ }
+    requires { ⌜ ((x : ℕ) → x < table .count → getD (now numbered) x 0 ≡ 0 + weightTo clauseWeight k (table .kinds) (table .numbers) x) ⌝ }
+    requires { ⌜ AllMentioned (length (now assignment)) (definedIn c k table (now firsts)) ⌝ }
+    ensures { λ r. ⌜ r ≡ askClauses (valueIn (old assignment)) 0 (clausesBy (definedIn c k table (old firsts))) ⌝ }
 {
-    for x in 0..count {
-        let block = clause_table::block_at(kinds, numbers, sizes, firsts, k, x);
+    for x in 0..table.count {
+        let block = clause_table::block_at(
+            &table.kinds,
+            &table.numbers,
+            &table.sizes,
+            firsts,
+            k,
+            x,
+        );
         if let Reply::No(r) = unmet::ask_node(assignment, c, k, block, numbered[x]) {
             return Reply::No(r);
         }
@@ -54,44 +55,23 @@ fn ask_nodes<'a>(
 }
 
 // Question 14 of the whole table: the nodes' clauses, then the root alone.
-fn ask_table<'a>(
+fn ask_table(
     assignment: &[u8],
-    kinds: &'a [u8; MAX_NODES],
-    numbers: &'a [u8; MAX_NODES],
-    sizes: &'a [u8; MAX_NODES],
+    table: NodeTable,
     firsts: &[u32; MAX_NODES],
-    count: usize,
     c: u32,
     k: u32,
 ) -> Reply
-    requires { ⌜ (c ≤ maxChannels) × (k ≤ maxSteps) × (count ≤ maxNodes) × Low (now firsts) ⌝ }
-    requires { ⌜ AllMentioned (length (now assignment)) (definedIn c k (now kinds) (now numbers) (now sizes) (now firsts) count) × Variable (length (now assignment)) (rootIn (now kinds) (now numbers) (now firsts) k) ⌝ }
-    ensures { λ r. ⌜ r ≡ askClauses (valueIn (old assignment)) 0 (clausesFor c k (old kinds) (old numbers) (old sizes) (old firsts) count) ⌝ }
+    requires { ⌜ (c ≤ maxChannels) × (k ≤ maxSteps) × (table .count ≤ maxNodes) × Low (now firsts) ⌝ }
+    requires { ⌜ AllMentioned (length (now assignment)) (definedIn c k table (now firsts)) × Variable (length (now assignment)) (rootIn table (now firsts) k) ⌝ }
+    ensures { λ r. ⌜ r ≡ askClauses (valueIn (old assignment)) 0 (clausesFor c k table (old firsts)) ⌝ }
 {
     let mut numbered = [0; MAX_NODES];
-    let last = weights::sums(
-        kinds,
-        numbers,
-        count,
-        k,
-        weights::clauses(),
-        0,
-        &mut numbered,
-    );
-    if let Reply::No(r) = ask_nodes(
-        assignment,
-        kinds,
-        numbers,
-        sizes,
-        firsts,
-        &numbered,
-        count,
-        c,
-        k,
-    ) {
+    let last = weights::sums(table, k, weights::clauses(), 0, &mut numbered);
+    if let Reply::No(r) = ask_nodes(assignment, table, firsts, &numbered, c, k) {
         return Reply::No(r);
     }
-    let root = clause_table::seat(kinds, numbers, firsts, k, 0) + k;
+    let root = clause_table::seat(&table.kinds, &table.numbers, firsts, k, 0) + k;
     if unmet_gate::high(assignment, root) {
         return Reply::Yes;
     }
@@ -104,10 +84,10 @@ fn ask_table<'a>(
 // Questions 12 to 14 and 18, of an accepted formula's node table, with as many places lent for the recording.
 fn ask_proposal(table: NodeTable, c: u32, k: u32, assignment: &[u8], places: usize) -> Reply
     requires { ⌜ (c ≤ maxChannels) × (k ≤ maxSteps) × (table .count ≤ maxNodes) × TableFor c table ⌝ }
-    ensures { λ r. ⌜ ((f : Tree Formula) → table ≡ tableOf (map rowOf (nodesOf f 0)) → r ≡ asked (checkQuestions c k f (old assignment) places) Reply.No Reply.Yes) ⌝ }
+    ensures { λ r. ⌜ ((f : Tree Formula) → table ≡ nodeTableOf f → r ≡ asked (checkQuestions c k f (old assignment) places) Reply.No Reply.Yes) ⌝ }
 {
-    let mut firsts = [0; MAX_NODES];
-    let s = clause_table::sizes_of(&table.kinds, &table.numbers, table.count, c, k, &mut firsts);
+    let layout = clause_table::layout_of(table, c, k);
+    let s = layout.sizes;
     let whole = assignment.len() == s.variables as usize;
     let room = k as usize <= places;
     if let Reply::No(r) = refusal::ask(12, whole) {
@@ -116,16 +96,7 @@ fn ask_proposal(table: NodeTable, c: u32, k: u32, assignment: &[u8], places: usi
     if let Reply::No(r) = evaluator::ask_below(13, 2, assignment) {
         return Reply::No(r);
     }
-    if let Reply::No(r) = ask_table(
-        assignment,
-        &table.kinds,
-        &table.numbers,
-        &table.sizes,
-        &firsts,
-        table.count,
-        c,
-        k,
-    ) {
+    if let Reply::No(r) = ask_table(assignment, table, &layout.firsts, c, k) {
         return Reply::No(r);
     }
     refusal::ask(18, room)

@@ -5,7 +5,7 @@ use Rattle.assignments.specs.Extension.{valueIn}
 use Rattle.weights.specs.Weights.{weightTo}
 use Rattle.weights.specs.declared.Weight.{Weight}
 use Rattle.weights.proofs.Rows.{small, all-low}
-use Rattle.clause_table.proofs.Call.{zeros-low}
+use Rattle.clause_table.proofs.Measure.{zeros-low}
 use mathlib.Core.Path.{refl, ap, _∙_}
 use Prim.Native.Nat.{_+_}
 use native.Mathlib.Omega.{arith}
@@ -24,7 +24,7 @@ ask-nodes-requires c κs = let s = c .before .before .before .before .before in
     let a = s .args in
     let p = s .pre .0 in
     let sums = c .before .sums .ensures in
-    ((p .0, p .1, p .2, p .3, all-low sums zeros-low), (λ x h. sums .below x h ∙ ap (λ (w : Weight). 0 + weightTo w (a .k) (a .kinds .now) (a .numbers .now) x) (c .before .before .before .clauses .ensures), s .pre .1 .0))
+    ((p .0, p .1, p .2, p .3, all-low sums zeros-low), (λ x h. sums .below x h ∙ ap (λ (w : Weight). 0 + weightTo w (a .k) (a .t2 .kinds) (a .t2 .numbers) x) (c .before .before .before .clauses .ensures), s .pre .1 .0))
 
 enum-known-r : tie.Need-enum-known-r
 enum-known-r c = search needs
@@ -36,23 +36,23 @@ enum-told : tie.Need-enum-told
 enum-told c = search needs
 
 seat-requires : tie.Need-seat-requires
-seat-requires c κs = let p = c .before .before .before .before .before .before .before .before .pre .0 in (p .1, p .3)
+seat-requires c κs = let p = c .before .before .before .before .before .before .before .before .before .before .before .pre .0 in (p .1, p .3)
 
 add-root : tie.Need-add-root
-add-root c = omega (arith, c .seat .ensures .1, c .before .before .before .before .before .before .before .before .before .pre .0 .1)
+add-root c = omega (arith, c .seat .ensures .1, c .before .before .before .before .before .before .before .before .before .before .before .before .pre .0 .1)
 
 high-requires : tie.Need-high-requires
-high-requires c κs = omega (arith, c .before .before .before .before .before .before .before .before .before .pre .1 .1, c .seat .ensures .0)
+high-requires c κs = omega (arith, c .before .before .before .before .before .before .before .before .before .before .before .before .pre .1 .1, c .seat .ensures .0)
 
 returns-2 : tie.Need-returns-2
-returns-2 c = let a = c .before .before .before .before .before .before .before .before .before .before .before .args in
-    root-met _ _ _ (c .before .before .before .before .before .ask-nodes .ensures) (c .before .before .before .enum-told .given .1) (c .before .high .ensures ∙ ap (λ v. valueIn (a .assignment .now) (v + a .k)) (c .before .before .seat .ensures .0)) (c .if1 .taken)
+returns-2 c = let a = c .before .before .before .before .before .before .before .before .before .before .before .before .before .before .args in
+    root-met _ _ _ (c .before .before .before .before .before .before .before .before .ask-nodes .ensures) (c .before .before .before .before .before .before .enum-told .given .1) (c .before .high .ensures ∙ ap (λ v. valueIn (a .assignment .now) (v + a .k)) (c .before .before .seat .ensures .0)) (c .if1 .taken)
 
 returns-3 : tie.Need-returns-3
-returns-3 c = let a = c .before .before .before .before .before .before .before .before .before .before .before .args in
-    let last = c .before .before .before .before .before .before .before .sums .ensures .total ∙ ap (λ (w : Weight). 0 + weightTo w (a .k) (a .kinds .now) (a .numbers .now) (a .count)) (c .before .before .before .before .before .before .before .before .before .clauses .ensures) in
-    root-unmet _ _ _ (c .before .before .before .before .before .ask-nodes .ensures) (c .before .before .before .enum-told .given .1) (c .before .high .ensures ∙ ap (λ v. valueIn (a .assignment .now) (v + a .k)) (c .before .before .seat .ensures .0)) (c .if1 .left)
-    (row-number (a .c) (a .k) (a .kinds .now) (a .numbers .now) (a .sizes .now) (a .firsts .now) (a .count) last)
+returns-3 c = let a = c .before .before .before .before .before .before .before .before .before .before .before .before .before .before .args in
+    let last = c .before .before .before .before .before .before .before .before .before .before .sums .ensures .total ∙ ap (λ (w : Weight). 0 + weightTo w (a .k) (a .t2 .kinds) (a .t2 .numbers) (a .t2 .count)) (c .before .before .before .before .before .before .before .before .before .before .before .before .clauses .ensures) in
+    root-unmet _ _ _ (c .before .before .before .before .before .before .before .before .ask-nodes .ensures) (c .before .before .before .before .before .before .enum-told .given .1) (c .before .high .ensures ∙ ap (λ v. valueIn (a .assignment .now) (v + a .k)) (c .before .before .seat .ensures .0)) (c .if1 .left)
+    (row-number (a .c) (a .k) (a .t2 .kinds) (a .t2 .numbers) (a .t2 .sizes) (a .firsts .now) (a .t2 .count) last)
 
 pub ask-table-spec : {M : Type 1} → statement M
 ask-table-spec =
