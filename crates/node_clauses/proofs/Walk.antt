@@ -34,7 +34,7 @@ use Rattle.gates.specs.Within.{Within}
 use Rattle.clauses.proofs.Sizes.{flat-join}
 use Rattle.literals.proofs.Written.{begun, turn, room, done, named}
 use Rattle.node_clauses.specs.Walk.{definitionIn, placesAt, DefinedAt, Walkable, Walks, Walked}
-use Rattle.node_clauses.specs.declared.Cursor.{Cursor}
+use Rattle.node_clauses.specs.declared.cursor.Cursor.{Cursor}
 
 -- ---- the places of definitions, one definition after another
 

@@ -18,7 +18,7 @@ use Rattle.clauses.specs.Clauses.{clausesOf}
 use Rattle.clauses.specs.Entries.{Entry, flat}
 use Rattle.gates.specs.Within.{Within}
 use Rattle.literals.specs.Written.{Sofar}
-use Rattle.node_clauses.specs.declared.Cursor.{Cursor}
+use Rattle.node_clauses.specs.declared.cursor.Cursor.{Cursor}
 
 -- the definition in place x
 abbrev pub definitionIn : List Definition → ℕ → Definition

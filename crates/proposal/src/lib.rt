@@ -63,7 +63,8 @@ fn ask_table(
     k: u32,
 ) -> Reply
     requires { ⌜ (c ≤ maxChannels) × (k ≤ maxSteps) × (table .count ≤ maxNodes) × Low (now firsts) ⌝ }
-    requires { ⌜ AllMentioned (length (now assignment)) (definedIn c k table (now firsts)) × Variable (length (now assignment)) (rootIn table (now firsts) k) ⌝ }
+    requires { ⌜ AllMentioned (length (now assignment)) (definedIn c k table (now firsts))
+        × Variable (length (now assignment)) (rootIn table (now firsts) k) ⌝ }
     ensures { λ r. ⌜ r ≡ askClauses (valueIn (old assignment)) 0 (clausesFor c k table (old firsts)) ⌝ }
 {
     let mut numbered = [0; MAX_NODES];

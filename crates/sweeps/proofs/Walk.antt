@@ -16,7 +16,7 @@ use Rattle.clauses.specs.Clauses.{Clause, clausesOf, clausesBy}
 use Rattle.gates.specs.Within.{Within}
 use Rattle.weights.proofs.Weights.{block-length}
 use Rattle.node_clauses.specs.Walk.{DefinedAt, Walks}
-use Rattle.node_clauses.specs.declared.Cursor.{Cursor}
+use Rattle.node_clauses.specs.declared.cursor.Cursor.{Cursor}
 use Rattle.node_clauses.proofs.Walk.{rows-first, all-defined, definition-here, defined-at}
 use mathlib.Core.Bool.{Bool}
 use Rattle.interval.specs.Places.{countOf}

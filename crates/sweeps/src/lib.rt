@@ -3,7 +3,7 @@ use blocks::Block;
 use circuit::Gate;
 use closing::Closed;
 use grammar::MAX_NODES;
-use node_clauses::Cursor;
+use node_clauses::cursor::Cursor;
 ghost use Prim.Native.Nat.{ℕ, _+_, _≤_, _<_};
 ghost use lib.ListN.{length};
 ghost use Rattle.moments.specs.Moments.{old, new};

@@ -30,7 +30,7 @@ use Rattle.clauses.proofs.Sizes.{gate-clauses, clauses-by}
 use Rattle.gates.specs.Within.{Within}
 use Rattle.node_clauses.specs.Nodes.{choppedBy, nodeBy}
 use Rattle.node_clauses.specs.Walk.{definitionIn, DefinedAt, Walks}
-use Rattle.node_clauses.specs.declared.Cursor.{Cursor}
+use Rattle.node_clauses.specs.declared.cursor.Cursor.{Cursor}
 use Rattle.node_clauses.proofs.Walk.{all-defined, walkable, light}
 use Rattle.node_clauses.proofs.Nodes.{clauses-join, Halves, chopped, node-known}
 use Rattle.assignments.specs.Calls.{askClauses}

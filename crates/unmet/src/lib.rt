@@ -1,7 +1,7 @@
 // Question 14, whether an assignment meets clauses, asked clause after clause as the circuit gives them: of a block, a node.
 use blocks::Block;
 use blocks::Rule;
-use node_clauses::Cursor;
+use node_clauses::cursor::Cursor;
 use refusal::Refusal;
 use refusal::Reply;
 ghost use mathlib.Core.Path.{_≡_};

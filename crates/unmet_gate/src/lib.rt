@@ -6,7 +6,6 @@ ghost use mathlib.Core.Path.{_≡_};
 ghost use Prim.Native.Nat.{ℕ, _+_, _≤_, _<_};
 ghost use lib.ListN.{length};
 ghost use Rattle.moments.specs.Moments.{old};
-ghost use Rattle.refusal.specs.declared.Reply.the-variants.{No};
 ghost use Rattle.circuit.specs.Gates.{valueOf};
 ghost use Rattle.blocks.specs.Blocks.{bound};
 ghost use Rattle.weights.specs.Weights.{clauseWeight, weightOf, maxWeight};
@@ -15,7 +14,7 @@ ghost use Rattle.gates.specs.Within.{Within};
 ghost use Rattle.assignments.specs.Extension.{valueIn};
 ghost use Rattle.assignments.specs.Calls.{askClauses};
 ghost use Rattle.gates.specs.Mentioned.{Variable, InputsIn};
-ghost use Rattle.unmet_gate.specs.First.{FirstHigh};
+ghost use Rattle.unmet_gate.specs.First.{FirstHigh, FirstUnmet};
 
 // Whether variable v is high.
 pub fn high(assignment: &[u8], v: u32) -> bool
@@ -59,7 +58,7 @@ fn value(assignment: &[u8], gate: Gate) -> bool
 // Which clause is the first unmet one, from 0, of a gate whose variable is high or low (up) where its value is not.
 fn first_unmet(assignment: &[u8], up: bool, gate: Gate) -> u32
     requires { ⌜ InputsIn (length (now assignment)) gate × Within gate ⌝ }
-    ensures { λ r. ⌜ ((v n : ℕ) → up ≡ valueIn (old assignment) v → (up ≡ valueOf (valueIn (old assignment)) gate → ⊥) → No (record { number = 14; place = n + r }) ≡ askClauses (valueIn (old assignment)) n (clausesOf v gate)) ⌝ }
+    ensures { λ r. ⌜ FirstUnmet (valueIn (old assignment)) up gate r ⌝ }
 {
     match gate {
         Gate::Constant(_) => 0,
@@ -90,7 +89,8 @@ fn first_unmet(assignment: &[u8], up: bool, gate: Gate) -> u32
 
 // Question 14 of a gate's clauses, numbered from n on: all are met where the variable has the gate's value.
 pub fn ask_gate(assignment: &[u8], v: u32, gate: Gate, n: u32) -> Reply
-    requires { ⌜ Variable (length (now assignment)) v × InputsIn (length (now assignment)) gate × Within gate × (weightOf clauseWeight gate ≤ maxWeight) × (n < bound) ⌝ }
+    requires { ⌜ Variable (length (now assignment)) v × InputsIn (length (now assignment)) gate × Within gate
+        × (weightOf clauseWeight gate ≤ maxWeight) × (n < bound) ⌝ }
     ensures { λ r. ⌜ r ≡ askClauses (valueIn (old assignment)) n (clausesOf v gate) ⌝ }
 {
     let up = high(assignment, v);

@@ -2,8 +2,8 @@
 -- so the gate there is that of the definition in this place (Walk.antt).
 use native.Mathlib.Omega.{arith}
 use Rattle.node_clauses.proofs.Walk.{defined-at}
-use Rattle.node_clauses.proofs.Cursor.gate.Statement.{statement}
-use Rattle.node_clauses.proofs.Cursor.gate.Tie as tie
+use Rattle.node_clauses.proofs.cursor.Cursor.gate.Statement.{statement}
+use Rattle.node_clauses.proofs.cursor.Cursor.gate.Tie as tie
 
 gate-at-requires : tie.Need-gate-at-requires
 gate-at-requires c κs = let p = c .pre in let w = p .1 in ((p .0, omega (arith, w .few, p .2), w .intervals), (w .here (p .2), λ _. w .before))

@@ -4,8 +4,8 @@ use native.Mathlib.Omega.{arith}
 use mathlib.Core.Path.{refl}
 use borrow.Author.Needs.{needs}
 use Rattle.node_clauses.proofs.Walk.{begins, light}
-use Rattle.node_clauses.proofs.Cursor.start.Statement.{statement}
-use Rattle.node_clauses.proofs.Cursor.start.Tie as tie
+use Rattle.node_clauses.proofs.cursor.Cursor.start.Statement.{statement}
+use Rattle.node_clauses.proofs.cursor.Cursor.start.Tie as tie
 
 variables-requires : tie.Need-variables-requires
 variables-requires c κs = search needs

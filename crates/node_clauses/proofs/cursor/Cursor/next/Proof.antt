@@ -4,8 +4,8 @@ use mathlib.Core.Path.{refl}
 use native.Mathlib.Omega.{arith}
 use borrow.Author.Needs.{needs}
 use Rattle.node_clauses.proofs.Walk.{goes-on, small-here}
-use Rattle.node_clauses.proofs.Cursor.next.Statement.{statement}
-use Rattle.node_clauses.proofs.Cursor.next.Tie as tie
+use Rattle.node_clauses.proofs.cursor.Cursor.next.Statement.{statement}
+use Rattle.node_clauses.proofs.cursor.Cursor.next.Tie as tie
 
 add-t5 : tie.Need-add-t5
 add-t5 c = search needs
