@@ -3,13 +3,12 @@ use clause_table::Sizes;
 use interval::Interval;
 use refusal::Reply;
 ghost use mathlib.Core.Path.{_≡_};
-ghost use mathlib.Core.List.{List};
-ghost use Prim.Native.Nat.{ℕ};
 ghost use Rattle.moments.specs.Moments.{old};
 ghost use Rattle.refusal.specs.Asked.{asked};
 ghost use Rattle.file_numbers.specs.File.{variablesAt};
 ghost use Rattle.file_numbers.specs.Held.{Held};
-ghost use Rattle.clause_file.specs.Questions.{allPass, howMany, askFile, askArrays, inLimits, isVariable, isMark, askEntries, closes, endsClosed, askClosed, askFileRoom, entryQuestions};
+ghost use Rattle.clause_file.specs.Questions.{allPass, howMany, inLimits, isVariable, isMark, closes, endsClosed, OfVariables};
+ghost use Rattle.clause_file.specs.Questions.{askFile, askArrays, askEntries, askClosed, askFileRoom, entryQuestions};
 ghost use Rattle.clause_file.specs.Calls.{arrayQuestions, fileQuestions};
 
 // C and k as in questions 1 and 2.
@@ -93,7 +92,7 @@ fn ends_closed(marks: &[u8]) -> bool
 
 // Question 16, once it is known whether every variable is from 1 to V.
 fn ask_entries(s: Sizes, fit: bool, marks: &[u8]) -> Reply
-    ensures { λ r. ⌜ ((variables : List ℕ) → fit ≡ allPass (isVariable (s .variables)) variables → r ≡ askEntries s variables (old marks)) ⌝ }
+    ensures { λ r. ⌜ OfVariables s fit (λ variables. r ≡ askEntries s variables (old marks)) ⌝ }
 {
     if !in_limits(s) {
         return refusal::ask(16, false);
@@ -116,7 +115,7 @@ fn ask_closed(clauses: u32, marks: &[u8]) -> Reply
 
 // Both.
 fn ask_table(s: Sizes, fit: bool, marks: &[u8]) -> Reply
-    ensures { λ r. ⌜ ((variables : List ℕ) → fit ≡ allPass (isVariable (s .variables)) variables → r ≡ asked (entryQuestions s variables (old marks)) Reply.No Reply.Yes) ⌝ }
+    ensures { λ r. ⌜ OfVariables s fit (λ variables. r ≡ asked (entryQuestions s variables (old marks)) Reply.No Reply.Yes) ⌝ }
 {
     if let Reply::No(r) = ask_entries(s, fit, marks) {
         return Reply::No(r);
