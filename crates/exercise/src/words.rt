@@ -119,7 +119,7 @@ FORMULA   without blanks, in single quotes:\n\
 \x20           T  F                true, false\n\
 \x20         P and Q are formulas; S is a letter, T, F, !S, (S&S) or (S|S)\n\
 LIMIT     how many tries may be made for the first recording: ",
-        arguments::TRIES as usize,
+        arguments::search::TRIES as usize,
     );
     put_limit(
         b" if it is not given\n\
