@@ -1,6 +1,6 @@
 // What the lines of a search ask for.
 use crate::Fault;
-use input_line::Number;
+use input_line::number::Number;
 
 // The most tries of a search that is given no limit.
 pub const TRIES: u32 = 100000;
@@ -13,11 +13,11 @@ pub enum Sought {
 
 // The limit after tries=, written like any number.
 fn with_limit(steps: u32, text: &[u8]) -> Sought {
-    let form = input_line::decimal(text);
+    let form = input_line::number::decimal(text);
     match form {
         Number::Of(_) => {
-            let limit = input_line::value(text);
-            if limit > input_line::MAX_TRIES {
+            let limit = input_line::number::value(text);
+            if limit > input_line::number::MAX_TRIES {
                 return Sought::Wrong(Fault::Many);
             }
             Sought::First {
@@ -51,7 +51,7 @@ pub fn take_search(lines: &[u8]) -> Sought {
     if rest.len() == 0 {
         return Sought::Wrong(Fault::Few);
     }
-    let steps = input_line::decimal(input_line::line(lines));
+    let steps = input_line::number::decimal(input_line::line(lines));
     match steps {
         Number::Of(k) => take_limit(k, input_line::after_line(rest)),
         Number::Zero => Sought::Wrong(Fault::Zero),

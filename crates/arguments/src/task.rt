@@ -1,6 +1,6 @@
 // What the lines after a formula set as a task: a recording to be judged, or a clause file to be written.
 use crate::Fault;
-use input_line::Number;
+use input_line::number::Number;
 
 // What the lines so far say: a bit for each channel that is given, and how many levels each has; the steps; whether there is a path.
 struct Given {
@@ -27,7 +27,7 @@ fn with_channel(given: Given, channel: usize, c: u32, levels: usize) -> Taken {
     if channel >= c as usize {
         return Taken::Bad(Fault::Outside(channel, c));
     }
-    if given.channels & input_line::bit(channel) != 0 {
+    if given.channels & input_line::levels::bit(channel) != 0 {
         return Taken::Bad(Fault::Twice(channel));
     }
     if given.channels != 0 && levels != given.levels {
@@ -35,7 +35,7 @@ fn with_channel(given: Given, channel: usize, c: u32, levels: usize) -> Taken {
     }
     let steps = given.steps;
     Taken::Good(Given {
-        channels: given.channels | input_line::bit(channel),
+        channels: given.channels | input_line::levels::bit(channel),
         levels,
         steps,
         file: given.file,
@@ -44,18 +44,18 @@ fn with_channel(given: Given, channel: usize, c: u32, levels: usize) -> Taken {
 
 // Reads a line like `a=0110` into the recording, as many levels as it has instants; it is of no use after a fault.
 fn take_channel(recording: &mut [u8], line: &[u8], c: u32, given: Given) -> Taken {
-    let Number::Of(n) = input_line::named(line) else {
+    let Number::Of(n) = input_line::levels::named(line) else {
         return Taken::Bad(Fault::Form);
     };
     let channel = n as usize;
     let levels = input_line::after(line, 2);
-    if !input_line::are_levels(levels) {
+    if !input_line::levels::are_levels(levels) {
         return Taken::Bad(Fault::Level(channel));
     }
-    input_line::raise(
+    input_line::levels::raise(
         recording,
         input_line::first(levels, recording.len()),
-        input_line::bit(channel),
+        input_line::levels::bit(channel),
     );
     with_channel(given, channel, c, levels.len())
 }
@@ -66,7 +66,7 @@ fn with_steps(given: Given, text: &[u8]) -> Taken {
     if let Number::Of(_) = before {
         return Taken::Bad(Fault::StepsTwice);
     }
-    let steps = input_line::decimal(text);
+    let steps = input_line::number::decimal(text);
     match steps {
         Number::Of(_) => Taken::Good(Given {
             channels: given.channels,

@@ -13,7 +13,7 @@ use arguments::search::Sought;
 use arguments::task::Task;
 use evaluator::Verdict;
 use grammar::MAX_CHANNELS;
-use input_line::Number;
+use input_line::number::Number;
 use interval::Interval;
 use libc::STDIN_FILENO;
 use refusal::Reply;
@@ -36,7 +36,7 @@ fn exercise(input: &[u8]) {
     if rest.len() == 0 {
         return words::put_fault(Fault::Few);
     }
-    let count = input_line::decimal(input_line::line(input));
+    let count = input_line::number::decimal(input_line::line(input));
     match count {
         Number::Of(c) => answer(rest, c),
         Number::Zero => words::put_fault(Fault::Zero),

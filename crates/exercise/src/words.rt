@@ -80,7 +80,7 @@ fn put_wrong_search(fault: Fault) {
         Fault::Tries => put(b"tries= is followed by the most tries to make, as in tries=1000"),
         Fault::Many => put_limit(
             b"the most that tries= can allow is ",
-            input_line::MAX_TRIES as usize,
+            input_line::number::MAX_TRIES as usize,
         ),
         _ => put(b"after steps and formula only tries= can follow, as in tries=1000"),
     }
