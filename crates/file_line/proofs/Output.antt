@@ -23,7 +23,7 @@ use Rattle.clause_table.specs.Table.{placesIn}
 use Rattle.file_line.specs.Line.{lineOf, Line, line, other, readLine}
 use Rattle.file_line.specs.Output.{askLiterals, fileIn, outputFor, outputOf, maxInput}
 use Rattle.file_line.specs.Parts.{lineBy, cappedLine}
-use Rattle.file_line.specs.declared.Parts.{Parts}
+use Rattle.file_line.specs.declared.parts.Parts.{Parts}
 use Rattle.file_line.proofs.Laws.{line-is}
 
 -- ---- a line within the limits

@@ -29,7 +29,7 @@ pub extern "C" fn tuv_node_text(text: &[u8], c: u32, k: u32, node: u32) -> u64
     answers::pack_located(nodes::node_place(text, c, k, node))
 }
 
-// The clause table, in two parallel arrays, and its five sizes: questions 1 to 7 and 18.
+// The clause table, the formula's Tseitin encoding, in two parallel arrays, and its five sizes: questions 1 to 7 and 18.
 #[no_mangle]
 pub extern "C" fn tuv_table(
     text: &[u8],
@@ -72,7 +72,7 @@ pub extern "C" fn tuv_check(
     answers::pack_checked(proposal::check(text, c, k, assignment, recording))
 }
 
-// The first recording that satisfies the formula, within a limit of tries: questions 1 to 7 and 18.
+// The first recording that satisfies the formula, by backtracking with unit propagation, within a limit of tries: questions 1 to 7 and 18.
 #[no_mangle]
 pub extern "C" fn tuv_search(
     text: &[u8],

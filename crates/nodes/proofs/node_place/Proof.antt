@@ -28,7 +28,7 @@ element-copy-out-length : tie.Need-element-copy-out-length
 element-copy-out-length c = index-fits _ _ _ _ (sym (c .before .before .before .before .ask-node .ensures .0) ∙ c .before .before .enum-told .given .1)
 
 returns-2 : tie.Need-returns-2
-returns-2 c = let w = c .before .before .before .before .before .ask-node .ensures in place-made _ _ _ _ (sym (w .0) ∙ c .before .before .before .enum-told .given .1) _ (w .1)
+returns-2 c = place-made _ _ _ _ (sym (c .before .before .before .before .before .ask-node .ensures .0) ∙ c .before .before .before .enum-told .given .1) _ (c .before .before .before .before .before .ask-node .ensures .1)
 
 pub node-place-spec : {M : Type 1} → statement M
 node-place-spec =
