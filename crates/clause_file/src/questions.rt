@@ -1,5 +1,6 @@
 // Questions 15 to 18 of the file's writer and of its reader.
 use clause_table::Sizes;
+use file_numbers::SIZES_BYTES;
 use interval::Interval;
 use refusal::Reply;
 ghost use mathlib.Core.Path.{_≡_};
@@ -49,7 +50,10 @@ fn are_variables_at(file: &[u8], s: Sizes) -> bool
     ensures { λ r. ⌜ r ≡ allPass (isVariable (s .variables)) (variablesAt (old file)) ⌝ }
 {
     for e in 0..s.literals as usize {
-        if !is_variable(file_numbers::number_at(file, 20 + 4 * e), s.variables) {
+        if !is_variable(
+            file_numbers::number_at(file, SIZES_BYTES + 4 * e),
+            s.variables,
+        ) {
             return false;
         }
     }
@@ -148,7 +152,7 @@ pub fn ask_arrays(s: Sizes, variables: &[u32], marks: &[u8]) -> Reply
 fn ask_length(file: &[u8]) -> Reply
     ensures { λ r. ⌜ r ≡ askFile (old file) ⌝ }
 {
-    if file.len() >= 20 {
+    if file.len() >= SIZES_BYTES {
         let long = file_numbers::file_length(file_numbers::number_at(file, 16));
         return refusal::ask(15, file.len() == long);
     }

@@ -4,6 +4,7 @@ mod parts;
 use crate::parts::Parts;
 use clause_table::Sizes;
 use clause_table::Written;
+use file_numbers::SIZES_BYTES;
 ghost use mathlib.Core.Path.{_≡_};
 ghost use Prim.Native.Nat.{_≤_};
 ghost use lib.ListN.{length, getD};
@@ -17,7 +18,7 @@ ghost use Rattle.file_line.specs.Parts.{filePut};
 // The arrays hold so many literals, and the file of so many.
 pub const MAX_LITERALS: usize = 8192;
 
-pub const FILE_BYTES: usize = 20 + 5 * MAX_LITERALS;
+pub const FILE_BYTES: usize = SIZES_BYTES + 5 * MAX_LITERALS;
 
 // So many bytes of an input are read; what stands beyond changes nothing.
 pub const MAX_INPUT: usize = 512;

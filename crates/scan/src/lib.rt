@@ -44,7 +44,7 @@ fn is_outside(c: u32, b: u8) -> bool
     if !grammar::is_letter(b) {
         return false;
     }
-    c as usize <= wide(b) - 97
+    c as usize <= wide(b - b'a')
 }
 
 // One digit more, one above the most for all beyond.
@@ -52,7 +52,7 @@ fn with_digit(v: u64, b: u8, most: u64) -> u64
     requires { ⌜ (v ≤ suc most) × (most < 2 ^ 32) × (isDigit b ≡ true) ⌝ }
     ensures { λ r. ⌜ (r ≡ cappedAt most (v * 10 + (b - 48))) × (r ≤ suc most) ⌝ }
 {
-    let n = v * 10 + (b - 48) as u64;
+    let n = v * 10 + (b - b'0') as u64;
     if n <= most { n } else { most + 1 }
 }
 
