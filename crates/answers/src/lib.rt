@@ -4,9 +4,10 @@ use assignments::Checked;
 use clause_table::Written;
 use evaluator::Verdict;
 use nodes::Located;
+use refusal::Refusal;
 use search::Answer;
 ghost use mathlib.Core.Path.{_≡_};
-ghost use Rattle.answers.specs.Answers.{packed, packVerdict, packLocated, packWritten, packChecked, packAnswer};
+ghost use Rattle.answers.specs.Answers.{packed, packRefusal, packVerdict, packLocated, packWritten, packChecked, packAnswer};
 
 // Evaluation: the formula does not hold; it holds.
 pub const TUV_NO: u32 = 64;
@@ -36,7 +37,14 @@ fn pack(code: u32, value: u32) -> u64
     code as u64 + 4294967296 * (value as u64)
 }
 
-// A node's first byte and length as one value, or the refusal's number and place.
+// A refusal's number and place.
+fn pack_refusal(a: Refusal) -> u64
+    ensures { λ r. ⌜ r ≡ packRefusal a ⌝ }
+{
+    pack(a.number, a.place)
+}
+
+// A node's first byte and length as one value, or the refusal.
 pub fn pack_located(a: Located) -> u64
     ensures { λ r. ⌜ r ≡ packLocated a ⌝ }
 {
@@ -45,42 +53,42 @@ pub fn pack_located(a: Located) -> u64
             TUV_NODE_TEXT,
             first as u32 + 256 * (length as u32),
         ),
-        Located::Refused(r) => pack(r.number, r.place),
+        Located::Refused(r) => pack_refusal(r),
     }
 }
 
-// No or yes, or the refusal's number and place.
+// No or yes, or the refusal.
 pub fn pack_verdict(a: Verdict) -> u64
     ensures { λ r. ⌜ r ≡ packVerdict a ⌝ }
 {
     match a {
         Verdict::No => pack(TUV_NO, 0),
         Verdict::Yes => pack(TUV_YES, 0),
-        Verdict::Refused(r) => pack(r.number, r.place),
+        Verdict::Refused(r) => pack_refusal(r),
     }
 }
 
-// Written, or the refusal's number and place.
+// Written, or the refusal.
 pub fn pack_written(a: Written) -> u64
     ensures { λ r. ⌜ r ≡ packWritten a ⌝ }
 {
     match a {
         Written::Done => pack(TUV_WRITTEN, 0),
-        Written::Refused(r) => pack(r.number, r.place),
+        Written::Refused(r) => pack_refusal(r),
     }
 }
 
-// Accepted, or the refusal's number and place.
+// Accepted, or the refusal.
 pub fn pack_checked(a: Checked) -> u64
     ensures { λ r. ⌜ r ≡ packChecked a ⌝ }
 {
     match a {
         Checked::Accepted => pack(TUV_ACCEPTED, 0),
-        Checked::Refused(r) => pack(r.number, r.place),
+        Checked::Refused(r) => pack_refusal(r),
     }
 }
 
-// Found, none or spent with the count, or the refusal's number and place.
+// Found, none or spent with the count, or the refusal.
 pub fn pack_answer(a: Answer) -> u64
     ensures { λ r. ⌜ r ≡ packAnswer a ⌝ }
 {
@@ -88,6 +96,6 @@ pub fn pack_answer(a: Answer) -> u64
         Answer::Found(n) => pack(TUV_FOUND, n),
         Answer::None(n) => pack(TUV_NONE, n),
         Answer::Spent(n) => pack(TUV_SPENT, n),
-        Answer::Refused(r) => pack(r.number, r.place),
+        Answer::Refused(r) => pack_refusal(r),
     }
 }

@@ -1,15 +1,15 @@
 // Questions 15 to 18 of the file's writer and of its reader.
 use clause_table::Sizes;
+use file_numbers::SIZES_BYTES;
 use interval::Interval;
 use refusal::Reply;
 ghost use mathlib.Core.Path.{_≡_};
-ghost use mathlib.Core.List.{List};
-ghost use Prim.Native.Nat.{ℕ};
 ghost use Rattle.moments.specs.Moments.{old};
 ghost use Rattle.refusal.specs.Asked.{asked};
 ghost use Rattle.file_numbers.specs.File.{variablesAt};
 ghost use Rattle.file_numbers.specs.Held.{Held};
-ghost use Rattle.clause_file.specs.Questions.{allPass, howMany, askFile, askArrays, inLimits, isVariable, isMark, askEntries, closes, endsClosed, askClosed, askFileRoom, entryQuestions};
+ghost use Rattle.clause_file.specs.Questions.{allPass, howMany, inLimits, isVariable, isMark, closes, endsClosed, OfVariables};
+ghost use Rattle.clause_file.specs.Questions.{askFile, askArrays, askEntries, askClosed, askFileRoom, entryQuestions};
 ghost use Rattle.clause_file.specs.Calls.{arrayQuestions, fileQuestions};
 
 // C and k as in questions 1 and 2.
@@ -50,7 +50,10 @@ fn are_variables_at(file: &[u8], s: Sizes) -> bool
     ensures { λ r. ⌜ r ≡ allPass (isVariable (s .variables)) (variablesAt (old file)) ⌝ }
 {
     for e in 0..s.literals as usize {
-        if !is_variable(file_numbers::number_at(file, 20 + 4 * e), s.variables) {
+        if !is_variable(
+            file_numbers::number_at(file, SIZES_BYTES + 4 * e),
+            s.variables,
+        ) {
             return false;
         }
     }
@@ -93,7 +96,7 @@ fn ends_closed(marks: &[u8]) -> bool
 
 // Question 16, once it is known whether every variable is from 1 to V.
 fn ask_entries(s: Sizes, fit: bool, marks: &[u8]) -> Reply
-    ensures { λ r. ⌜ ((variables : List ℕ) → fit ≡ allPass (isVariable (s .variables)) variables → r ≡ askEntries s variables (old marks)) ⌝ }
+    ensures { λ r. ⌜ OfVariables s fit (λ variables. r ≡ askEntries s variables (old marks)) ⌝ }
 {
     if !in_limits(s) {
         return refusal::ask(16, false);
@@ -116,7 +119,7 @@ fn ask_closed(clauses: u32, marks: &[u8]) -> Reply
 
 // Both.
 fn ask_table(s: Sizes, fit: bool, marks: &[u8]) -> Reply
-    ensures { λ r. ⌜ ((variables : List ℕ) → fit ≡ allPass (isVariable (s .variables)) variables → r ≡ asked (entryQuestions s variables (old marks)) Reply.No Reply.Yes) ⌝ }
+    ensures { λ r. ⌜ OfVariables s fit (λ variables. r ≡ asked (entryQuestions s variables (old marks)) Reply.No Reply.Yes) ⌝ }
 {
     if let Reply::No(r) = ask_entries(s, fit, marks) {
         return Reply::No(r);
@@ -149,7 +152,7 @@ pub fn ask_arrays(s: Sizes, variables: &[u32], marks: &[u8]) -> Reply
 fn ask_length(file: &[u8]) -> Reply
     ensures { λ r. ⌜ r ≡ askFile (old file) ⌝ }
 {
-    if file.len() >= 20 {
+    if file.len() >= SIZES_BYTES {
         let long = file_numbers::file_length(file_numbers::number_at(file, 16));
         return refusal::ask(15, file.len() == long);
     }

@@ -9,11 +9,11 @@ mod print;
 mod words;
 
 use arguments::Fault;
-use arguments::Sought;
-use arguments::Task;
+use arguments::search::Sought;
+use arguments::task::Task;
 use evaluator::Verdict;
 use grammar::MAX_CHANNELS;
-use input_line::Number;
+use input_line::number::Number;
 use interval::Interval;
 use libc::STDIN_FILENO;
 use refusal::Reply;
@@ -36,7 +36,7 @@ fn exercise(input: &[u8]) {
     if rest.len() == 0 {
         return words::put_fault(Fault::Few);
     }
-    let count = input_line::decimal(input_line::line(input));
+    let count = input_line::number::decimal(input_line::line(input));
     match count {
         Number::Of(c) => answer(rest, c),
         Number::Zero => words::put_fault(Fault::Zero),
@@ -59,7 +59,7 @@ fn answer(lines: &[u8], c: u32) {
 // The steps, the formula, and perhaps a limit.
 fn search_for(lines: &[u8], c: u32) {
     let text = input_line::line(input_line::after_line(lines));
-    let sought = arguments::take_search(lines);
+    let sought = arguments::search::take_search(lines);
     match sought {
         Sought::First { steps, limit } => first::put_first(text, c, steps, limit),
         Sought::Wrong(fault) => words::put_fault(fault),
@@ -69,7 +69,7 @@ fn search_for(lines: &[u8], c: u32) {
 // The lines after the formula.
 fn work_on(text: &[u8], c: u32, lines: &[u8]) {
     let mut recording = [0u8; Interval::MAX_STEPS];
-    let task = arguments::take_task(&mut recording, lines, c);
+    let task = arguments::task::take_task(&mut recording, lines, c);
     match task {
         Task::Judge(steps) => put_verdict(
             text,

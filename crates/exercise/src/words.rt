@@ -80,7 +80,7 @@ fn put_wrong_search(fault: Fault) {
         Fault::Tries => put(b"tries= is followed by the most tries to make, as in tries=1000"),
         Fault::Many => put_limit(
             b"the most that tries= can allow is ",
-            input_line::MAX_TRIES as usize,
+            input_line::number::MAX_TRIES as usize,
         ),
         _ => put(b"after steps and formula only tries= can follow, as in tries=1000"),
     }
@@ -119,7 +119,7 @@ FORMULA   without blanks, in single quotes:\n\
 \x20           T  F                true, false\n\
 \x20         P and Q are formulas; S is a letter, T, F, !S, (S&S) or (S|S)\n\
 LIMIT     how many tries may be made for the first recording: ",
-        arguments::TRIES as usize,
+        arguments::search::TRIES as usize,
     );
     put_limit(
         b" if it is not given\n\

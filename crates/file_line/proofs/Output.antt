@@ -23,7 +23,7 @@ use Rattle.clause_table.specs.Table.{placesIn}
 use Rattle.file_line.specs.Line.{lineOf, Line, line, other, readLine}
 use Rattle.file_line.specs.Output.{askLiterals, fileIn, outputFor, outputOf, maxInput}
 use Rattle.file_line.specs.Parts.{lineBy, cappedLine}
-use Rattle.file_line.specs.declared.Parts.{Parts}
+use Rattle.file_line.specs.declared.parts.Parts.{Parts}
 use Rattle.file_line.proofs.Laws.{line-is}
 
 -- ---- a line within the limits
@@ -55,9 +55,9 @@ output-limited other = refl
 output-limited (line C k t) = by (decLt maxNumber C) (decLt maxNumber k)
   where
     by : Dec (maxNumber < C) → Dec (maxNumber < k) → outputFor (line (capped C) (capped k) t) ≡ outputFor (line C k t)
-    by (no h) (no g) = ap (λ (n : ℕ). outputFor (line n (capped k) t)) (sym (limited-in C C refl (omega arith))) ∙ ap (λ (n : ℕ). outputFor (line C n t)) (sym (limited-in k k refl (omega arith)))
-    by (yes h) g = none-beyond (capped C) (capped k) t (λ w. omega (arith, limited-out C C refl h)) ∙ sym (none-beyond C k t (λ w. omega arith))
-    by (no h) (yes g) = none-beyond (capped C) (capped k) t (λ w. omega (arith, limited-out k k refl g)) ∙ sym (none-beyond C k t (λ w. omega arith))
+    by (no h) (no g) = ap (λ (n : ℕ). outputFor (line n (capped k) t)) (sym (limited-in maxNumber C C refl (omega arith))) ∙ ap (λ (n : ℕ). outputFor (line C n t)) (sym (limited-in maxNumber k k refl (omega arith)))
+    by (yes h) g = none-beyond (capped C) (capped k) t (λ w. omega (arith, limited-out maxNumber C C refl h)) ∙ sym (none-beyond C k t (λ w. omega arith))
+    by (no h) (yes g) = none-beyond (capped C) (capped k) t (λ w. omega (arith, limited-out maxNumber k k refl g)) ∙ sym (none-beyond C k t (λ w. omega arith))
 
 -- what the parts that were read say has the input's output
 pub output-read : (l : List ℕ) {p q : Parts} → p ≡ q → lineBy l p ≡ cappedLine (readLine l) → outputFor (lineBy l q) ≡ outputOf l

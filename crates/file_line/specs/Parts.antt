@@ -7,10 +7,10 @@ use Rattle.scan.specs.Scans.{capped}
 use Rattle.file_numbers.specs.File.{sizesBy}
 use Rattle.clause_file.specs.Calls.{FileAfter, fileWritten}
 use Rattle.file_line.specs.Line.{Line, line, other, Taken, taken, none}
-use Rattle.file_line.specs.declared.Item.{Item}
-use Rattle.file_line.specs.declared.Item.the-variants.{Of as OfItem, None as NoItem}
-use Rattle.file_line.specs.declared.Parts.{Parts}
-use Rattle.file_line.specs.declared.Parts.the-variants.{Of, Other}
+use Rattle.file_line.specs.declared.parts.Item.{Item}
+use Rattle.file_line.specs.declared.parts.Item.the-variants.{Of as OfItem, None as NoItem}
+use Rattle.file_line.specs.declared.parts.Parts.{Parts}
+use Rattle.file_line.specs.declared.parts.Parts.the-variants.{Of, Other}
 
 -- what an item of an input says
 abbrev pub takenBy : List ℕ → Item → Taken

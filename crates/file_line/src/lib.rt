@@ -1,101 +1,33 @@
 // What the file program does: it reads a line of C, k and the text of a formula, and writes the formula's clause file.
+mod parts;
+
+use crate::parts::Parts;
 use clause_table::Sizes;
 use clause_table::Written;
-use reader::Got;
+use file_numbers::SIZES_BYTES;
 ghost use mathlib.Core.Path.{_≡_};
 ghost use Prim.Native.Nat.{_≤_};
-ghost use lib.ListN.{length, getD, drop};
+ghost use lib.ListN.{length, getD};
 ghost use Rattle.moments.specs.Moments.{old, new};
 ghost use Rattle.clause_table.specs.Table.{over};
 ghost use Rattle.file_numbers.specs.File.{fileLength};
-ghost use Rattle.file_line.specs.Line.{line, number, blank, textLast, stepsNext, readLine};
+ghost use Rattle.file_line.specs.Line.{line};
 ghost use Rattle.file_line.specs.Output.{outputFor, outputOf, maxInput};
-ghost use Rattle.file_line.specs.Parts.{takenBy, cappedTaken, lineBy, cappedLine, PartsWithin, filePut};
+ghost use Rattle.file_line.specs.Parts.{filePut};
 
 // The arrays hold so many literals, and the file of so many.
 pub const MAX_LITERALS: usize = 8192;
 
-pub const FILE_BYTES: usize = 20 + 5 * MAX_LITERALS;
+pub const FILE_BYTES: usize = SIZES_BYTES + 5 * MAX_LITERALS;
 
 // So many bytes of an input are read; what stands beyond changes nothing.
 pub const MAX_INPUT: usize = 512;
-
-// A number, one above the limit for all beyond, and the place after the blank that follows it.
-enum Item {
-    Of { value: u32, next: usize },
-    None,
-}
-
-// C and k, and where the text stands.
-enum Parts {
-    Of {
-        c: u32,
-        k: u32,
-        first: usize,
-        end: usize,
-    },
-    Other,
-}
 
 // Room for an input.
 pub fn room_for_input() -> [u8; MAX_INPUT]
     ensures { λ r. ⌜ length r ≡ maxInput ⌝ }
 {
     [0; MAX_INPUT]
-}
-
-// The number and the blank from a place on.
-fn item_at(input: &[u8], at: usize) -> Item
-    ensures { λ r. ⌜ takenBy (old input) r ≡ cappedTaken (blank (number (drop at (old input)))) ⌝ }
-{
-    let g = reader::signed_by(input, b' ', reader::numbered_by(input, Got::Good(at)));
-    match g {
-        Got::Good(next) => Item::Of {
-            value: scan::number_at(input, at) as u32,
-            next,
-        },
-        Got::Bad(_) => Item::None,
-    }
-}
-
-// The text from a place on, and the line feed after it.
-fn text_at(input: &[u8], c: u32, k: u32, at: usize) -> Parts
-    ensures { λ r. ⌜ (lineBy (old input) r ≡ textLast c k (drop at (old input))) × PartsWithin (old input) r ⌝ }
-{
-    if at < input.len() {
-        let end = input.len() - 1;
-        if input[end] == b'\n' {
-            return Parts::Of {
-                c,
-                k,
-                first: at,
-                end,
-            };
-        }
-    }
-    Parts::Other
-}
-
-// k and the text from a place on.
-fn steps_at(input: &[u8], c: u32, at: usize) -> Parts
-    ensures { λ r. ⌜ (lineBy (old input) r ≡ stepsNext c (cappedTaken (blank (number (drop at (old input)))))) × PartsWithin (old input) r ⌝ }
-{
-    let e = item_at(input, at);
-    match e {
-        Item::Of { value, next } => text_at(input, c, value, next),
-        Item::None => Parts::Other,
-    }
-}
-
-// The parts of a line.
-fn read_line(input: &[u8]) -> Parts
-    ensures { λ r. ⌜ (lineBy (old input) r ≡ cappedLine (readLine (old input))) × PartsWithin (old input) r ⌝ }
-{
-    let e = item_at(input, 0);
-    match e {
-        Item::Of { value, next } => steps_at(input, value, next),
-        Item::None => Parts::Other,
-    }
 }
 
 // The file of a table, by its five sizes and the first L places of its arrays.
@@ -133,7 +65,7 @@ fn file_of_text(text: &[u8], c: u32, k: u32, file: &mut [u8; FILE_BYTES]) -> usi
 pub fn file_of_input(input: &[u8], file: &mut [u8; FILE_BYTES]) -> usize
     ensures { λ r. ⌜ (r ≡ length (outputOf (old input))) × (new file ≡ over (outputOf (old input)) (old file)) × (r ≤ length (new file)) ⌝ }
 {
-    let p = read_line(input);
+    let p = parts::read_line(input);
     match p {
         Parts::Of { c, k, first, end } => file_of_text(&input[first..end], c, k, file),
         Parts::Other => 0,

@@ -9,11 +9,14 @@ ghost use Rattle.moments.specs.Moments.{old, new};
 ghost use Rattle.file_numbers.specs.File.{byteOf, bytesOf, fileLength, numberOf, numberAt, sizesAt, variablesAt, marksAt};
 ghost use Rattle.file_numbers.specs.Held.{Held};
 
+// The bytes of the five sizes, which come first.
+pub const SIZES_BYTES: usize = 20;
+
 // How many bytes the file of so many literals has.
 pub fn file_length(literals: u32) -> usize
     ensures { λ r. ⌜ r ≡ fileLength literals ⌝ }
 {
-    20 + 5 * (literals as usize)
+    SIZES_BYTES + 5 * (literals as usize)
 }
 
 // A number's byte of a weight.
@@ -85,7 +88,7 @@ pub fn marks_at(file: &[u8], s: Sizes) -> &[u8]
     requires { ⌜ Held (now file) s ⌝ }
     ensures { λ r. ⌜ now r ≡ marksAt (old file) ⌝ }
 {
-    let from = 20 + 4 * (s.literals as usize);
+    let from = SIZES_BYTES + 4 * (s.literals as usize);
     &file[from..]
 }
 
@@ -95,6 +98,6 @@ pub fn read_numbers(variables: &mut [u32], file: &[u8], s: Sizes)
     ensures { λ _. ⌜ new variables ≡ sets (old variables) 0 (variablesAt (old file)) ⌝ }
 {
     for e in 0..s.literals as usize {
-        variables[e] = number_at(file, 20 + 4 * e);
+        variables[e] = number_at(file, SIZES_BYTES + 4 * e);
     }
 }

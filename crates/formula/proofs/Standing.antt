@@ -2,14 +2,12 @@
 -- So reading the part from there on ends at its last byte, and what is told of a node by its place is the node's.
 use mathlib.Core.Path.{_≡_, refl, sym, ap, _∙_}
 use mathlib.Core.List.{List, [], _∷_, _++_, append-assoc}
-use Prim.Native.Nat.{ℕ, suc, _+_, _*_, _-_, _≤_, _<_}
-use native.Mathlib.Decide.{decLt}
+use Prim.Native.Nat.{ℕ, suc, _+_, _*_, _-_, _≤_}
 use native.Mathlib.Nat.{add-zero}
 use native.Mathlib.Omega.{arith}
 use native.Mathlib.Numerals.{add-one}
 use lib.ListN.{length, getD, take, drop, length-drop}
 use lib.Seq.{take-append-seam, getD-drop}
-use borrow.Author.Tests.{le-leb, lt-leb}
 use Rattle.grammar.specs.Trees.{Link, Tree, constant, letter, negation, pair, duration, throughout, Letters, decimal, linkByte, constantByte, write, textOf}
 use Rattle.grammar.specs.Reader.{whole, part, run}
 use Rattle.grammar.specs.declared.Sort.{Sort}
@@ -18,10 +16,9 @@ use Rattle.grammar.proofs.Bytes.{Clear, link-clear, digit-is}
 use Rattle.grammar.proofs.Decimal.{decimal-digit, decimal-more, by-digits}
 use Rattle.grammar.proofs.Printed.{part-read}
 use Rattle.grammar.proofs.Written.{write-text, length-write, drop-byte, drop-part}
-use Rattle.reader.specs.Parts.{restOf, endOf}
+use Rattle.reader.specs.Parts.{valueFrom, restOf, endOf}
 use Rattle.reader.proofs.Parts.{rest-whole, in-place}
 use Rattle.formula.specs.Nodes.{Node, nodesOf}
-use Rattle.grammar.specs.Limits.{maxNumber}
 use Rattle.scan.specs.Scans.{capped, numberFrom, digitOf, numberOf}
 use Rattle.interval.specs.Listing.{All}
 use Rattle.formula.proofs.Lists.{all-append}
@@ -43,25 +40,15 @@ text-some (pair l x y) = omega arith
 text-some (duration x n) = omega arith
 text-some (throughout x) = omega arith
 
--- a number above the limit stays above it with a digit more
-limited-more : (m d : ℕ) → d < 10 → capped (capped m * 10 + d) ≡ capped (m * 10 + d)
-limited-more m d h = go (decLt maxNumber m)
-  where
-    go : Dec (maxNumber < m) → capped (capped m * 10 + d) ≡ capped (m * 10 + d)
-    go (yes k) = rw (lt-leb m maxNumber k, lt-leb (m * 10 + d) maxNumber (omega arith), lt-leb (suc maxNumber * 10 + d) maxNumber (omega arith))
-    go (no k) = rw (le-leb m maxNumber (omega arith))
-
-digits-read : (n : ℕ) (q : List ℕ) → numberFrom 0 (decimal n ++ q) ≡ numberFrom (capped n) q
-unfolding numberFrom
-digits-read = by-digits (λ n. (q : List ℕ) → numberFrom 0 (decimal n ++ q) ≡ numberFrom (capped n) q)
-    (λ d h q. let e : 0 * 10 + (48 + d - 48) ≡ d = omega arith in rw (decimal-digit d h) (rw (digit-is d h) (ap (λ (v : ℕ). numberFrom (capped v) q) e)))
+digits-read : (n : ℕ) (q : List ℕ) → valueFrom 0 (decimal n ++ q) ≡ valueFrom n q
+digits-read = by-digits (λ n. (q : List ℕ) → valueFrom 0 (decimal n ++ q) ≡ valueFrom n q)
+    (λ d h q. let e : 0 * 10 + (48 + d - 48) ≡ d = omega arith in rw (decimal-digit d h) (rw (digit-is d h) (ap (λ (v : ℕ). valueFrom v q) e)))
     (λ m d p h ih q. let e : 48 + d - 48 ≡ d = omega arith in
-    rw (decimal-more m d p h, append-assoc (decimal m) ((48 + d) ∷ []) q) (ih ((48 + d) ∷ q) ∙ rw (digit-is d h, e) (ap (λ (v : ℕ). numberFrom v q) (limited-more m d h))))
+    rw (decimal-more m d p h, append-assoc (decimal m) ((48 + d) ∷ []) q) (ih ((48 + d) ∷ q) ∙ rw (digit-is d h, e)))
 
 pub read-number : (n : ℕ) (q : List ℕ) → Clear q → numberFrom 0 (decimal n ++ q) ≡ capped n
-unfolding numberFrom
-read-number n [] c = digits-read n []
-read-number n (b ∷ q) c = digits-read n (b ∷ q) ∙ rw c
+read-number n [] c = ap capped (digits-read n [])
+read-number n (b ∷ q) c = ap capped (digits-read n (b ∷ q)) ∙ rw c
 
 module _ (t : List ℕ) where
   module _ {s : Sort} (x : Tree s) (at : ℕ) (w : Stands t x at) where

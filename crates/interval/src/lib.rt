@@ -32,29 +32,14 @@ impl Interval {
     pub fn ask_steps(k: usize) -> Reply
         ensures { λ r. ⌜ r ≡ askSteps k ⌝ }
     {
-        if k <= Self::MAX_STEPS {
-            Reply::Yes
-        } else {
-            Reply::No(Refusal {
-                number: 2,
-                place: 0,
-            })
-        }
+        refusal::ask(2, k <= Self::MAX_STEPS)
     }
 
     // Question 9.
     pub fn ask_interval(i: usize, j: usize, k: usize) -> Reply
         ensures { λ r. ⌜ r ≡ askInterval i j k ⌝ }
     {
-        if i <= j {
-            if j <= k {
-                return Reply::Yes;
-            }
-        }
-        Reply::No(Refusal {
-            number: 9,
-            place: 0,
-        })
+        refusal::ask_within(9, j, i, k)
     }
 
     // The constructor asks both.

@@ -6,7 +6,7 @@ use mathlib.Core.List.{List, [], _∷_, map}
 use Prim.Native.Nat.{ℕ, _+_, _-_, _≤_, _<_}
 use native.Mathlib.Omega.{arith}
 use lib.Dec.{leb}
-use lib.ListN.{length, getD, drop}
+use lib.ListN.{length, getD, drop, length-map}
 use Rattle.refusal.specs.Asked.{question, asked}
 use Rattle.refusal.specs.declared.Refusal.{Refusal}
 use Rattle.refusal.specs.declared.Reply.{Reply}
@@ -70,14 +70,16 @@ module _ (C k x : ℕ) (t : List ℕ) where
   unfolding nodeRefusalOf
   refusal-is = asked-append No Yes (formulaQuestions C k t) (askNode x t ∷ []) ∙ ap (asked (formulaQuestions C k t) No) (asked-one (askNode x t))
 
-  pub refused-early : (r : Refusal) → acceptOf C k t ≡ No r → No r ≡ nodeRefusalOf C k x t
-  unfolding acceptOf
-  refused-early r e = sym (refusal-is ∙ replied-no No (askNode x t) (formulaQuestions C k t) r e)
+  module _ (T : Tabled) (e : T ≡ tabledOf C k t) where
+    pub refused-early : (r : Refusal) → T .reply ≡ No r → No r ≡ nodeRefusalOf C k x t
+    unfolding acceptOf
+    refused-early r n = sym (refusal-is ∙ replied-no No (askNode x t) (formulaQuestions C k t) r (sym (reply-is C k t T e) ∙ n))
 
-  pub refused-last : acceptOf C k t ≡ Yes → (n : ℕ) (r : Reply) → n ≡ length (nodesIn t) → r ≡ question 8 0 (leb 1 x && leb x n) → r ≡ nodeRefusalOf C k x t
-  unfolding acceptOf askNode
-  refused-last e n r p u =
-      u ∙ ap (λ (m : ℕ). question 8 0 (leb 1 x && leb x m)) p ∙ sym (refusal-is ∙ replied-yes No (askNode x t) (formulaQuestions C k t) e)
+    pub refused-last : T .reply ≡ Yes → (r : Reply) → r ≡ question 8 0 (leb 1 x && leb x (T .table .count)) → r ≡ nodeRefusalOf C k x t
+    unfolding acceptOf askNode tableOf
+    refused-last y r u =
+        let p = ap (λ (n : NodeTable). n .count) (table-is C k t T e y) ∙ length-map (nodesIn t) rowOf in
+        u ∙ ap (λ (m : ℕ). question 8 0 (leb 1 x && leb x m)) p ∙ sym (refusal-is ∙ replied-yes No (askNode x t) (formulaQuestions C k t) (accepts C k t T e y))
 
   pub place-refused : (r : Refusal) → nodeRefusalOf C k x t ≡ No r → nodePlaceOf C k x t ≡ Refused r
   unfolding nodePlaceOf nodeRefusalOf
@@ -111,10 +113,10 @@ module _ (C k x : ℕ) (t : List ℕ) (e : nodeRefusalOf C k x t ≡ Yes) where
   field-is : (g : Row → ℕ) → getD (padded (map g (map rowOf (nodesIn t)))) (x - 1) 0 ≡ g (rowOf (chosen .chosen))
   field-is g = field-after g (nodesIn t) _ (x - 1) (chosen .chosen) (chosen .back)
 
-  pub place-made : (n : NodeTable) → n ≡ tableOf (map rowOf (nodesIn t)) → Part (getD (n .firsts) (x - 1) 0) (getD (n .lengths) (x - 1) 0) ≡ nodePlaceOf C k x t
+  pub place-made : (n : NodeTable) → n ≡ tabledOf C k t .table → Part (getD (n .firsts) (x - 1) 0) (getD (n .lengths) (x - 1) 0) ≡ nodePlaceOf C k x t
   unfolding tableOf
   place-made n f =
-      ap (λ (n : NodeTable). Part (getD (n .firsts) (x - 1) 0) (getD (n .lengths) (x - 1) 0)) f
+      ap (λ (n : NodeTable). Part (getD (n .firsts) (x - 1) 0) (getD (n .lengths) (x - 1) 0)) (f ∙ table-is C k t _ refl (reply-is C k t _ refl ∙ both-yes .0))
       ∙ ap₂ Part (field-is (λ (r : Row). r .first)) (field-is (λ (r : Row). r .length)) ∙ sym place-is
 
   -- a node's own text is what its subtree prints

@@ -4,13 +4,10 @@ use refusal::Refusal;
 use refusal::Reply;
 use rows::NodeTable;
 ghost use mathlib.Core.Path.{_≡_};
-ghost use Prim.Native.Nat.{ℕ, _+_, _<_};
-ghost use lib.ListN.{length, getD};
+ghost use Prim.Native.Nat.{_+_, _<_};
+ghost use lib.ListN.{getD};
 ghost use Rattle.moments.specs.Moments.{old};
 ghost use Rattle.grammar.specs.Limits.{maxNodes};
-ghost use Rattle.refusal.specs.declared.Reply.the-variants.{Yes};
-ghost use Rattle.formula.specs.Nodes.{nodesIn};
-ghost use Rattle.formula.specs.Questions.{acceptOf};
 ghost use Rattle.nodes.specs.Calls.{tabledOf, nodeRefusalOf, nodePlaceOf, nodeTextOf};
 
 // The answer to questions 1 to 7, and the table: no nodes where refused.
@@ -42,42 +39,42 @@ pub fn node_table(text: &[u8], c: u32, k: u32) -> Tabled
     }
 }
 
-// How many nodes an accepted text has: a loop over its bytes, a node at each first byte.
-fn node_count(text: &[u8]) -> usize
-    requires { ⌜ ((C : ℕ) × (k : ℕ) × (acceptOf C k (now text) ≡ Yes)) ⌝ }
-    ensures { λ r. ⌜ r ≡ length (nodesIn (old text)) ⌝ }
+// The answer to questions 1 to 8, and the node table.
+fn ask_node(text: &[u8], c: u32, k: u32, x: u32) -> Tabled
+    ensures { λ r. ⌜ r .reply ≡ nodeRefusalOf c k x (old text) ⌝ }
+    ensures { λ r. ⌜ r .table ≡ tabledOf c k (old text) .table ⌝ }
 {
-    let mut n: usize = 0;
-    let mut i = 0;
-    while i < text.len() {
-        let first = grammar::is_start(text[i]);
-        i += 1;
-        if first {
-            n += 1;
-        }
+    let tabled = node_table(text, c, k);
+    let reply = tabled.reply;
+    let table = tabled.table;
+    if let Reply::No(r) = reply {
+        return Tabled {
+            reply: Reply::No(r),
+            table,
+        };
     }
-    n
+    let reply = refusal::ask_within(8, x as usize, 1, table.count);
+    Tabled { reply, table }
 }
 
 // The number and place of the refusal of a node's text: questions 1 to 8.
 pub fn node_refusal(text: &[u8], c: u32, k: u32, x: u32) -> Reply
     ensures { λ r. ⌜ r ≡ nodeRefusalOf c k x (old text) ⌝ }
 {
-    if let Reply::No(r) = formula::accept(text, c, k) {
-        return Reply::No(r);
-    }
-    let count = node_count(text);
-    refusal::ask_within(8, x as usize, 1, count)
+    let asked = ask_node(text, c, k, x);
+    asked.reply
 }
 
 // Where a node's own text is, as numbers, or the refusal: questions 1 to 8.
 pub fn node_place(text: &[u8], c: u32, k: u32, x: u32) -> Located
     ensures { λ r. ⌜ r ≡ nodePlaceOf c k x (old text) ⌝ }
 {
-    if let Reply::No(r) = node_refusal(text, c, k, x) {
+    let asked = ask_node(text, c, k, x);
+    let reply = asked.reply;
+    if let Reply::No(r) = reply {
         return Located::Refused(r);
     }
-    let table = rows::rows_of(text);
+    let table = asked.table;
     let i = x as usize - 1;
     let first = table.firsts[i];
     let length = table.lengths[i];

@@ -13,7 +13,7 @@ use lib.ListN.{length, getD, drop, length-drop, drop-of-length-le}
 use lib.Seq.{drop-cons, drop-drop}
 use Rattle.grammar.specs.Trees.{Link, and, or, chop, Tree, negation, pair, duration, throughout, constant}
 use Rattle.grammar.specs.Reader.{Around, whole, negated, left, right, measured, entered, Reading, part, after, above, equals, digits, go, stop, stops, isDigit, isLetter, isJoint, joins, leadOf, leafOf, begin, ownJoint, jointOf, join, next, follow, endAfter, atEnd, onward, run, read, placed}
-use Rattle.reader.specs.Parts.{resume, Within, PartAt, restOf, endOf, parseText, parseOf, testAt, isSign, digitCount, numberAt, onGood}
+use Rattle.reader.specs.Parts.{resume, Within, PartAt, restOf, endOf, parseText, parseOf, testAt, isSign, digitCount, valueFrom, numberAt, onGood}
 use Rattle.grammar.specs.declared.Sort.{Sort}
 use Rattle.grammar.specs.declared.Sort.the-variants.{State, Formula}
 use Rattle.grammar.specs.declared.Lead.{Lead}
@@ -79,11 +79,7 @@ module _ {r : Sort} (t : List ℕ) where
   sign-run (Good n) m m′ v e w = test-run n m m′ (isSign v) e (w (getD t n 0))
   sign-run (Bad p) m m′ v e w = refl
 
--- the value of digits, v for those before them
-abbrev valueFrom : ℕ → List ℕ → ℕ
-valueFrom v [] = v
-valueFrom v (b ∷ q) = cond (isDigit b) (valueFrom (v * 10 + (b - 48)) q) v
-
+-- the value of a number's digits
 abbrev valueOf : List ℕ → ℕ
 valueOf [] = 0
 valueOf (b ∷ q) = cond (eqb b 48) 0 (valueFrom (b - 48) q)

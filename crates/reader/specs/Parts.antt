@@ -3,7 +3,7 @@
 use mathlib.Core.Path.{_≡_}
 use mathlib.Core.Bool.{Bool, cond}
 use mathlib.Core.List.{List, [], _∷_}
-use Prim.Native.Nat.{ℕ, suc, _+_, _-_, _≤_, _<_}
+use Prim.Native.Nat.{ℕ, suc, _+_, _*_, _-_, _≤_, _<_}
 use lib.Dec.{eqb}
 use lib.ListN.{length, drop}
 use Rattle.grammar.specs.Trees.{Tree}
@@ -42,6 +42,11 @@ isSign v b = eqb b v
 unfoldable pub digitCount : List ℕ → ℕ
 digitCount [] = 0
 digitCount (b ∷ q) = cond (isDigit b) (suc (digitCount q)) 0
+
+-- their value, v for those before them
+abbrev pub valueFrom : ℕ → List ℕ → ℕ
+valueFrom v [] = v
+valueFrom v (b ∷ q) = cond (isDigit b) (valueFrom (v * 10 + (b - 48)) q) v
 
 -- a number must stand at n: `0`, or a digit from 1 to 9 and any digits
 abbrev pub numberAt : ℕ → List ℕ → Got

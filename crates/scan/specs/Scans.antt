@@ -2,12 +2,12 @@
 -- that this finds what the tree has.
 use mathlib.Core.Bool.{Bool, cond, _&&_}
 use mathlib.Core.List.{List, [], _∷_, _++_}
-use Prim.Native.Nat.{ℕ, suc, _+_, _*_, _-_}
+use Prim.Native.Nat.{ℕ, suc, _+_, _-_}
 use lib.Dec.{eqb, leb, ltb}
 use lib.ListN.{drop, replicate}
-use Rattle.grammar.specs.Reader.{isDigit, isLetter, isStart}
+use Rattle.grammar.specs.Reader.{isLetter, isStart}
 use Rattle.grammar.specs.declared.Sort.the-variants.{State}
-use Rattle.reader.specs.Parts.{endOf}
+use Rattle.reader.specs.Parts.{valueFrom, endOf}
 use Rattle.grammar.specs.Limits.{maxNumber}
 use Rattle.scan.specs.declared.Ask.{Ask}
 use Rattle.scan.specs.declared.Ask.the-variants.{Letters, Numbers, Nodes}
@@ -29,14 +29,17 @@ isOutside C b = isLetter b && leb C (b - 97)
 abbrev pub outsideAt : ℕ → ℕ → ℕ → List ℕ
 outsideAt C b at = cond (isOutside C b) (at ∷ []) []
 
--- a number that goes no further than one above the limit
+-- a number that goes no further than one above the most
+abbrev pub cappedAt : ℕ → ℕ → ℕ
+cappedAt most n = cond (leb n most) n (suc most)
+
+-- a formula's: no further than one above the limit
 abbrev pub capped : ℕ → ℕ
-capped n = cond (leb n maxNumber) n (suc maxNumber)
+capped n = cappedAt maxNumber n
 
 -- the number that a text begins with, v for the digits before it
-unfoldable pub numberFrom : ℕ → List ℕ → ℕ
-numberFrom v [] = v
-numberFrom v (b ∷ q) = cond (isDigit b) (numberFrom (capped (v * 10 + (b - 48))) q) v
+abbrev pub numberFrom : ℕ → List ℕ → ℕ
+numberFrom v q = capped (valueFrom v q)
 
 -- the first digit of the number of the duration at a place: after `#`, a state assertion, `>` and `=`
 abbrev pub digitOf : List ℕ → ℕ → ℕ

@@ -4,12 +4,13 @@ use grammar::Sort;
 ghost use mathlib.Core.Path.{_≡_};
 ghost use mathlib.Core.Bool.{true, cond};
 ghost use mathlib.Core.List.{[], _∷_};
-ghost use Prim.Native.Nat.{suc, _+_, _*_, _-_, _≤_, _<_};
+ghost use Prim.Native.Nat.{suc, _+_, _*_, _-_, _^_, _≤_, _<_};
 ghost use lib.ListN.{length, getD, take, drop};
 ghost use Rattle.moments.specs.Moments.{old};
 ghost use Rattle.grammar.specs.Limits.{maxNumber, maxLength};
 ghost use Rattle.grammar.specs.Reader.{isDigit};
-ghost use Rattle.scan.specs.Scans.{isOutside, aboveAt, numberFrom, capped, numberOf, digitOf, listOf, answersAt, foundIn};
+ghost use Rattle.reader.specs.Parts.{valueFrom};
+ghost use Rattle.scan.specs.Scans.{isOutside, aboveAt, cappedAt, numberFrom, numberOf, digitOf, listOf, answersAt, foundIn};
 
 // The number of a duration: its first digit's place, and its value, one above the limit for all beyond.
 pub struct Number {
@@ -43,34 +44,41 @@ fn is_outside(c: u32, b: u8) -> bool
     if !grammar::is_letter(b) {
         return false;
     }
-    c as usize <= wide(b) - 97
+    c as usize <= wide(b - b'a')
 }
 
-// One digit more, one above the limit for all beyond.
-fn with_digit(v: usize, b: u8) -> usize
-    requires { ⌜ v ≤ suc maxNumber ⌝ }
-    requires { ⌜ isDigit b ≡ true ⌝ }
-    ensures { λ r. ⌜ (r ≡ capped (v * 10 + (b - 48))) × (r ≤ suc maxNumber) ⌝ }
+// One digit more, one above the most for all beyond.
+fn with_digit(v: u64, b: u8, most: u64) -> u64
+    requires { ⌜ (v ≤ suc most) × (most < 2 ^ 32) × (isDigit b ≡ true) ⌝ }
+    ensures { λ r. ⌜ (r ≡ cappedAt most (v * 10 + (b - 48))) × (r ≤ suc most) ⌝ }
 {
-    let n = v * 10 + (wide(b) - 48);
-    if n <= MAX_NUMBER { n } else { MAX_NUMBER + 1 }
+    let n = v * 10 + (b - b'0') as u64;
+    if n <= most { n } else { most + 1 }
 }
 
-// The number from a place on, of any count of digits.
-pub fn number_at(text: &[u8], at: usize) -> usize
-    ensures { λ r. ⌜ (r ≡ numberFrom 0 (drop at (old text))) × (r ≤ suc maxNumber) ⌝ }
+// The number from a place on, of any count of digits, one above the most for all beyond.
+pub fn capped_number(text: &[u8], at: usize, most: u64) -> u64
+    requires { ⌜ most < 2 ^ 32 ⌝ }
+    ensures { λ r. ⌜ (r ≡ cappedAt most (valueFrom 0 (drop at (old text)))) × (r ≤ suc most) ⌝ }
 {
-    let mut v: usize = 0;
+    let mut v: u64 = 0;
     let mut i = at;
     while i < text.len() {
         let b = text[i];
         if !grammar::is_digit(b) {
             return v;
         }
-        v = with_digit(v, b);
+        v = with_digit(v, b, most);
         i += 1;
     }
     v
+}
+
+// A formula's number from a place on.
+pub fn number_at(text: &[u8], at: usize) -> usize
+    ensures { λ r. ⌜ (r ≡ numberFrom 0 (drop at (old text))) × (r ≤ suc maxNumber) ⌝ }
+{
+    capped_number(text, at, MAX_NUMBER as u64) as usize
 }
 
 // The number of the duration that stands at a place.

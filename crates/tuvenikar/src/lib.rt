@@ -10,8 +10,8 @@ ghost use Rattle.clause_table.specs.Table.{tabled};
 ghost use Rattle.assignments.specs.Calls.{extended, proposed};
 ghost use Rattle.file_numbers.specs.File.{sizesBy};
 ghost use Rattle.clause_file.specs.Calls.{fileWritten, fileRead};
-ghost use Rattle.search.specs.Search.{lentOf, searched, Unchanged};
-ghost use Rattle.answers.specs.Answers.{packVerdict, packLocated, packWritten, packChecked, packAnswer};
+ghost use Rattle.answers.specs.Answers.{packVerdict, packLocated};
+ghost use Rattle.tuvenikar.specs.Left.{TableLeft, AssignmentLeft, RecordingLeft, FileLeft, arrays, searchedWith, SearchLeft};
 
 // Whether the recording satisfies the formula on [i, j]: questions 1 to 7 and 9 to 11.
 #[no_mangle]
@@ -29,7 +29,7 @@ pub extern "C" fn tuv_node_text(text: &[u8], c: u32, k: u32, node: u32) -> u64
     answers::pack_located(nodes::node_place(text, c, k, node))
 }
 
-// The clause table, in two parallel arrays, and its five sizes: questions 1 to 7 and 18.
+// The clause table, the formula's Tseitin encoding, in two parallel arrays, and its five sizes: questions 1 to 7 and 18.
 #[no_mangle]
 pub extern "C" fn tuv_table(
     text: &[u8],
@@ -39,10 +39,7 @@ pub extern "C" fn tuv_table(
     variables: &mut [u32],
     marks: &mut [u8],
 ) -> u64
-    ensures { λ r. ⌜ r ≡ packWritten (tabled c k (old text) (old sizes) (old variables) (old marks) .answer) ⌝ }
-    ensures { λ r. ⌜ new sizes ≡ tabled c k (old text) (old sizes) (old variables) (old marks) .sizes ⌝ }
-    ensures { λ r. ⌜ new variables ≡ tabled c k (old text) (old sizes) (old variables) (old marks) .variables ⌝ }
-    ensures { λ r. ⌜ new marks ≡ tabled c k (old text) (old sizes) (old variables) (old marks) .marks ⌝ }
+    ensures { λ r. ⌜ TableLeft (tabled c k (old text) (old sizes) (old variables) (old marks)) r (new sizes) (new variables) (new marks) ⌝ }
 {
     answers::pack_written(clause_table::table(text, c, k, sizes, variables, marks))
 }
@@ -56,8 +53,7 @@ pub extern "C" fn tuv_extend(
     recording: &[u8],
     assignment: &mut [u8],
 ) -> u64
-    ensures { λ r. ⌜ r ≡ packWritten (extended c k (old text) (old recording) (old assignment) .answer) ⌝ }
-    ensures { λ r. ⌜ new assignment ≡ extended c k (old text) (old recording) (old assignment) .assignment ⌝ }
+    ensures { λ r. ⌜ AssignmentLeft (extended c k (old text) (old recording) (old assignment)) r (new assignment) ⌝ }
 {
     answers::pack_written(extension::extend(text, c, k, recording, assignment))
 }
@@ -71,13 +67,12 @@ pub extern "C" fn tuv_check(
     assignment: &[u8],
     recording: &mut [u8],
 ) -> u64
-    ensures { λ r. ⌜ r ≡ packChecked (proposed c k (old text) (old assignment) (old recording) .answer) ⌝ }
-    ensures { λ r. ⌜ new recording ≡ proposed c k (old text) (old assignment) (old recording) .recording ⌝ }
+    ensures { λ r. ⌜ RecordingLeft (proposed c k (old text) (old assignment) (old recording)) r (new recording) ⌝ }
 {
     answers::pack_checked(proposal::check(text, c, k, assignment, recording))
 }
 
-// The first recording that satisfies the formula, within a limit of tries: questions 1 to 7 and 18.
+// The first recording that satisfies the formula, by backtracking with unit propagation, within a limit of tries: questions 1 to 7 and 18.
 #[no_mangle]
 pub extern "C" fn tuv_search(
     text: &[u8],
@@ -90,10 +85,10 @@ pub extern "C" fn tuv_search(
     trail: &mut [u32],
     recording: &mut [u8],
 ) -> u64
-    ensures { λ r. ⌜ r ≡ packAnswer (searched c k (old text) limit (lentOf (old variables) (old marks) (old values) (old trail) (old recording)) (old recording) .answer) ⌝ }
-    ensures { λ r. ⌜ new recording ≡ searched c k (old text) limit (lentOf (old variables) (old marks) (old values) (old trail) (old recording)) (old recording) .recording ⌝ }
-    ensures { λ r. ⌜ Unchanged (searched c k (old text) limit (lentOf (old variables) (old marks) (old values) (old trail) (old recording)) (old recording) .answer) (old variables) (new variables) × Unchanged (searched c k (old text) limit (lentOf (old variables) (old marks) (old values) (old trail) (old recording)) (old recording) .answer) (old marks) (new marks) ⌝ }
-    ensures { λ r. ⌜ Unchanged (searched c k (old text) limit (lentOf (old variables) (old marks) (old values) (old trail) (old recording)) (old recording) .answer) (old values) (new values) × Unchanged (searched c k (old text) limit (lentOf (old variables) (old marks) (old values) (old trail) (old recording)) (old recording) .answer) (old trail) (new trail) ⌝ }
+    ensures { λ r. ⌜ (
+        let before = arrays (old variables) (old marks) (old values) (old trail) (old recording) in
+        let after = arrays (new variables) (new marks) (new values) (new trail) (new recording) in
+        SearchLeft (searchedWith c k (old text) limit before) r before after) ⌝ }
 {
     answers::pack_answer(search::search(
         text,
@@ -120,8 +115,7 @@ pub extern "C" fn tuv_write_file(
     marks: &[u8],
     file: &mut [u8],
 ) -> u64
-    ensures { λ r. ⌜ r ≡ packWritten (fileWritten (sizesBy (c ∷ k ∷ v ∷ m ∷ l ∷ [])) (old variables) (old marks) (old file) .answer) ⌝ }
-    ensures { λ r. ⌜ new file ≡ fileWritten (sizesBy (c ∷ k ∷ v ∷ m ∷ l ∷ [])) (old variables) (old marks) (old file) .file ⌝ }
+    ensures { λ r. ⌜ FileLeft (fileWritten (sizesBy (c ∷ k ∷ v ∷ m ∷ l ∷ [])) (old variables) (old marks) (old file)) r (new file) ⌝ }
 {
     let s = Sizes {
         channels: c,
@@ -141,10 +135,7 @@ pub extern "C" fn tuv_read_file(
     variables: &mut [u32],
     marks: &mut [u8],
 ) -> u64
-    ensures { λ r. ⌜ r ≡ packWritten (fileRead (old file) (old sizes) (old variables) (old marks) .answer) ⌝ }
-    ensures { λ r. ⌜ new sizes ≡ fileRead (old file) (old sizes) (old variables) (old marks) .sizes ⌝ }
-    ensures { λ r. ⌜ new variables ≡ fileRead (old file) (old sizes) (old variables) (old marks) .variables ⌝ }
-    ensures { λ r. ⌜ new marks ≡ fileRead (old file) (old sizes) (old variables) (old marks) .marks ⌝ }
+    ensures { λ r. ⌜ TableLeft (fileRead (old file) (old sizes) (old variables) (old marks)) r (new sizes) (new variables) (new marks) ⌝ }
 {
     answers::pack_written(clause_file::read(file, sizes, variables, marks))
 }

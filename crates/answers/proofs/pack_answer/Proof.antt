@@ -27,8 +27,8 @@ pack-requires-3 c κs = search needs
 enum-known-a-4 : tie.Need-enum-known-a-4
 enum-known-a-4 c = search needs
 
-pack-requires-4 : tie.Need-pack-requires-4
-pack-requires-4 c κs = search needs
+pack-refusal-requires : tie.Need-pack-refusal-requires
+pack-refusal-requires c κs = search needs
 
 returns : tie.Need-returns
 unfolding packAnswer
@@ -44,7 +44,7 @@ returns-3 c = c .pack3 .ensures ∙ sym (ap packAnswer (c .before .before .a3 .g
 
 returns-4 : tie.Need-returns-4
 unfolding packAnswer
-returns-4 c = c .pack4 .ensures ∙ sym (ap packAnswer (c .before .before .a4 .given .1))
+returns-4 c = c .pack-refusal .ensures ∙ sym (ap packAnswer (c .before .before .a4 .given .1))
 
 pub pack-answer-spec : {M : Type 1} → statement M
 pack-answer-spec =
@@ -57,7 +57,7 @@ pack-answer-spec =
     enum-known-a-3
     pack-requires-3
     enum-known-a-4
-    pack-requires-4
+    pack-refusal-requires
     returns
     returns-2
     returns-3

@@ -27,8 +27,8 @@ pack-requires c κs = search needs
 enum-known-a-2 : tie.Need-enum-known-a-2
 enum-known-a-2 c = search needs
 
-pack-requires-2 : tie.Need-pack-requires-2
-pack-requires-2 c κs = search needs
+pack-refusal-requires : tie.Need-pack-refusal-requires
+pack-refusal-requires c κs = search needs
 
 returns : tie.Need-returns
 unfolding packLocated
@@ -36,7 +36,7 @@ returns c = c .pack .ensures ∙ sym (ap packLocated (c .before .before .a .give
 
 returns-2 : tie.Need-returns-2
 unfolding packLocated
-returns-2 c = c .pack2 .ensures ∙ sym (ap packLocated (c .before .before .a2 .given .1))
+returns-2 c = c .pack-refusal .ensures ∙ sym (ap packLocated (c .before .before .a2 .given .1))
 
 pub pack-located-spec : {M : Type 1} → statement M
 pack-located-spec =
@@ -49,6 +49,6 @@ pack-located-spec =
     add-pack
     pack-requires
     enum-known-a-2
-    pack-requires-2
+    pack-refusal-requires
     returns
     returns-2)

@@ -21,8 +21,8 @@ pack-requires-2 c κs = search needs
 enum-known-a : tie.Need-enum-known-a
 enum-known-a c = search needs
 
-pack-requires-3 : tie.Need-pack-requires-3
-pack-requires-3 c κs = search needs
+pack-refusal-requires : tie.Need-pack-refusal-requires
+pack-refusal-requires c κs = search needs
 
 returns : tie.Need-returns
 unfolding packVerdict
@@ -34,7 +34,7 @@ returns-2 c = c .pack2 .ensures ∙ sym (ap packVerdict (c .before .enum-told2 .
 
 returns-3 : tie.Need-returns-3
 unfolding packVerdict
-returns-3 c = c .pack3 .ensures ∙ sym (ap packVerdict (c .before .before .a .given .1))
+returns-3 c = c .pack-refusal .ensures ∙ sym (ap packVerdict (c .before .before .a .given .1))
 
 pub pack-verdict-spec : {M : Type 1} → statement M
 pack-verdict-spec =
@@ -45,7 +45,7 @@ pack-verdict-spec =
     enum-told-2
     pack-requires-2
     enum-known-a
-    pack-requires-3
+    pack-refusal-requires
     returns
     returns-2
     returns-3)

@@ -15,8 +15,8 @@ pack-requires c κs = search needs
 enum-known-a : tie.Need-enum-known-a
 enum-known-a c = search needs
 
-pack-requires-2 : tie.Need-pack-requires-2
-pack-requires-2 c κs = search needs
+pack-refusal-requires : tie.Need-pack-refusal-requires
+pack-refusal-requires c κs = search needs
 
 returns : tie.Need-returns
 unfolding packWritten
@@ -24,8 +24,8 @@ returns c = c .pack .ensures ∙ sym (ap packWritten (c .before .enum-told .give
 
 returns-2 : tie.Need-returns-2
 unfolding packWritten
-returns-2 c = c .pack2 .ensures ∙ sym (ap packWritten (c .before .before .a .given .1))
+returns-2 c = c .pack-refusal .ensures ∙ sym (ap packWritten (c .before .before .a .given .1))
 
 pub pack-written-spec : {M : Type 1} → statement M
 pack-written-spec =
-    tie.close (tie.spec enum-told pack-requires enum-known-a pack-requires-2 returns returns-2)
+    tie.close (tie.spec enum-told pack-requires enum-known-a pack-refusal-requires returns returns-2)

@@ -1,6 +1,5 @@
 -- `is_outside` compares a letter's channel with C; any other byte is inside.
 -- A letter is 97 or more, so the channel's difference is a true one.
-use Prim.Native.Nat.{ℕ, _-_}
 use lib.Dec.{leb}
 use mathlib.Core.Path.{sym, ap, _∙_}
 use native.Mathlib.Omega.{arith}
@@ -16,15 +15,15 @@ is-letter-requires c κs = search needs
 returns : tie.Need-returns
 returns c = rw (sym (c .before .is-letter .ensures) ∙ not-true _ (c .if1 .taken))
 
+sub-wide : tie.Need-sub-wide
+sub-wide c = omega (arith, ranged 97 104 (c .before .before .args .b) (sym (c .before .is-letter .ensures) ∙ not-false _ (c .if1 .left)))
+
 wide-requires : tie.Need-wide-requires
 wide-requires c κs = search needs
 
-sub-result : tie.Need-sub-result
-sub-result c = omega (arith, ranged 97 104 (c .before .before .before .args .b) (sym (c .before .before .is-letter .ensures) ∙ not-false _ (c .before .if1 .left)))
-
 returns-2 : tie.Need-returns-2
-returns-2 c = rw (sym (c .before .before .is-letter .ensures) ∙ not-false _ (c .before .if1 .left)) (ap (λ (n : ℕ). leb (c .before .before .before .args .c) (n - 97)) (c .wide .ensures))
+returns-2 c = rw (sym (c .before .before .is-letter .ensures) ∙ not-false _ (c .before .if1 .left)) (ap (leb (c .before .before .before .args .c)) (c .wide .ensures))
 
 pub is-outside-spec : {M : Type 1} → statement M
 is-outside-spec =
-    tie.close (tie.spec is-letter-requires returns wide-requires sub-result returns-2)
+    tie.close (tie.spec is-letter-requires returns sub-wide wide-requires returns-2)

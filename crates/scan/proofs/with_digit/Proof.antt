@@ -1,22 +1,22 @@
--- `with_digit` takes one digit more, and one above the limit for all beyond: a byte that is a digit is 48 or more,
+-- `with_digit` takes one digit more, and one above the most for all beyond: a byte that is a digit is 48 or more,
 -- and the two branches are the definition's.
-use mathlib.Core.Path.{ap}
-use Prim.Native.Nat.{ℕ, _+_, _*_, _-_}
+use mathlib.Core.Path.{refl, _∙_}
 use native.Mathlib.Omega.{arith}
-use Rattle.scan.proofs.Loops.{limited-in, limited-out}
-use Rattle.grammar.proofs.Bytes.{ranged}
+use native.Mathlib.Numerals.{add-one}
 use borrow.Author.Needs.{needs}
+use Rattle.grammar.proofs.Bytes.{ranged}
+use Rattle.scan.proofs.Loops.{limited-in, limited-out}
 use Rattle.scan.proofs.with_digit.Statement.{statement}
 use Rattle.scan.proofs.with_digit.Tie as tie
 
 mul-n : tie.Need-mul-n
 mul-n c = search needs
 
-wide-requires : tie.Need-wide-requires
-wide-requires c κs = search needs
-
 sub-n : tie.Need-sub-n
-sub-n c = omega (arith, ranged 48 57 (c .before .args .b) (c .before .pre .1), c .wide .ensures)
+sub-n c = omega (arith, ranged 48 57 (c .args .b) (c .pre .2))
+
+cast-n : tie.Need-cast-n
+cast-n c = search needs
 
 add-n : tie.Need-add-n
 add-n c = search needs
@@ -25,10 +25,10 @@ add-result : tie.Need-add-result
 add-result c = search needs
 
 returns : tie.Need-returns
-returns c = (limited-in _ _ (ap (λ (n : ℕ). c .before .before .args .v * 10 + (n - 48)) (c .before .wide .ensures)) (c .if1 .taken), search needs)
+returns c = (limited-in _ _ _ refl (c .if1 .taken), search needs)
 
 returns-2 : tie.Need-returns-2
-returns-2 c = (limited-out _ _ (ap (λ (n : ℕ). c .before .before .args .v * 10 + (n - 48)) (c .before .wide .ensures)) (c .if1 .left), search needs)
+returns-2 c = (add-one _ ∙ limited-out _ _ _ refl (c .if1 .left), search needs)
 
 pub with-digit-spec : {M : Type 1} → statement M
-with-digit-spec = tie.close (tie.spec mul-n wide-requires sub-n add-n add-result returns returns-2)
+with-digit-spec = tie.close (tie.spec mul-n sub-n cast-n add-n add-result returns returns-2)

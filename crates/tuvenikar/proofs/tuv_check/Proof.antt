@@ -1,9 +1,7 @@
 -- The call's answer is packed as its definition says;
 -- the recording's array is left as the call leaves it.
-use Rattle.answers.specs.Answers.{packChecked}
-use Rattle.assignments.specs.Calls.{Proposed}
-use mathlib.Core.Path.{ap, _∙_}
 use borrow.Author.Needs.{needs}
+use Rattle.tuvenikar.proofs.Left.{recording-left}
 use Rattle.tuvenikar.proofs.tuv_check.Statement.{statement}
 use Rattle.tuvenikar.proofs.tuv_check.Tie as tie
 
@@ -17,7 +15,7 @@ same-length : tie.Need-same-length
 same-length c = search needs
 
 returns : tie.Need-returns
-returns c = let e = c .before .before .before .check .ensures in (c .pack-checked .ensures ∙ ap (λ (a : Proposed). packChecked (a .answer)) e, ap (λ (a : Proposed). a .recording) e)
+returns c = recording-left (c .before .before .before .check .ensures) (c .pack-checked .ensures)
 
 pub tuv-check-spec : {M : Type 1} → statement M
 tuv-check-spec = tie.close (tie.spec check-requires pack-checked-requires same-length returns)

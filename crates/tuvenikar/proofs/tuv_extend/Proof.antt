@@ -1,9 +1,7 @@
 -- The call's answer is packed as its definition says;
 -- the assignment is left as the call leaves it.
-use Rattle.answers.specs.Answers.{packWritten}
-use Rattle.assignments.specs.Calls.{Extended}
-use mathlib.Core.Path.{ap, _∙_}
 use borrow.Author.Needs.{needs}
+use Rattle.tuvenikar.proofs.Left.{assignment-left}
 use Rattle.tuvenikar.proofs.tuv_extend.Statement.{statement}
 use Rattle.tuvenikar.proofs.tuv_extend.Tie as tie
 
@@ -17,7 +15,7 @@ same-length : tie.Need-same-length
 same-length c = search needs
 
 returns : tie.Need-returns
-returns c = let e = c .before .before .before .extend .ensures in (c .pack-written .ensures ∙ ap (λ (a : Extended). packWritten (a .answer)) e, ap (λ (a : Extended). a .assignment) e)
+returns c = assignment-left (c .before .before .before .extend .ensures) (c .pack-written .ensures)
 
 pub tuv-extend-spec : {M : Type 1} → statement M
 tuv-extend-spec = tie.close (tie.spec extend-requires pack-written-requires same-length returns)

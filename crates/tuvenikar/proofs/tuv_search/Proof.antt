@@ -1,9 +1,7 @@
 -- The call's answer is packed as its definition says; the recording's array is left as the call leaves it,
 -- and the work arrays as they were where the definition refuses.
-use Rattle.answers.specs.Answers.{packAnswer}
-use Rattle.search.specs.Search.{Searched}
-use mathlib.Core.Path.{ap, _∙_}
 use borrow.Author.Needs.{needs}
+use Rattle.tuvenikar.proofs.Left.{search-left}
 use Rattle.tuvenikar.proofs.tuv_search.Statement.{statement}
 use Rattle.tuvenikar.proofs.tuv_search.Tie as tie
 
@@ -29,10 +27,7 @@ same-length-5 : tie.Need-same-length-5
 same-length-5 c = search needs
 
 returns : tie.Need-returns
-returns c =
-    let w = c .before .before .before .before .before .before .before .before .before .before .before .search .ensures in
-    let a = ap (λ (x : Searched). x .answer) (w .0) in
-    (c .pack-answer .ensures ∙ ap packAnswer a, (ap (λ (x : Searched). x .recording) (w .0), ((λ r q. w .1 .0 .0 r (a ∙ q), λ r q. w .1 .0 .1 r (a ∙ q)), (λ r q. w .1 .1 .0 r (a ∙ q), λ r q. w .1 .1 .1 r (a ∙ q)))))
+returns c = let w = c .before .before .before .before .before .before .before .before .before .before .before .search .ensures in search-left (w .0) (c .pack-answer .ensures) (w .1 .0) (w .1 .1)
 
 pub tuv-search-spec : {M : Type 1} → statement M
 tuv-search-spec =

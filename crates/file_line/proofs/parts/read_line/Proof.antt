@@ -4,8 +4,8 @@ use mathlib.Core.Path.{sym, ap, _∙_}
 use Rattle.file_line.specs.Parts.{takenBy}
 use Rattle.file_line.proofs.Reading.{line-good, line-bad}
 use borrow.Author.Needs.{needs}
-use Rattle.file_line.proofs.read_line.Statement.{statement}
-use Rattle.file_line.proofs.read_line.Tie as tie
+use Rattle.file_line.proofs.parts.read_line.Statement.{statement}
+use Rattle.file_line.proofs.parts.read_line.Tie as tie
 
 item-at-requires : tie.Need-item-at-requires
 item-at-requires c κs = search needs

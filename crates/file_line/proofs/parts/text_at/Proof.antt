@@ -2,8 +2,8 @@
 -- if there is any.
 use Rattle.file_line.proofs.Reading.{text-good, text-no-feed, text-end}
 use borrow.Author.Needs.{needs}
-use Rattle.file_line.proofs.text_at.Statement.{statement}
-use Rattle.file_line.proofs.text_at.Tie as tie
+use Rattle.file_line.proofs.parts.text_at.Statement.{statement}
+use Rattle.file_line.proofs.parts.text_at.Tie as tie
 
 sub-end : tie.Need-sub-end
 sub-end c = search needs

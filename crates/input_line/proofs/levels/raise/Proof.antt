@@ -7,8 +7,8 @@ use lib.ListN.{length, getD}
 use borrow.Author.Needs.{needs}
 use Rattle.interval.proofs.Fill.{Upto, begun, turn}
 use Rattle.input_line.specs.Levels.{raisedBy}
-use Rattle.input_line.proofs.raise.Statement.{statement}
-use Rattle.input_line.proofs.raise.Tie as tie
+use Rattle.input_line.proofs.levels.raise.Statement.{statement}
+use Rattle.input_line.proofs.levels.raise.Tie as tie
 
 abbrev Inv-loop : tie.InvT-loop
 Inv-loop recording₀ levels bit t₀ t-end recording t =

@@ -4,8 +4,8 @@ use borrow.Author.Needs.{needs}
 use mathlib.Core.Path.{_≡_}
 use Prim.Native.Nat.{_≤_, _-_}
 use lib.ListN.{length}
-use Rattle.input_line.proofs.are_levels.Statement.{statement}
-use Rattle.input_line.proofs.are_levels.Tie as tie
+use Rattle.input_line.proofs.levels.are_levels.Statement.{statement}
+use Rattle.input_line.proofs.levels.are_levels.Tie as tie
 
 abbrev Inv-loop : tie.InvT-loop
 Inv-loop levels t₀ t-end t = (t ≤ t-end) × (t-end ≡ length levels)

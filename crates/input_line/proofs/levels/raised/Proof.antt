@@ -2,8 +2,8 @@
 -- On each way `eqb` is what the test found.
 use borrow.Author.Tests.{eq-eqb, ne-eqb}
 use Rattle.input_line.specs.Levels.{raisedBy}
-use Rattle.input_line.proofs.raised.Statement.{statement}
-use Rattle.input_line.proofs.raised.Tie as tie
+use Rattle.input_line.proofs.levels.raised.Statement.{statement}
+use Rattle.input_line.proofs.levels.raised.Tie as tie
 
 returns : tie.Need-returns
 unfolding raisedBy

@@ -4,8 +4,8 @@ use mathlib.Core.Path.{ap, _∙_}
 use Rattle.reader.specs.Parts.{testAt, isSign, onGood}
 use Rattle.file_line.proofs.Reading.{item-good, item-bad}
 use borrow.Author.Needs.{needs}
-use Rattle.file_line.proofs.item_at.Statement.{statement}
-use Rattle.file_line.proofs.item_at.Tie as tie
+use Rattle.file_line.proofs.parts.item_at.Statement.{statement}
+use Rattle.file_line.proofs.parts.item_at.Tie as tie
 
 numbered-by-requires : tie.Need-numbered-by-requires
 numbered-by-requires c κs = search needs

@@ -4,8 +4,8 @@ use borrow.Author.Needs.{needs}
 use mathlib.Core.Path.{_≡_}
 use Prim.Native.Nat.{_≤_, _-_}
 use lib.ListN.{length}
-use Rattle.arguments.proofs.take_lines.Statement.{statement}
-use Rattle.arguments.proofs.take_lines.Tie as tie
+use Rattle.arguments.proofs.task.take_lines.Statement.{statement}
+use Rattle.arguments.proofs.task.take_lines.Tie as tie
 
 abbrev Inv-loop : tie.InvT-loop
 Inv-loop recording₀ input c given₀ at₀ recording given at = (at ≤ length input) × (length recording ≡ length recording₀)

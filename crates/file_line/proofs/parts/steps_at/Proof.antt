@@ -4,8 +4,8 @@ use mathlib.Core.Path.{sym, ap, _∙_}
 use Rattle.file_line.specs.Line.{stepsNext}
 use Rattle.file_line.specs.Parts.{takenBy}
 use borrow.Author.Needs.{needs}
-use Rattle.file_line.proofs.steps_at.Statement.{statement}
-use Rattle.file_line.proofs.steps_at.Tie as tie
+use Rattle.file_line.proofs.parts.steps_at.Statement.{statement}
+use Rattle.file_line.proofs.parts.steps_at.Tie as tie
 
 item-at-requires : tie.Need-item-at-requires
 item-at-requires c κs = search needs
