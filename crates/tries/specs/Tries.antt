@@ -4,11 +4,12 @@ use mathlib.Core.Bool.{true, false}
 use mathlib.Core.List.{List}
 use Prim.Native.Nat.{ℕ, _-_, _≤_, _<_}
 use lib.ListN.{length, getD}
-use Rattle.clauses.specs.Clauses.{Literal, Clause}
+use Rattle.moments.specs.Moments.{old, new}
+use Rattle.clauses.specs.Clauses.{Literal, Clause, plain}
 use Rattle.closure.specs.Closure.{Literals, add}
 use Rattle.closure.specs.Runs.{clashes, isOpen, dead, found, NoneOpen, Lowest}
 use Rattle.closure.specs.Tree.{closure, trial, tree}
-use Rattle.closing.specs.Values.{heldIn, Trailing, undone, Ranged, Grown}
+use Rattle.closing.specs.Values.{heldIn, Trailing, undone, Ranged, Grown, Slice}
 use Rattle.closing.specs.declared.Closed.{Closed}
 use Rattle.tries.specs.declared.Below.{Below}
 use Rattle.tries.specs.declared.Below.the-variants.{Dead, Found, Spent}
@@ -49,6 +50,14 @@ pub record Since (v : ℕ) (v₀ t₀ : List ℕ) (from : ℕ) (values trail : L
 pub record Tried (T : List Clause) (l : Literal) (v₀ t₀ : List ℕ) (top : ℕ) (values trail : List ℕ) (r : Closed) : Type 0 where
   pub since : Since (l .variable) v₀ t₀ top values trail (r .top)
   pub holding : Holding T (add l (heldIn v₀)) values trail r
+
+abbrev pub TriesLiteral : List Clause → Literal → Slice → Slice → ℕ → Closed → Type 0
+TriesLiteral T l values trail top r = Tried T l (old values) (old trail) top (new values) (new trail) r
+
+-- the variable in a place of the trail tried high, once the trail is undone from there on
+abbrev pub TriesHigh : List Clause → Slice → Slice → ℕ → ℕ → Closed → Type 0
+TriesHigh T values trail from to r =
+    Tried T (plain (getD (old trail) from 0)) (undone (old trail) from (to - from) (old values)) (old trail) from (new values) (new trail) r
 
 -- what comes of the whole tree
 abbrev pub Result : List Clause → ℕ → ℕ → ℕ → List ℕ → Below → Type 0

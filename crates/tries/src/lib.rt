@@ -1,21 +1,20 @@
 // The tree of tries on values and a trail: the lowest open channel variable, a try low, the same high, and all tries one after another.
+// A try is what solvers call a decision, and the tree is DPLL's, with a fixed order and chronological backtracking.
 // `kinds` to `k` are what the queue goes by: nothing here looks into them, but for the number of channel variables.
 use closing::Closed;
 use grammar::MAX_CHANNELS;
 use grammar::MAX_NODES;
 use interval::Interval;
 ghost use mathlib.Core.Path.{_≡_};
-ghost use Prim.Native.Nat.{ℕ, _-_, _*_, _^_, _≤_, _<_};
+ghost use Prim.Native.Nat.{ℕ, _*_, _^_, _≤_, _<_};
 ghost use lib.ListN.{length, getD};
 ghost use Rattle.moments.specs.Moments.{old, new};
-ghost use Rattle.clauses.specs.Clauses.{plain};
 ghost use Rattle.clauses.specs.Entries.{entry, literalOf};
 ghost use Rattle.closure.specs.Closure.{nothing};
-ghost use Rattle.closing.specs.Values.{undone};
 ghost use Rattle.decode.specs.Decode.{Tables};
 ghost use Rattle.sweeps.specs.Sweeps.{tableBy};
-ghost use Rattle.fanout.specs.Fanout.{Ground};
-ghost use Rattle.tries.specs.Tries.{Openness, Ready, Undoable, Tried, Holding, Started};
+ghost use Rattle.fanout.specs.Fanout.{OnGround};
+ghost use Rattle.tries.specs.Tries.{Openness, Ready, Undoable, TriesLiteral, TriesHigh, Holding, Started};
 
 // So many tries high can be left to make: each is of another channel variable.
 const MAX_DEPTH: usize = Interval::MAX_STEPS * MAX_CHANNELS;
@@ -34,7 +33,7 @@ fn lowest_open(values: &[u8], channels: u32) -> u32
 {
     let mut v = 0;
     while v < channels {
-        if values[v as usize] == 0 {
+        if values[v as usize] == closing::OPEN {
             return v + 1;
         }
         v += 1;
@@ -42,7 +41,7 @@ fn lowest_open(values: &[u8], channels: u32) -> u32
     0
 }
 
-// The closure with the literal of the open variable v added, low with mark 0 and high with 1.
+// A decision: the closure with the literal of the open variable v added, low with a negated mark and high with a plain one.
 fn try_literal<'a>(
     values: &mut [u8],
     trail: &mut [u32],
@@ -61,9 +60,9 @@ fn try_literal<'a>(
     v: u32,
     mark: u8,
 ) -> Closed
-    requires { ⌜ Ground c k (now kinds) (now numbers) (now sizes) (now firsts) (now seats) (now parents) count (length (now values)) × Tables k (now intervals) (now starts) ⌝ }
+    requires { ⌜ OnGround c k kinds numbers sizes firsts seats parents count values × Tables k (now intervals) (now starts) ⌝ }
     requires { ⌜ Ready (tableBy c k (now kinds) (now numbers) (now sizes) (now firsts) count) (now values) (now trail) top v ⌝ }
-    ensures { λ r. ⌜ Tried (tableBy c k (old kinds) (old numbers) (old sizes) (old firsts) count) (literalOf (entry v mark)) (old values) (old trail) top (new values) (new trail) r ⌝ }
+    ensures { λ r. ⌜ TriesLiteral (tableBy c k (old kinds) (old numbers) (old sizes) (old firsts) count) (literalOf (entry v mark)) values trail top r ⌝ }
 {
     let added = closing::add(values, trail, top, v, mark);
     queue::close(
@@ -85,7 +84,7 @@ fn try_literal<'a>(
     )
 }
 
-// The try low that began at a place of the trail undone, and its variable tried high.
+// Backtracking: the try low that began at a place of the trail undone, and its variable tried high.
 fn try_high<'a>(
     values: &mut [u8],
     trail: &mut [u32],
@@ -103,9 +102,9 @@ fn try_high<'a>(
     c: u32,
     k: u32,
 ) -> Closed
-    requires { ⌜ Ground c k (now kinds) (now numbers) (now sizes) (now firsts) (now seats) (now parents) count (length (now values)) × Tables k (now intervals) (now starts) ⌝ }
+    requires { ⌜ OnGround c k kinds numbers sizes firsts seats parents count values × Tables k (now intervals) (now starts) ⌝ }
     requires { ⌜ Undoable (tableBy c k (now kinds) (now numbers) (now sizes) (now firsts) count) (now values) (now trail) from to ⌝ }
-    ensures { λ r. ⌜ Tried (tableBy c k (old kinds) (old numbers) (old sizes) (old firsts) count) (plain (getD (old trail) from 0)) (undone (old trail) from (to - from) (old values)) (old trail) from (new values) (new trail) r ⌝ }
+    ensures { λ r. ⌜ TriesHigh (tableBy c k (old kinds) (old numbers) (old sizes) (old firsts) count) values trail from to r ⌝ }
 {
     closing::undo(values, trail, from, to);
     let v = trail[from];
@@ -125,7 +124,7 @@ fn try_high<'a>(
         c,
         k,
         v,
-        1,
+        closing::PLAIN,
     )
 }
 
@@ -149,7 +148,7 @@ fn descend<'a>(
     k: u32,
     limit: u32,
 ) -> Below
-    requires { ⌜ Ground c k (now kinds) (now numbers) (now sizes) (now firsts) (now seats) (now parents) count (length (now values)) × Tables k (now intervals) (now starts) ⌝ }
+    requires { ⌜ OnGround c k kinds numbers sizes firsts seats parents count values × Tables k (now intervals) (now starts) ⌝ }
     requires { ⌜ Holding (tableBy c k (now kinds) (now numbers) (now sizes) (now firsts) count) nothing (now values) (now trail) closed ⌝ }
     ensures { λ r. ⌜ Started (tableBy c k (old kinds) (old numbers) (old sizes) (old firsts) count) (length (old values)) (k * c) limit (new values) r ⌝ }
 {
@@ -212,7 +211,7 @@ fn descend<'a>(
             c,
             k,
             v,
-            0,
+            closing::NEGATED,
         );
         n += 1;
     }
@@ -223,7 +222,7 @@ fn clear(values: &mut [u8])
     ensures { λ _. ⌜ ((x : ℕ) → getD (new values) x 0 ≡ 0) ⌝ }
 {
     for x in 0..values.len() {
-        values[x] = 0;
+        values[x] = closing::OPEN;
     }
 }
 
@@ -244,7 +243,7 @@ pub fn start<'a>(
     k: u32,
     limit: u32,
 ) -> Below
-    requires { ⌜ Ground c k (now kinds) (now numbers) (now sizes) (now firsts) (now seats) (now parents) count (length (now values)) × Tables k (now intervals) (now starts) ⌝ }
+    requires { ⌜ OnGround c k kinds numbers sizes firsts seats parents count values × Tables k (now intervals) (now starts) ⌝ }
     requires { ⌜ (length (now values) ≤ length (now trail)) × (length (now values) < 2 ^ 32) ⌝ }
     ensures { λ r. ⌜ Started (tableBy c k (old kinds) (old numbers) (old sizes) (old firsts) count) (length (old values)) (k * c) limit (new values) r ⌝ }
 {
