@@ -20,8 +20,7 @@ ghost use Rattle.rows.specs.Table.{rowOf, tableOf};
 ghost use Rattle.closure.specs.Tree.{tree};
 ghost use Rattle.clause_table.specs.Rows.{Measured};
 ghost use Rattle.decode.specs.Decode.{Tables};
-ghost use Rattle.sweeps.specs.Sweeps.{tableBy};
-ghost use Rattle.fanout.specs.Fanout.{OnGround};
+ghost use Rattle.tries.specs.Tries.{GroundOf, clausesFor};
 ghost use Rattle.proposal.specs.Rows.{TableFor};
 ghost use Rattle.search.specs.Search.{treeOf, limited, lentOf, askLent, searched, Unchanged};
 ghost use Rattle.search.specs.Rows.{lentBy, searchedBy};
@@ -55,40 +54,34 @@ fn ask_lent(literals: u32, variables: u32, k: u32, lent: Lent) -> Reply
 }
 
 // The tree of tries of a node table, with values and trail for its variables and a byte for each instant.
-fn draw<'a>(
+fn draw(
     values: &mut [u8],
     trail: &mut [u32],
     recording: &mut [u8],
-    kinds: &'a [u8; MAX_NODES],
-    numbers: &'a [u8; MAX_NODES],
-    sizes: &'a [u8; MAX_NODES],
+    table: NodeTable,
     firsts: &[u32; MAX_NODES],
     seats: &[u32; MAX_NODES],
     parents: &[u8; MAX_NODES],
     intervals: &[u16],
     starts: &[u32],
-    count: usize,
     c: u32,
     k: u32,
     limit: u32,
 ) -> Answer
-    requires { ⌜ OnGround c k kinds numbers sizes firsts seats parents count values × Tables k (now intervals) (now starts) ⌝ }
+    requires { ⌜ GroundOf c k table firsts seats parents values × Tables k (now intervals) (now starts) ⌝ }
     requires { ⌜ (length (now values) ≤ length (now trail)) × (length (now values) < 2 ^ 32) × (length (now recording) ≡ k) ⌝ }
     ensures { λ r. ⌜ record { answer = r; recording = new recording }
-        ≡ limited c k limit (old recording) (tree (tableBy c k (old kinds) (old numbers) (old sizes) (old firsts) count) (length (old values)) (k * c)) ⌝ }
+        ≡ limited c k limit (old recording) (tree (clausesFor c k table (old firsts)) (length (old values)) (k * c)) ⌝ }
 {
     let below = tries::start(
         values,
         trail,
-        kinds,
-        numbers,
-        sizes,
+        table,
         firsts,
         seats,
         parents,
         intervals,
         starts,
-        count,
         c,
         k,
         limit,
@@ -135,15 +128,12 @@ fn search_lent(
         &mut values[..v],
         &mut trail[..v],
         &mut recording[..steps],
-        &table.kinds,
-        &table.numbers,
-        &table.sizes,
+        table,
         firsts,
         &seats,
         &parents,
         &intervals,
         &starts,
-        table.count,
         c,
         k,
         limit,

@@ -1,13 +1,26 @@
--- What the code's search says of the tree of a list of clauses. Nothing here need be believed: no call open to others cites it.
+-- A node table as the queue goes by it, and what the code's search says of the tree of its clauses. Nothing here need be believed: no call open to others cites it.
 use mathlib.Core.Path.{_≡_}
 use mathlib.Core.List.{List}
 use Prim.Native.Nat.{ℕ, _≤_, _<_}
+use denote.Ref.{RefT}
+use lib.ListN.{length}
+use Rattle.rows.specs.declared.NodeTable.{NodeTable}
 use Rattle.clauses.specs.Clauses.{Clause}
 use Rattle.closure.specs.Runs.{dead, found}
 use Rattle.closure.specs.Tree.{trial, tree}
 use Rattle.closing.specs.Values.{heldIn}
+use Rattle.sweeps.specs.Sweeps.{tableBy}
+use Rattle.fanout.specs.Fanout.{Ground}
 use Rattle.tries.specs.declared.Below.{Below}
 use Rattle.tries.specs.declared.Below.the-variants.{Dead, Found, Spent}
+
+-- a node table, and the columns beside it that a call is lent
+abbrev pub GroundOf : ℕ → ℕ → NodeTable → (firsts seats parents values : RefT (List ℕ)) → Type 0
+GroundOf C k table firsts seats parents values =
+    Ground C k (table .kinds) (table .numbers) (table .sizes) (firsts .now) (seats .now) (parents .now) (table .count) (length (values .now))
+
+abbrev pub clausesFor : ℕ → ℕ → NodeTable → List ℕ → List Clause
+clausesFor C k table firsts = tableBy C k (table .kinds) (table .numbers) (table .sizes) firsts (table .count)
 
 -- what comes of the whole tree
 abbrev pub Result : List Clause → ℕ → ℕ → ℕ → List ℕ → Below → Type 0

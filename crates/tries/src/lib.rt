@@ -1,18 +1,17 @@
 // The tree of tries on values and a trail, all tries one after another: it is DPLL's, its decisions in a fixed order, with chronological
-// backtracking. `kinds` to `k` are what the queue goes by: nothing here looks into them, but for the number of channel variables.
+// backtracking. `table` to `k` are what the queue goes by: nothing here looks into them, but for the number of channel variables.
 use closing::Closed;
 use grammar::MAX_CHANNELS;
 use grammar::MAX_NODES;
 use interval::Interval;
+use rows::NodeTable;
 ghost use Prim.Native.Nat.{_*_, _^_, _≤_, _<_};
 ghost use lib.ListN.{length};
 ghost use Rattle.moments.specs.Moments.{old, new};
 ghost use Rattle.closure.specs.Closure.{nothing};
 ghost use Rattle.decode.specs.Decode.{Tables};
-ghost use Rattle.sweeps.specs.Sweeps.{tableBy};
-ghost use Rattle.fanout.specs.Fanout.{OnGround};
 ghost use Rattle.attempts.specs.Attempts.{Holding};
-ghost use Rattle.tries.specs.Tries.{Started};
+ghost use Rattle.tries.specs.Tries.{GroundOf, clausesFor, Started};
 
 // So many tries high can be left to make: each is of another channel variable.
 const MAX_DEPTH: usize = Interval::MAX_STEPS * MAX_CHANNELS;
@@ -27,26 +26,23 @@ pub enum Below {
 // The tree from the closure of nothing, within a limit: found where no channel variable is open, else the lowest open one is tried low;
 // after a clash the last one that is still to be tried high is. No try is made that the limit does not allow. `levels` are the tops of
 // the trail before each try low that is still to be tried high, `depth` of them.
-fn descend<'a>(
+fn descend(
     values: &mut [u8],
     trail: &mut [u32],
     closed: Closed,
-    kinds: &'a [u8; MAX_NODES],
-    numbers: &'a [u8; MAX_NODES],
-    sizes: &'a [u8; MAX_NODES],
+    table: NodeTable,
     firsts: &[u32; MAX_NODES],
     seats: &[u32; MAX_NODES],
     parents: &[u8; MAX_NODES],
     intervals: &[u16],
     starts: &[u32],
-    count: usize,
     c: u32,
     k: u32,
     limit: u32,
 ) -> Below
-    requires { ⌜ OnGround c k kinds numbers sizes firsts seats parents count values × Tables k (now intervals) (now starts) ⌝ }
-    requires { ⌜ Holding (tableBy c k (now kinds) (now numbers) (now sizes) (now firsts) count) nothing (now values) (now trail) closed ⌝ }
-    ensures { λ r. ⌜ Started (tableBy c k (old kinds) (old numbers) (old sizes) (old firsts) count) (length (old values)) (k * c) limit (new values) r ⌝ }
+    requires { ⌜ GroundOf c k table firsts seats parents values × Tables k (now intervals) (now starts) ⌝ }
+    requires { ⌜ Holding (clausesFor c k table (now firsts)) nothing (now values) (now trail) closed ⌝ }
+    ensures { λ r. ⌜ Started (clausesFor c k table (old firsts)) (length (old values)) (k * c) limit (new values) r ⌝ }
 {
     let channels = k * c;
     let mut levels = [0; MAX_DEPTH];
@@ -67,15 +63,15 @@ fn descend<'a>(
                 trail,
                 levels[depth],
                 last.top,
-                kinds,
-                numbers,
-                sizes,
+                &table.kinds,
+                &table.numbers,
+                &table.sizes,
                 firsts,
                 seats,
                 parents,
                 intervals,
                 starts,
-                count,
+                table.count,
                 c,
                 k,
             );
@@ -95,15 +91,15 @@ fn descend<'a>(
             values,
             trail,
             last.top,
-            kinds,
-            numbers,
-            sizes,
+            &table.kinds,
+            &table.numbers,
+            &table.sizes,
             firsts,
             seats,
             parents,
             intervals,
             starts,
-            count,
+            table.count,
             c,
             k,
             v,
@@ -114,39 +110,36 @@ fn descend<'a>(
 }
 
 // The whole tree, whatever values and trail held before.
-pub fn start<'a>(
+pub fn start(
     values: &mut [u8],
     trail: &mut [u32],
-    kinds: &'a [u8; MAX_NODES],
-    numbers: &'a [u8; MAX_NODES],
-    sizes: &'a [u8; MAX_NODES],
+    table: NodeTable,
     firsts: &[u32; MAX_NODES],
     seats: &[u32; MAX_NODES],
     parents: &[u8; MAX_NODES],
     intervals: &[u16],
     starts: &[u32],
-    count: usize,
     c: u32,
     k: u32,
     limit: u32,
 ) -> Below
-    requires { ⌜ OnGround c k kinds numbers sizes firsts seats parents count values × Tables k (now intervals) (now starts) ⌝ }
+    requires { ⌜ GroundOf c k table firsts seats parents values × Tables k (now intervals) (now starts) ⌝ }
     requires { ⌜ (length (now values) ≤ length (now trail)) × (length (now values) < 2 ^ 32) ⌝ }
-    ensures { λ r. ⌜ Started (tableBy c k (old kinds) (old numbers) (old sizes) (old firsts) count) (length (old values)) (k * c) limit (new values) r ⌝ }
+    ensures { λ r. ⌜ Started (clausesFor c k table (old firsts)) (length (old values)) (k * c) limit (new values) r ⌝ }
 {
     attempts::clear(values);
     let closed = queue::start(
         values,
         trail,
-        kinds,
-        numbers,
-        sizes,
+        &table.kinds,
+        &table.numbers,
+        &table.sizes,
         firsts,
         seats,
         parents,
         intervals,
         starts,
-        count,
+        table.count,
         c,
         k,
     );
@@ -154,15 +147,12 @@ pub fn start<'a>(
         values,
         trail,
         closed,
-        kinds,
-        numbers,
-        sizes,
+        table,
         firsts,
         seats,
         parents,
         intervals,
         starts,
-        count,
         c,
         k,
         limit,
