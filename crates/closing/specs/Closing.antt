@@ -4,10 +4,11 @@ use mathlib.Core.Bool.{true, false}
 use mathlib.Core.List.{List}
 use Prim.Native.Nat.{ℕ}
 use lib.ListN.{length}
+use Rattle.moments.specs.Moments.{old, new}
 use Rattle.clauses.specs.Clauses.{Clause}
 use Rattle.closure.specs.Runs.{clashes}
 use Rattle.closure.specs.Tree.{closure}
-use Rattle.closing.specs.Values.{heldIn, Grown}
+use Rattle.closing.specs.Values.{heldIn, Grown, Slice}
 use Rattle.closing.specs.declared.Closed.{Closed}
 
 -- values and trail become the closure, or it clashes
@@ -15,3 +16,6 @@ pub record ClosedTo (T : List Clause) (v₀ t₀ : List ℕ) (top₀ : ℕ) (val
   pub grown : Grown v₀ t₀ top₀ values trail (r .top)
   pub calm : r .clash ≡ false → heldIn values ≡ closure T (heldIn v₀)
   pub clashing : r .clash ≡ true → clashes (length v₀) (closure T (heldIn v₀)) ≡ true
+
+abbrev pub Closes : List Clause → Slice → Slice → ℕ → Closed → Type 0
+Closes T values trail top r = ClosedTo T (old values) (old trail) top (new values) (new trail) r

@@ -5,8 +5,10 @@ use mathlib.Core.Bool.{Bool, true, false, cond}
 use mathlib.Core.Logic.{_⊎_}
 use mathlib.Core.List.{List, [], _∷_, _++_}
 use Prim.Native.Nat.{ℕ, suc, _+_, _-_, _*_, _≤_, _<_}
+use denote.Ref.{RefT}
 use lib.Dec.{eqb}
 use lib.ListN.{length, getD}
+use Rattle.moments.specs.Moments.{old, new}
 use Rattle.interval.specs.Listing.{All}
 use Rattle.interval.specs.Places.{countOf, placeOf, triplePlaceOf}
 use Rattle.interval.specs.Limits.{maxSteps}
@@ -24,7 +26,7 @@ use Rattle.clause_table.specs.Rows.{truthBy, seatBy, blockBy, Low, Seated, rowD
 use Rattle.closure.specs.Closure.{Literals}
 use Rattle.closure.specs.Tree.{closure}
 use Rattle.closure.specs.Runs.{clashes}
-use Rattle.closing.specs.Values.{heldIn, Grown}
+use Rattle.closing.specs.Values.{heldIn, Grown, Slice}
 use Rattle.closing.specs.declared.Closed.{Closed}
 use Rattle.visits.specs.Visits.{Touched, Due, raisedBy, longBy}
 use Rattle.sweeps.specs.Sweeps.{clausesAt}
@@ -45,6 +47,9 @@ pub record Reached (T : List Clause) (u : ℕ) (v₀ t₀ : List ℕ) (top₀ : 
   pub same : closure T (heldIn values) ≡ closure T (heldIn v₀)
   pub due : r .clash ≡ false → All (λ c. Names u c → DueAt (heldIn v₀) (heldIn values) c) T
   pub clashing : r .clash ≡ true → clashes (length v₀) (closure T (heldIn v₀)) ≡ true
+
+abbrev pub Reaches : List Clause → ℕ → Slice → Slice → ℕ → Closed → Type 0
+Reaches T u values trail top r = Reached T u (old values) (old trail) top (new values) (new trail) r
 
 -- the first h places of the trail were taken: before the others there were the values `before`
 pub record Pending (T : List Clause) (values trail : List ℕ) (h top : ℕ) : Type 0 where
@@ -145,6 +150,11 @@ pub record Ground (C k : ℕ) (kinds numbers sizes firsts seats parents : List �
   pub total : all ≡ k * C + weightTo variableWeight k kinds numbers n
   pub root : Variable all (seatBy kinds numbers firsts k 0 + k)
   pub mentioned : (x : ℕ) → x < n → AllMentioned all (rowDefinitions C k kinds numbers sizes firsts x)
+
+-- it stands behind the references that a call is lent
+abbrev pub OnGround : ℕ → ℕ → (kinds numbers sizes firsts seats parents : RefT (List ℕ)) → ℕ → RefT (List ℕ) → Type 0
+OnGround C k kinds numbers sizes firsts seats parents n values =
+    Ground C k (kinds .now) (numbers .now) (sizes .now) (firsts .now) (seats .now) (parents .now) n (length (values .now))
 
 -- ---- letters
 

@@ -6,16 +6,16 @@ use grammar::MAX_NODES;
 ghost use mathlib.Core.Path.{_≡_};
 ghost use Prim.Native.Nat.{ℕ, _*_, _≤_, _<_};
 ghost use lib.ListN.{length};
-ghost use Rattle.moments.specs.Moments.{old, new};
+ghost use Rattle.moments.specs.Moments.{old};
 ghost use Rattle.interval.specs.Limits.{maxSteps};
 ghost use Rattle.interval.specs.Listing.{rows};
 ghost use Rattle.grammar.specs.Limits.{maxNodes, maxChannels};
 ghost use Rattle.node_clauses.specs.Nodes.{Fine};
 ghost use Rattle.clause_table.specs.Rows.{Low, Seated, blockBy};
 ghost use Rattle.closing.specs.Values.{Trailing};
-ghost use Rattle.visits.specs.Visits.{Visited};
+ghost use Rattle.visits.specs.Visits.{Visits};
 ghost use Rattle.sweeps.specs.Sweeps.{tableBy};
-ghost use Rattle.fanout.specs.Fanout.{speaks, letterAt, Ground, Reached};
+ghost use Rattle.fanout.specs.Fanout.{speaks, letterAt, OnGround, Reaches};
 
 // Whether a rule is the letter of channel e.
 fn speaks_of(rule: Rule, e: u32) -> bool
@@ -78,9 +78,9 @@ fn reach_letter<'a>(
     t: u32,
     e: u32,
 ) -> Closed
-    requires { ⌜ Ground c k (now kinds) (now numbers) (now sizes) (now firsts) (now seats) (now parents) count (length (now values)) × Trailing (now values) (now trail) top ⌝ }
+    requires { ⌜ OnGround c k kinds numbers sizes firsts seats parents count values × Trailing (now values) (now trail) top ⌝ }
     requires { ⌜ (x < count) × (t < k) ⌝ }
-    ensures { λ r. ⌜ Visited (letterAt c k (old kinds) (old numbers) (old sizes) (old firsts) t e x) (old values) (old trail) top (new values) (new trail) r ⌝ }
+    ensures { λ r. ⌜ Visits (letterAt c k (old kinds) (old numbers) (old sizes) (old firsts) t e x) values trail top r ⌝ }
 {
     let rule = blocks::rule_of(kinds[x], numbers[x]);
     if speaks_of(rule, e) {
@@ -107,9 +107,9 @@ fn reach_letters<'a>(
     t: u32,
     e: u32,
 ) -> Closed
-    requires { ⌜ Ground c k (now kinds) (now numbers) (now sizes) (now firsts) (now seats) (now parents) count (length (now values)) × Trailing (now values) (now trail) top ⌝ }
+    requires { ⌜ OnGround c k kinds numbers sizes firsts seats parents count values × Trailing (now values) (now trail) top ⌝ }
     requires { ⌜ (t < k) ⌝ }
-    ensures { λ r. ⌜ Visited (rows count (letterAt c k (old kinds) (old numbers) (old sizes) (old firsts) t e)) (old values) (old trail) top (new values) (new trail) r ⌝ }
+    ensures { λ r. ⌜ Visits (rows count (letterAt c k (old kinds) (old numbers) (old sizes) (old firsts) t e)) values trail top r ⌝ }
 {
     let mut last = top;
     for x in 0..count {
@@ -154,9 +154,9 @@ pub fn reach_channel<'a>(
     k: u32,
     u: u32,
 ) -> Closed
-    requires { ⌜ Ground c k (now kinds) (now numbers) (now sizes) (now firsts) (now seats) (now parents) count (length (now values)) × Trailing (now values) (now trail) top ⌝ }
+    requires { ⌜ OnGround c k kinds numbers sizes firsts seats parents count values × Trailing (now values) (now trail) top ⌝ }
     requires { ⌜ (1 ≤ u) × (u ≤ k * c) ⌝ }
-    ensures { λ r. ⌜ Reached (tableBy c k (old kinds) (old numbers) (old sizes) (old firsts) count) u (old values) (old trail) top (new values) (new trail) r ⌝ }
+    ensures { λ r. ⌜ Reaches (tableBy c k (old kinds) (old numbers) (old sizes) (old firsts) count) u values trail top r ⌝ }
 {
     let x = u - 1;
     reach_letters(

@@ -5,10 +5,9 @@ use blocks::Rule;
 use closing::Closed;
 ghost use mathlib.Core.Path.{_≡_};
 ghost use Prim.Native.Nat.{_≤_, _<_};
-ghost use Rattle.moments.specs.Moments.{old, new};
 ghost use Rattle.interval.specs.Places.{countOf};
 ghost use Rattle.blocks.specs.Blocks.{definedBy, Placed};
-ghost use Rattle.visits.specs.Visits.{Visited};
+ghost use Rattle.visits.specs.Visits.{Visits};
 ghost use Rattle.sweeps.specs.Sweeps.{clausesAt};
 ghost use Rattle.fanout.specs.Fanout.{Levels, Rising};
 ghost use Rattle.fanout.specs.Walks.{Standing, afterClauses, riseClauses, instantClauses};
@@ -47,7 +46,7 @@ fn visit_level(
 ) -> Closed
     requires { ⌜ Standing c k block (now values) (now trail) top × (all ≡ countOf k) × Leveled (block .rule) ⌝ }
     requires { ⌜ Placed (block .points) k (block .rule) x a i d ⌝ }
-    ensures { λ r. ⌜ Visited (clausesAt (definedBy c k block) x) (old values) (old trail) top (new values) (new trail) r ⌝ }
+    ensures { λ r. ⌜ Visits (clausesAt (definedBy c k block) x) values trail top r ⌝ }
 {
     let rule = block.rule;
     let first = block.first;
@@ -55,15 +54,15 @@ fn visit_level(
     let v = first + x;
     if is_throughout(rule) {
         if d == 0 {
-            return patterns::settle_by(values, trail, top, 6, v, v, v, v);
+            return patterns::settle_by(values, trail, top, patterns::HIGH, v, v, v, v);
         }
         return patterns::settle_both(values, trail, top, v, first + (x - 1), left + (i + (d - 1)));
     }
     if a == 0 {
-        return patterns::settle_by(values, trail, top, 6, v, v, v, v);
+        return patterns::settle_by(values, trail, top, patterns::HIGH, v, v, v, v);
     }
     if d == 0 {
-        return patterns::settle_by(values, trail, top, 5, v, v, v, v);
+        return patterns::settle_by(values, trail, top, patterns::LOW, v, v, v, v);
     }
     let p = x - 1;
     let q = p - all;
@@ -94,7 +93,7 @@ pub fn visit_after(
 ) -> Closed
     requires { ⌜ Standing c k block (now values) (now trail) top × (all ≡ countOf k) × Levels (block .rule) levels ⌝ }
     requires { ⌜ Placed (block .points) k (block .rule) x (p .row) (p .line) (p .cell) ⌝ }
-    ensures { λ r. ⌜ Visited (afterClauses c k block levels x p) (old values) (old trail) top (new values) (new trail) r ⌝ }
+    ensures { λ r. ⌜ Visits (afterClauses c k block levels x p) values trail top r ⌝ }
 {
     let a = p.row;
     let i = p.line;
@@ -161,7 +160,7 @@ pub fn visit_rise(
     i: u32,
 ) -> Closed
     requires { ⌜ Standing c k block (now values) (now trail) top × (all ≡ countOf k) × Rising (block .rule) a n × (i ≤ t) × (t < k) ⌝ }
-    ensures { λ r. ⌜ Visited (riseClauses c k block a n t i) (old values) (old trail) top (new values) (new trail) r ⌝ }
+    ensures { λ r. ⌜ Visits (riseClauses c k block a n t i) values trail top r ⌝ }
 {
     let first = block.first + blocks::place(i, t + 1 - i, k, all);
     if a == 0 {
@@ -198,7 +197,7 @@ pub fn visit_instant(
     t: u32,
 ) -> Closed
     requires { ⌜ Standing c k block (now values) (now trail) top × (all ≡ countOf k) × Rising (block .rule) a n × (t < k) ⌝ }
-    ensures { λ r. ⌜ Visited (instantClauses c k block a n t) (old values) (old trail) top (new values) (new trail) r ⌝ }
+    ensures { λ r. ⌜ Visits (instantClauses c k block a n t) values trail top r ⌝ }
 {
     let mut end = top;
     for i in 0..t + 1 {

@@ -9,15 +9,14 @@ ghost use mathlib.Core.Path.{_≡_};
 ghost use mathlib.Core.Bool.{false};
 ghost use Prim.Native.Nat.{_+_, _*_, _≤_, _<_};
 ghost use lib.ListN.{length};
-ghost use Rattle.moments.specs.Moments.{old, new};
 ghost use Rattle.interval.specs.Places.{countOf, tripleCountOf};
 ghost use Rattle.blocks.specs.Blocks.{isChop, formOf, definedBy};
 ghost use Rattle.blocks.specs.declared.Form.the-variants.{Line, Intervals};
 ghost use Rattle.blocks.specs.declared.Rule.the-variants.{Chop};
-ghost use Rattle.visits.specs.Visits.{Visited};
+ghost use Rattle.visits.specs.Visits.{Visits};
 ghost use Rattle.sweeps.specs.Sweeps.{clausesAt};
 ghost use Rattle.decode.specs.Decode.{IntervalsTo, Tables};
-ghost use Rattle.fanout.specs.Fanout.{Reached, nodeClauses, InBlock};
+ghost use Rattle.fanout.specs.Fanout.{Reaches, nodeClauses, InBlock};
 ghost use Rattle.own.specs.Own.{Node, riseOf};
 
 // The levels that go by the instants of their part.
@@ -63,7 +62,7 @@ pub fn visit_line(
     x: u32,
 ) -> Closed
     requires { ⌜ Node c k block (now values) (now trail) top × (formOf (block .rule) ≡ Line) × (x < block .points) ⌝ }
-    ensures { λ r. ⌜ Visited (clausesAt (definedBy c k block) x) (old values) (old trail) top (new values) (new trail) r ⌝ }
+    ensures { λ r. ⌜ Visits (clausesAt (definedBy c k block) x) values trail top r ⌝ }
 {
     walks::visit_line(values, trail, top, c, k, block, x)
 }
@@ -81,8 +80,9 @@ fn reach_level(
     x: u32,
 ) -> Closed
     requires { ⌜ Node c k block (now values) (now trail) top × (all ≡ countOf k) × InBlock k block (block .first + x) ⌝ }
-    requires { ⌜ (formOf (block .rule) ≡ Intervals) × (isChop (block .rule) ≡ false) × (countOf k ≤ length (now intervals)) × IntervalsTo k (now intervals) (countOf k) ⌝ }
-    ensures { λ r. ⌜ Reached (nodeClauses c k block) (block .first + x) (old values) (old trail) top (new values) (new trail) r ⌝ }
+    requires { ⌜ (formOf (block .rule) ≡ Intervals) × (isChop (block .rule) ≡ false)
+        × (countOf k ≤ length (now intervals)) × IntervalsTo k (now intervals) (countOf k) ⌝ }
+    ensures { λ r. ⌜ Reaches (nodeClauses c k block) (block .first + x) values trail top r ⌝ }
 {
     let rule = block.rule;
     let rise = rise_of(rule);
@@ -121,8 +121,9 @@ fn reach_interval(
     block: Block,
     x: u32,
 ) -> Closed
-    requires { ⌜ Node c k block (now values) (now trail) top × (all ≡ countOf k) × (block .rule ≡ Chop) × Tables k (now intervals) (now starts) × (x < countOf k) ⌝ }
-    ensures { λ r. ⌜ Reached (nodeClauses c k block) (block .first + x) (old values) (old trail) top (new values) (new trail) r ⌝ }
+    requires { ⌜ Node c k block (now values) (now trail) top × (all ≡ countOf k)
+        × (block .rule ≡ Chop) × Tables k (now intervals) (now starts) × (x < countOf k) ⌝ }
+    ensures { λ r. ⌜ Reaches (nodeClauses c k block) (block .first + x) values trail top r ⌝ }
 {
     let v = decode::interval_at(intervals, k as usize, x as usize);
     let i = v.i;
@@ -150,8 +151,9 @@ fn reach_triple(
     block: Block,
     x: u32,
 ) -> Closed
-    requires { ⌜ Node c k block (now values) (now trail) top × (all ≡ countOf k) × (block .rule ≡ Chop) × Tables k (now intervals) (now starts) × (x < tripleCountOf k) ⌝ }
-    ensures { λ r. ⌜ Reached (nodeClauses c k block) (block .first + countOf k + x) (old values) (old trail) top (new values) (new trail) r ⌝ }
+    requires { ⌜ Node c k block (now values) (now trail) top × (all ≡ countOf k)
+        × (block .rule ≡ Chop) × Tables k (now intervals) (now starts) × (x < tripleCountOf k) ⌝ }
+    ensures { λ r. ⌜ Reaches (nodeClauses c k block) (block .first + countOf k + x) values trail top r ⌝ }
 {
     let t = decode::triple_at(intervals, starts, k as usize, x);
     let i = t.i as u32;
@@ -180,8 +182,9 @@ fn reach_chop(
     block: Block,
     x: u32,
 ) -> Closed
-    requires { ⌜ Node c k block (now values) (now trail) top × (all ≡ countOf k) × (block .rule ≡ Chop) × Tables k (now intervals) (now starts) × (x < countOf k + tripleCountOf k) ⌝ }
-    ensures { λ r. ⌜ Reached (nodeClauses c k block) (block .first + x) (old values) (old trail) top (new values) (new trail) r ⌝ }
+    requires { ⌜ Node c k block (now values) (now trail) top × (all ≡ countOf k)
+        × (block .rule ≡ Chop) × Tables k (now intervals) (now starts) × (x < countOf k + tripleCountOf k) ⌝ }
+    ensures { λ r. ⌜ Reaches (nodeClauses c k block) (block .first + x) values trail top r ⌝ }
 {
     if x < all {
         return reach_interval(values, trail, top, intervals, starts, c, k, all, block, x);
@@ -214,7 +217,7 @@ pub fn reach(
     u: u32,
 ) -> Closed
     requires { ⌜ Node c k block (now values) (now trail) top × (all ≡ countOf k) × Tables k (now intervals) (now starts) × InBlock k block u ⌝ }
-    ensures { λ r. ⌜ Reached (nodeClauses c k block) u (old values) (old trail) top (new values) (new trail) r ⌝ }
+    ensures { λ r. ⌜ Reaches (nodeClauses c k block) u values trail top r ⌝ }
 {
     let rule = block.rule;
     let x = u - block.first;

@@ -7,13 +7,12 @@ ghost use mathlib.Core.Path.{_≡_};
 ghost use mathlib.Core.Bool.{false};
 ghost use Prim.Native.Nat.{_*_, _≤_, _<_};
 ghost use lib.ListN.{length};
-ghost use Rattle.moments.specs.Moments.{old, new};
 ghost use Rattle.interval.specs.Places.{countOf};
 ghost use Rattle.blocks.specs.Blocks.{isChop, formOf};
 ghost use Rattle.blocks.specs.declared.Form.the-variants.{Line, Intervals};
 ghost use Rattle.blocks.specs.declared.Rule.the-variants.{Chop};
 ghost use Rattle.decode.specs.Decode.{IntervalsTo};
-ghost use Rattle.fanout.specs.Fanout.{Reached, nodeClauses, InBlock};
+ghost use Rattle.fanout.specs.Fanout.{Reaches, nodeClauses, InBlock};
 ghost use Rattle.own.specs.Own.{Node};
 ghost use Rattle.part.specs.Part.{partsOf, Among};
 
@@ -55,7 +54,7 @@ fn reach_line(
     u: u32,
 ) -> Closed
     requires { ⌜ Node c k block (now values) (now trail) top × (formOf (block .rule) ≡ Line) × (InBlock k block u → ⊥) × (k * c < u) ⌝ }
-    ensures { λ r. ⌜ Reached (nodeClauses c k block) u (old values) (old trail) top (new values) (new trail) r ⌝ }
+    ensures { λ r. ⌜ Reaches (nodeClauses c k block) u values trail top r ⌝ }
 {
     let rule = block.rule;
     let left = block.left;
@@ -84,7 +83,7 @@ fn reach_instant(
 ) -> Closed
     requires { ⌜ Node c k block (now values) (now trail) top × (all ≡ countOf k) × (InBlock k block u → ⊥) × (k * c < u) ⌝ }
     requires { ⌜ (formOf (block .rule) ≡ Intervals) × (isChop (block .rule) ≡ false) ⌝ }
-    ensures { λ r. ⌜ Reached (nodeClauses c k block) u (old values) (old trail) top (new values) (new trail) r ⌝ }
+    ensures { λ r. ⌜ Reaches (nodeClauses c k block) u values trail top r ⌝ }
 {
     let left = block.left;
     if !among(left, k, u) {
@@ -120,7 +119,7 @@ fn reach_chop(
 ) -> Closed
     requires { ⌜ Node c k block (now values) (now trail) top × (all ≡ countOf k) × (block .rule ≡ Chop) × (InBlock k block u → ⊥) × (k * c < u) ⌝ }
     requires { ⌜ (countOf k ≤ length (now intervals)) × IntervalsTo k (now intervals) (countOf k) ⌝ }
-    ensures { λ r. ⌜ Reached (nodeClauses c k block) u (old values) (old trail) top (new values) (new trail) r ⌝ }
+    ensures { λ r. ⌜ Reaches (nodeClauses c k block) u values trail top r ⌝ }
 {
     let left = block.left;
     let right = block.right;
@@ -170,7 +169,7 @@ pub fn reach(
 ) -> Closed
     requires { ⌜ Node c k block (now values) (now trail) top × (all ≡ countOf k) × (InBlock k block u → ⊥) × (k * c < u) ⌝ }
     requires { ⌜ (countOf k ≤ length (now intervals)) × IntervalsTo k (now intervals) (countOf k) ⌝ }
-    ensures { λ r. ⌜ Reached (nodeClauses c k block) u (old values) (old trail) top (new values) (new trail) r ⌝ }
+    ensures { λ r. ⌜ Reaches (nodeClauses c k block) u values trail top r ⌝ }
 {
     let rule = block.rule;
     if blocks::is_chop(rule) {

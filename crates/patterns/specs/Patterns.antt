@@ -7,6 +7,7 @@ use mathlib.Core.Option.{Option, none, some}
 use Prim.Native.Nat.{ℕ, _+_, _-_, _*_, _/_, _%_, _^_, _≤_}
 use lib.Dec.{eqb}
 use lib.ListN.{length, getD}
+use Rattle.moments.specs.Moments.{old, new}
 use Rattle.meaning.specs.Meaning.{bit}
 use Rattle.circuit.specs.declared.Gate.the-variants.{Constant, Copy, Inverse, Both, Either, Step}
 use Rattle.clauses.specs.Clauses as clauses
@@ -14,7 +15,7 @@ use Rattle.clauses.specs.Clauses.{literal, plain, negated, Clause, clausesOf}
 use Rattle.closure.specs.Closure.{Literals, membersIn}
 use Rattle.closure.specs.Tree.{firstForced, closure}
 use Rattle.closure.specs.Runs.{clashes}
-use Rattle.closing.specs.Values.{heldIn, Grown}
+use Rattle.closing.specs.Values.{heldIn, Grown, Slice}
 use Rattle.closing.specs.declared.Closed.{Closed}
 use Rattle.gates.specs.Mentioned.{Variable}
 use Rattle.patterns.specs.declared.Next.{Next}
@@ -25,6 +26,10 @@ use Rattle.clauses.specs.Entries.{entry, literalOf}
 abbrev pub valueAt : List ℕ → ℕ → ℕ
 valueAt values v = getD values (v - 1) 0
 
+-- four variables of these values
+abbrev pub Four : List ℕ → ℕ → ℕ → ℕ → ℕ → Type 0
+Four values v x y z = Variable (length values) v × Variable (length values) x × Variable (length values) y × Variable (length values) z
+
 -- values and trail have grown by literals of the closure of these clauses, under which they are then closed, or it clashes
 pub record Settled (T : List Clause) (v₀ t₀ : List ℕ) (top₀ : ℕ) (values trail : List ℕ) (r : Closed) : Type 0 where
   pub grown : Grown v₀ t₀ top₀ values trail (r .top)
@@ -32,11 +37,23 @@ pub record Settled (T : List Clause) (v₀ t₀ : List ℕ) (top₀ : ℕ) (valu
   pub calm : r .clash ≡ false → heldIn values ≡ closure T (heldIn values)
   pub clashing : r .clash ≡ true → clashes (length v₀) (closure T (heldIn v₀)) ≡ true
 
--- the gates, over the variables from 1 on
+abbrev pub Settles : List Clause → Slice → Slice → ℕ → Closed → Type 0
+Settles T values trail top r = Settled T (old values) (old trail) top (new values) (new trail) r
+
+-- the gates, over the variables from 1 on; the code names their numbers
 unfoldable pub patternOf : ℕ → List Clause
 patternOf g =
     getD (clausesOf 1 (Copy 2) ∷ clausesOf 1 (Inverse 2) ∷ clausesOf 1 (Both 2 3) ∷ clausesOf 1 (Either 2 3) ∷ clausesOf 1 (Step 2 3 4)
     ∷ clausesOf 1 (Constant false) ∷ clausesOf 1 (Constant true) ∷ ((plain 1 ∷ negated 2 ∷ []) ∷ []) ∷ []) g []
+
+abbrev pub stepPattern : ℕ
+stepPattern = 4
+
+abbrev pub lowPattern : ℕ
+lowPattern = 5
+
+abbrev pub highPattern : ℕ
+highPattern = 6
 
 -- other variables in their places
 abbrev pub among : ℕ → ℕ → ℕ → ℕ → ℕ → ℕ

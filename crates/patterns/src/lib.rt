@@ -1,4 +1,7 @@
-// A gate's clauses by their pattern: every literal that they force, one after another, or a clash.
+// A gate's clauses (its Tseitin encoding) by their pattern: every literal that they force, one after another, or a clash. It is unit
+// propagation within one gate.
+mod tables;
+
 use closing::Closed;
 ghost use mathlib.Core.Path.{_≡_};
 ghost use mathlib.Core.Bool.{Bool, true};
@@ -7,330 +10,27 @@ ghost use lib.ListN.{length, getD};
 ghost use Rattle.moments.specs.Moments.{old, new};
 ghost use Rattle.meaning.specs.Meaning.{bit};
 ghost use Rattle.closing.specs.Values.{Trailing};
-ghost use Rattle.patterns.specs.Patterns.{valueAt, Settled, patternOf, among, renamed, forcedBy, Forces, Quiets, endedBy};
+ghost use Rattle.patterns.specs.Patterns.{valueAt, Four, Settles, patternOf, among, renamed, stepPattern, forcedBy, Forces, Quiets, endedBy};
 ghost use Rattle.gates.specs.Mentioned.{Variable, InputsIn};
 ghost use Rattle.circuit.specs.declared.Gate.the-variants.{Both, Step};
 ghost use Rattle.clauses.specs.Clauses.{clausesOf};
 
-// What the clauses of a gate force first, by the values of its variables, the first variable's counting 1, the next one's 3, and so on: 0
-// nothing, else 2 * variable + 2, and 1 more where plain. A table for each pattern: a constant is copied where it is read, so it is small.
-const COPY: [u8; 27] = [
-    0,
-    7,
-    6,
-    5,
-    0,
-    5,
-    4,
-    4,
-    0,
-    0,
-    7,
-    6,
-    5,
-    0,
-    5,
-    4,
-    4,
-    0,
-    0,
-    7,
-    6,
-    5,
-    0,
-    5,
-    4,
-    4,
-    0,
-];
+// The gates, by number: a copy, an inverse, both of two, either of two, a step, the constants, and (v −x), of which an `AnyOf` has many.
+pub const COPY: usize = 0;
 
-const INVERSE: [u8; 27] = [
-    0,
-    6,
-    7,
-    4,
-    4,
-    0,
-    5,
-    0,
-    5,
-    0,
-    6,
-    7,
-    4,
-    4,
-    0,
-    5,
-    0,
-    5,
-    0,
-    6,
-    7,
-    4,
-    4,
-    0,
-    5,
-    0,
-    5,
-];
+pub const INVERSE: usize = 1;
 
-const BOTH: [u8; 27] = [
-    0,
-    7,
-    0,
-    0,
-    9,
-    8,
-    4,
-    4,
-    0,
-    0,
-    7,
-    6,
-    5,
-    0,
-    5,
-    4,
-    4,
-    0,
-    4,
-    7,
-    0,
-    4,
-    4,
-    0,
-    4,
-    4,
-    0,
-];
+pub const BOTH: usize = 2;
 
-const EITHER: [u8; 27] = [
-    0,
-    0,
-    6,
-    5,
-    0,
-    5,
-    0,
-    9,
-    8,
-    5,
-    0,
-    6,
-    5,
-    0,
-    5,
-    5,
-    0,
-    5,
-    0,
-    7,
-    6,
-    5,
-    0,
-    5,
-    4,
-    4,
-    0,
-];
+pub const EITHER: usize = 3;
 
-const STEP: [u8; 81] = [
-    0,
-    0,
-    6,
-    5,
-    0,
-    5,
-    0,
-    9,
-    0,
-    0,
-    0,
-    6,
-    5,
-    0,
-    5,
-    0,
-    11,
-    10,
-    0,
-    7,
-    6,
-    5,
-    0,
-    5,
-    4,
-    4,
-    0,
-    0,
-    0,
-    6,
-    5,
-    0,
-    5,
-    0,
-    9,
-    8,
-    5,
-    0,
-    6,
-    5,
-    0,
-    5,
-    5,
-    0,
-    5,
-    0,
-    7,
-    6,
-    5,
-    0,
-    5,
-    4,
-    4,
-    0,
-    0,
-    7,
-    6,
-    5,
-    0,
-    5,
-    4,
-    9,
-    0,
-    0,
-    7,
-    6,
-    5,
-    0,
-    5,
-    4,
-    4,
-    0,
-    0,
-    7,
-    6,
-    5,
-    0,
-    5,
-    4,
-    4,
-    0,
-];
+pub const STEP: usize = 4;
 
-const LOW: [u8; 27] = [
-    4,
-    4,
-    0,
-    4,
-    4,
-    0,
-    4,
-    4,
-    0,
-    4,
-    4,
-    0,
-    4,
-    4,
-    0,
-    4,
-    4,
-    0,
-    4,
-    4,
-    0,
-    4,
-    4,
-    0,
-    4,
-    4,
-    0,
-];
+pub const LOW: usize = 5;
 
-const HIGH: [u8; 27] = [
-    5,
-    0,
-    5,
-    5,
-    0,
-    5,
-    5,
-    0,
-    5,
-    5,
-    0,
-    5,
-    5,
-    0,
-    5,
-    5,
-    0,
-    5,
-    5,
-    0,
-    5,
-    5,
-    0,
-    5,
-    5,
-    0,
-    5,
-];
+pub const HIGH: usize = 6;
 
-const RAISED: [u8; 27] = [
-    0,
-    0,
-    6,
-    5,
-    0,
-    5,
-    0,
-    0,
-    0,
-    0,
-    0,
-    6,
-    5,
-    0,
-    5,
-    0,
-    0,
-    0,
-    0,
-    0,
-    6,
-    5,
-    0,
-    5,
-    0,
-    0,
-    0,
-];
-
-// Where nothing is forced, a bit for each entry of a table; of a step's where that is so whatever its last variable's value is, and for each
-// of that one's values. A visit looks here first, since mostly nothing is.
-const COPY_QUIET: u32 = 71705361;
-
-const INVERSE_QUIET: u32 = 42287777;
-
-const BOTH_QUIET: u32 = 76686093;
-
-const EITHER_QUIET: u32 = 71640147;
-
-const STEP_QUIET: u32 = 71573521;
-
-const STEP_QUIET_0: u32 = 71608147;
-
-const STEP_QUIET_1: u32 = 71640147;
-
-const STEP_QUIET_2: u32 = 71705361;
-
-const LOW_QUIET: u32 = 76695844;
-
-const HIGH_QUIET: u32 = 38347922;
-
-const RAISED_QUIET: u32 = 122660819;
+pub const RAISED: usize = 7;
 
 fn wide(x: u8) -> usize
     ensures { λ r. ⌜ r ≡ x ⌝ }
@@ -344,14 +44,14 @@ fn forced(gate: usize, a: u8, b: u8, c: u8, d: u8) -> u8
 {
     let i = wide(a) + 3 * wide(b) + 9 * wide(c);
     match gate {
-        0 => COPY[i],
-        1 => INVERSE[i],
-        2 => BOTH[i],
-        3 => EITHER[i],
-        4 => STEP[i + 27 * wide(d)],
-        5 => LOW[i],
-        6 => HIGH[i],
-        _ => RAISED[i],
+        COPY => tables::COPY_FORCED[i],
+        INVERSE => tables::INVERSE_FORCED[i],
+        BOTH => tables::BOTH_FORCED[i],
+        EITHER => tables::EITHER_FORCED[i],
+        STEP => tables::STEP_FORCED[i + 27 * wide(d)],
+        LOW => tables::LOW_FORCED[i],
+        HIGH => tables::HIGH_FORCED[i],
+        _ => tables::RAISED_FORCED[i],
     }
 }
 
@@ -385,14 +85,14 @@ fn quiet_bits(gate: usize) -> u32
     ensures { λ r. ⌜ Quiets gate r ⌝ }
 {
     match gate {
-        0 => COPY_QUIET,
-        1 => INVERSE_QUIET,
-        2 => BOTH_QUIET,
-        3 => EITHER_QUIET,
-        4 => STEP_QUIET,
-        5 => LOW_QUIET,
-        6 => HIGH_QUIET,
-        _ => RAISED_QUIET,
+        COPY => tables::COPY_QUIET,
+        INVERSE => tables::INVERSE_QUIET,
+        BOTH => tables::BOTH_QUIET,
+        EITHER => tables::EITHER_QUIET,
+        STEP => tables::STEP_QUIET,
+        LOW => tables::LOW_QUIET,
+        HIGH => tables::HIGH_QUIET,
+        _ => tables::RAISED_QUIET,
     }
 }
 
@@ -407,19 +107,19 @@ fn quiet(gate: usize, a: u8, b: u8, c: u8) -> bool
 // Nothing is forced by v, p, q and s where v is a step.
 fn step_quiet(a: u8, b: u8, c: u8, d: u8) -> bool
     requires { ⌜ (a ≤ 2) × (b ≤ 2) × (c ≤ 2) × (d ≤ 2) ⌝ }
-    ensures { λ r. ⌜ (r ≡ true → forcedBy 4 a b c d ≡ 0) ⌝ }
+    ensures { λ r. ⌜ (r ≡ true → forcedBy stepPattern a b c d ≡ 0) ⌝ }
 {
     let i = wide(a) + 3 * wide(b) + 9 * wide(c);
-    if d == 0 {
-        return (STEP_QUIET_0 >> i) % 2 == 1;
+    if d == closing::OPEN {
+        return (tables::STEP_QUIET_OPEN >> i) % 2 == 1;
     }
-    if d == 1 {
-        return (STEP_QUIET_1 >> i) % 2 == 1;
+    if d == closing::HIGH {
+        return (tables::STEP_QUIET_HIGH >> i) % 2 == 1;
     }
-    (STEP_QUIET_2 >> i) % 2 == 1
+    (tables::STEP_QUIET_LOW >> i) % 2 == 1
 }
 
-// The first literal that is forced, or none.
+// The first literal that is forced, as by a unit clause, or none.
 pub enum Next {
     Nothing,
     Literal(u32, u8),
@@ -428,7 +128,7 @@ pub enum Next {
 // What the clauses of one of the gates, over these variables, force first.
 fn next_forced(values: &[u8], gate: usize, v: u32, x: u32, y: u32, z: u32) -> Next
     requires { ⌜ ((x : ℕ) → getD (now values) x 0 ≤ 2) × (gate < 8) ⌝ }
-    requires { ⌜ Variable (length (now values)) v × Variable (length (now values)) x × Variable (length (now values)) y × Variable (length (now values)) z ⌝ }
+    requires { ⌜ Four (now values) v x y z ⌝ }
     ensures { λ r. ⌜ Forces (renamed (among v x y z) (patternOf gate)) (old values) r ⌝ }
 {
     let a = value(values, v);
@@ -455,8 +155,8 @@ fn settle_on(
     z: u32,
 ) -> usize
     requires { ⌜ Trailing (now values) (now trail) top × (gate < 8) ⌝ }
-    requires { ⌜ Variable (length (now values)) v × Variable (length (now values)) x × Variable (length (now values)) y × Variable (length (now values)) z ⌝ }
-    ensures { λ r. ⌜ Settled (renamed (among v x y z) (patternOf gate)) (old values) (old trail) top (new values) (new trail) (endedBy r) ⌝ }
+    requires { ⌜ Four (now values) v x y z ⌝ }
+    ensures { λ r. ⌜ Settles (renamed (among v x y z) (patternOf gate)) values trail top (endedBy r) ⌝ }
 {
     let mut t = top;
     loop {
@@ -493,8 +193,8 @@ pub fn settle_by(
     z: u32,
 ) -> Closed
     requires { ⌜ Trailing (now values) (now trail) top × (gate < 8) ⌝ }
-    requires { ⌜ Variable (length (now values)) v × Variable (length (now values)) x × Variable (length (now values)) y × Variable (length (now values)) z ⌝ }
-    ensures { λ r. ⌜ Settled (renamed (among v x y z) (patternOf gate)) (old values) (old trail) top (new values) (new trail) r ⌝ }
+    requires { ⌜ Four (now values) v x y z ⌝ }
+    ensures { λ r. ⌜ Settles (renamed (among v x y z) (patternOf gate)) values trail top r ⌝ }
 {
     let a = value(values, v);
     let b = value(values, x);
@@ -518,9 +218,9 @@ pub fn settle_both(
     y: u32,
 ) -> Closed
     requires { ⌜ Trailing (now values) (now trail) top × Variable (length (now values)) v × InputsIn (length (now values)) (Both x y) ⌝ }
-    ensures { λ r. ⌜ Settled (clausesOf v (Both x y)) (old values) (old trail) top (new values) (new trail) r ⌝ }
+    ensures { λ r. ⌜ Settles (clausesOf v (Both x y)) values trail top r ⌝ }
 {
-    settle_by(values, trail, top, 2, v, x, y, v)
+    settle_by(values, trail, top, BOTH, v, x, y, v)
 }
 
 // v is p, or q and s: mostly nothing is forced.
@@ -534,7 +234,7 @@ pub fn settle_step(
     s: u32,
 ) -> Closed
     requires { ⌜ Trailing (now values) (now trail) top × Variable (length (now values)) v × InputsIn (length (now values)) (Step p q s) ⌝ }
-    ensures { λ r. ⌜ Settled (clausesOf v (Step p q s)) (old values) (old trail) top (new values) (new trail) r ⌝ }
+    ensures { λ r. ⌜ Settles (clausesOf v (Step p q s)) values trail top r ⌝ }
 {
     let a = value(values, v);
     let b = value(values, p);
@@ -546,5 +246,5 @@ pub fn settle_step(
             top: top,
         };
     }
-    ended(settle_on(values, trail, top, 4, v, p, q, s))
+    ended(settle_on(values, trail, top, STEP, v, p, q, s))
 }

@@ -1,4 +1,5 @@
-// Closing by the trail as a queue: each variable of it in turn, and the gates that mention it.
+// Closing by the trail as a queue: each variable of it in turn, and the gates that mention it. It is unit propagation, without a table of
+// clauses.
 use circuit::Gate;
 use closing::Closed;
 use grammar::MAX_NODES;
@@ -6,14 +7,14 @@ use interval::Interval;
 ghost use mathlib.Core.Path.{_≡_};
 ghost use Prim.Native.Nat.{_*_, _≤_, _<_};
 ghost use lib.ListN.{length};
-ghost use Rattle.moments.specs.Moments.{old, new};
+ghost use Rattle.moments.specs.Moments.{old};
 ghost use Rattle.interval.specs.Places.{countOf};
 ghost use Rattle.gates.specs.Mentioned.{Variable};
 ghost use Rattle.closing.specs.Values.{Trailing};
-ghost use Rattle.closing.specs.Closing.{ClosedTo};
+ghost use Rattle.closing.specs.Closing.{Closes};
 ghost use Rattle.sweeps.specs.Sweeps.{tableBy};
 ghost use Rattle.decode.specs.Decode.{Tables};
-ghost use Rattle.fanout.specs.Fanout.{Ground, Pending, Reached};
+ghost use Rattle.fanout.specs.Fanout.{OnGround, Pending, Reaches};
 
 // A node's variable: the gates of its own node, and of the node that it is a part of; the root's is a clause of its own.
 fn reach_row<'a>(
@@ -34,9 +35,9 @@ fn reach_row<'a>(
     all: u32,
     u: u32,
 ) -> Closed
-    requires { ⌜ Ground c k (now kinds) (now numbers) (now sizes) (now firsts) (now seats) (now parents) count (length (now values)) × Trailing (now values) (now trail) top ⌝ }
+    requires { ⌜ OnGround c k kinds numbers sizes firsts seats parents count values × Trailing (now values) (now trail) top ⌝ }
     requires { ⌜ Tables k (now intervals) (now starts) × (all ≡ countOf k) × (k * c < u) × (u ≤ length (now values)) ⌝ }
-    ensures { λ r. ⌜ Reached (tableBy c k (old kinds) (old numbers) (old sizes) (old firsts) count) u (old values) (old trail) top (new values) (new trail) r ⌝ }
+    ensures { λ r. ⌜ Reaches (tableBy c k (old kinds) (old numbers) (old sizes) (old firsts) count) u values trail top r ⌝ }
 {
     let z = decode::last_from(firsts, count, u);
     let block = letters::block_of(kinds, numbers, sizes, firsts, seats, k, z);
@@ -75,9 +76,9 @@ fn reach<'a>(
     all: u32,
     u: u32,
 ) -> Closed
-    requires { ⌜ Ground c k (now kinds) (now numbers) (now sizes) (now firsts) (now seats) (now parents) count (length (now values)) × Trailing (now values) (now trail) top ⌝ }
+    requires { ⌜ OnGround c k kinds numbers sizes firsts seats parents count values × Trailing (now values) (now trail) top ⌝ }
     requires { ⌜ Tables k (now intervals) (now starts) × (all ≡ countOf k) × Variable (length (now values)) u ⌝ }
-    ensures { λ r. ⌜ Reached (tableBy c k (old kinds) (old numbers) (old sizes) (old firsts) count) u (old values) (old trail) top (new values) (new trail) r ⌝ }
+    ensures { λ r. ⌜ Reaches (tableBy c k (old kinds) (old numbers) (old sizes) (old firsts) count) u values trail top r ⌝ }
 {
     if u <= k * c {
         return letters::reach_channel(
@@ -116,8 +117,8 @@ fn reach<'a>(
     )
 }
 
-// The trail from head on, until all of it is taken or a clash is met. A clash is handed on field by field: where the answer is copied whole,
-// the compiler keeps every answer below it whole, and that is slower.
+// Unit propagation: the trail from head on, until all of it is taken or a clash is met. A clash is handed on field by field: where the
+// answer is copied whole, the compiler keeps every answer below it whole, and that is slower.
 pub fn close<'a>(
     values: &mut [u8],
     trail: &mut [u32],
@@ -135,9 +136,9 @@ pub fn close<'a>(
     c: u32,
     k: u32,
 ) -> Closed
-    requires { ⌜ Ground c k (now kinds) (now numbers) (now sizes) (now firsts) (now seats) (now parents) count (length (now values)) × Tables k (now intervals) (now starts) ⌝ }
+    requires { ⌜ OnGround c k kinds numbers sizes firsts seats parents count values × Tables k (now intervals) (now starts) ⌝ }
     requires { ⌜ Pending (tableBy c k (now kinds) (now numbers) (now sizes) (now firsts) count) (now values) (now trail) head top ⌝ }
-    ensures { λ r. ⌜ ClosedTo (tableBy c k (old kinds) (old numbers) (old sizes) (old firsts) count) (old values) (old trail) top (new values) (new trail) r ⌝ }
+    ensures { λ r. ⌜ Closes (tableBy c k (old kinds) (old numbers) (old sizes) (old firsts) count) values trail top r ⌝ }
 {
     let all = Interval::count(k as usize) as u32;
     let mut t = top;
@@ -193,9 +194,9 @@ pub fn start<'a>(
     c: u32,
     k: u32,
 ) -> Closed
-    requires { ⌜ Ground c k (now kinds) (now numbers) (now sizes) (now firsts) (now seats) (now parents) count (length (now values)) × Tables k (now intervals) (now starts) ⌝ }
+    requires { ⌜ OnGround c k kinds numbers sizes firsts seats parents count values × Tables k (now intervals) (now starts) ⌝ }
     requires { ⌜ Trailing (now values) (now trail) 0 ⌝ }
-    ensures { λ r. ⌜ ClosedTo (tableBy c k (old kinds) (old numbers) (old sizes) (old firsts) count) (old values) (old trail) 0 (new values) (new trail) r ⌝ }
+    ensures { λ r. ⌜ Closes (tableBy c k (old kinds) (old numbers) (old sizes) (old firsts) count) values trail 0 r ⌝ }
 {
     let r = sweeps::sweep(values, trail, 0, kinds, numbers, sizes, firsts, count, c, k);
     if r.clash {

@@ -20,8 +20,7 @@ ghost use Rattle.rows.specs.Table.{rowOf, tableOf};
 ghost use Rattle.closure.specs.Tree.{tree};
 ghost use Rattle.clause_table.specs.Rows.{Measured};
 ghost use Rattle.decode.specs.Decode.{Tables};
-ghost use Rattle.sweeps.specs.Sweeps.{tableBy};
-ghost use Rattle.fanout.specs.Fanout.{Ground};
+ghost use Rattle.tries.specs.Tries.{GroundOf, clausesFor};
 ghost use Rattle.proposal.specs.Rows.{TableFor};
 ghost use Rattle.search.specs.Search.{treeOf, limited, lentOf, askLent, searched, Unchanged};
 ghost use Rattle.search.specs.Rows.{lentBy, searchedBy};
@@ -55,39 +54,34 @@ fn ask_lent(literals: u32, variables: u32, k: u32, lent: Lent) -> Reply
 }
 
 // The tree of tries of a node table, with values and trail for its variables and a byte for each instant.
-fn draw<'a>(
+fn draw(
     values: &mut [u8],
     trail: &mut [u32],
     recording: &mut [u8],
-    kinds: &'a [u8; MAX_NODES],
-    numbers: &'a [u8; MAX_NODES],
-    sizes: &'a [u8; MAX_NODES],
+    table: NodeTable,
     firsts: &[u32; MAX_NODES],
     seats: &[u32; MAX_NODES],
     parents: &[u8; MAX_NODES],
     intervals: &[u16],
     starts: &[u32],
-    count: usize,
     c: u32,
     k: u32,
     limit: u32,
 ) -> Answer
-    requires { ⌜ Ground c k (now kinds) (now numbers) (now sizes) (now firsts) (now seats) (now parents) count (length (now values)) × Tables k (now intervals) (now starts) ⌝ }
+    requires { ⌜ GroundOf c k table firsts seats parents values × Tables k (now intervals) (now starts) ⌝ }
     requires { ⌜ (length (now values) ≤ length (now trail)) × (length (now values) < 2 ^ 32) × (length (now recording) ≡ k) ⌝ }
-    ensures { λ r. ⌜ record { answer = r; recording = new recording } ≡ limited c k limit (old recording) (tree (tableBy c k (old kinds) (old numbers) (old sizes) (old firsts) count) (length (old values)) (k * c)) ⌝ }
+    ensures { λ r. ⌜ record { answer = r; recording = new recording }
+        ≡ limited c k limit (old recording) (tree (clausesFor c k table (old firsts)) (length (old values)) (k * c)) ⌝ }
 {
     let below = tries::start(
         values,
         trail,
-        kinds,
-        numbers,
-        sizes,
+        table,
         firsts,
         seats,
         parents,
         intervals,
         starts,
-        count,
         c,
         k,
         limit,
@@ -117,7 +111,8 @@ fn search_lent(
     requires { ⌜ (c ≤ maxChannels) × (k ≤ maxSteps) × (table .count ≤ maxNodes) × TableFor c table ⌝ }
     requires { ⌜ Measured c k (table .kinds) (table .numbers) (table .count) (now firsts) s ⌝ }
     requires { ⌜ (s .variables ≤ length (now values)) × (s .variables ≤ length (now trail)) × (k ≤ length (now recording)) ⌝ }
-    ensures { λ r. ⌜ ((f : Tree Formula) → table ≡ tableOf (map rowOf (nodesOf f 0)) → record { answer = r; recording = new recording } ≡ limited c k limit (old recording) (treeOf c k f)) ⌝ }
+    ensures { λ r. ⌜ ((f : Tree Formula) → table ≡ tableOf (map rowOf (nodesOf f 0))
+        → record { answer = r; recording = new recording } ≡ limited c k limit (old recording) (treeOf c k f)) ⌝ }
 {
     let mut seats = [0; MAX_NODES];
     clause_table::put_seats(&table.kinds, &table.numbers, firsts, k, &mut seats);
@@ -133,15 +128,12 @@ fn search_lent(
         &mut values[..v],
         &mut trail[..v],
         &mut recording[..steps],
-        &table.kinds,
-        &table.numbers,
-        &table.sizes,
+        table,
         firsts,
         &seats,
         &parents,
         &intervals,
         &starts,
-        table.count,
         c,
         k,
         limit,
@@ -161,7 +153,9 @@ fn search_table(
     recording: &mut [u8],
 ) -> Answer
     requires { ⌜ (c ≤ maxChannels) × (k ≤ maxSteps) × (table .count ≤ maxNodes) × TableFor c table ⌝ }
-    ensures { λ r. ⌜ ((f : Tree Formula) → table ≡ tableOf (map rowOf (nodesOf f 0)) → record { answer = r; recording = new recording } ≡ searchedBy c k f limit (lentBy variables marks (old values) (old trail) (old recording)) (old recording)) ⌝ }
+    ensures { λ r. ⌜ ((f : Tree Formula) → table ≡ tableOf (map rowOf (nodesOf f 0))
+        → record { answer = r; recording = new recording }
+        ≡ searchedBy c k f limit (lentBy variables marks (old values) (old trail) (old recording)) (old recording)) ⌝ }
     ensures { λ r. ⌜ Unchanged r (old values) (new values) × Unchanged r (old trail) (new trail) ⌝ }
 {
     let mut firsts = [0; MAX_NODES];
@@ -191,7 +185,8 @@ pub fn search(
     trail: &mut [u32],
     recording: &mut [u8],
 ) -> Answer
-    ensures { λ r. ⌜ record { answer = r; recording = new recording } ≡ searched c k (old text) limit (lentOf (old variables) (old marks) (old values) (old trail) (old recording)) (old recording) ⌝ }
+    ensures { λ r. ⌜ record { answer = r; recording = new recording }
+        ≡ searched c k (old text) limit (lentOf (old variables) (old marks) (old values) (old trail) (old recording)) (old recording) ⌝ }
     ensures { λ r. ⌜ Unchanged r (old variables) (new variables) × Unchanged r (old marks) (new marks) ⌝ }
     ensures { λ r. ⌜ Unchanged r (old values) (new values) × Unchanged r (old trail) (new trail) ⌝ }
 {

@@ -19,10 +19,11 @@ use Rattle.closure.proofs.Open.{shut-by, shut-still}
 use Rattle.closing.specs.Values.{heldIn, undone, Grown}
 use Rattle.closing.specs.declared.Closed.{Closed}
 use Rattle.closing.proofs.Trail.{held-le, undone-none, grown-length, grown-more}
-use Rattle.tries.specs.Tries.{Openness, Holding, Ready, Undoable, Since, Tried, Started}
+use Rattle.attempts.specs.Attempts.{Openness, Holding, Ready, Undoable, Since, Tried}
+use Rattle.tries.specs.Tries.{Started}
 use Rattle.tries.specs.declared.Below.the-variants.{Dead, Found, Spent}
-use Rattle.tries.proofs.Values.{never-clashes}
-use Rattle.tries.proofs.Attempts.{since-more}
+use Rattle.attempts.proofs.Values.{never-clashes}
+use Rattle.attempts.proofs.Attempts.{since-more}
 use Rattle.tries.proofs.Whole.{Whole, whole-begun, whole-spent, whole-high, whole-low, whole-found, whole-dead}
 
 -- a try shuts its variable, and those below it were shut

@@ -1,54 +1,26 @@
--- What the code's search says of values and trail, over a list of clauses. Nothing here need be believed: no call open to others cites it.
+-- A node table as the queue goes by it, and what the code's search says of the tree of its clauses. Nothing here need be believed: no call open to others cites it.
 use mathlib.Core.Path.{_≡_}
-use mathlib.Core.Bool.{true, false}
 use mathlib.Core.List.{List}
-use Prim.Native.Nat.{ℕ, _-_, _≤_, _<_}
-use lib.ListN.{length, getD}
-use Rattle.clauses.specs.Clauses.{Literal, Clause}
-use Rattle.closure.specs.Closure.{Literals, add}
-use Rattle.closure.specs.Runs.{clashes, isOpen, dead, found, NoneOpen, Lowest}
-use Rattle.closure.specs.Tree.{closure, trial, tree}
-use Rattle.closing.specs.Values.{heldIn, Trailing, undone, Ranged, Grown}
-use Rattle.closing.specs.declared.Closed.{Closed}
+use Prim.Native.Nat.{ℕ, _≤_, _<_}
+use denote.Ref.{RefT}
+use lib.ListN.{length}
+use Rattle.rows.specs.declared.NodeTable.{NodeTable}
+use Rattle.clauses.specs.Clauses.{Clause}
+use Rattle.closure.specs.Runs.{dead, found}
+use Rattle.closure.specs.Tree.{trial, tree}
+use Rattle.closing.specs.Values.{heldIn}
+use Rattle.sweeps.specs.Sweeps.{tableBy}
+use Rattle.fanout.specs.Fanout.{Ground}
 use Rattle.tries.specs.declared.Below.{Below}
 use Rattle.tries.specs.declared.Below.the-variants.{Dead, Found, Spent}
 
--- the lowest open channel variable, or 0 where none is open
-pub record Openness (values : List ℕ) (channels v : ℕ) : Type 0 where
-  pub none : v ≡ 0 → NoneOpen (heldIn values) channels
-  pub lowest : (v ≡ 0 → ⊥) → Lowest (heldIn values) channels v
+-- a node table, and the columns beside it that a call is lent
+abbrev pub GroundOf : ℕ → ℕ → NodeTable → (firsts seats parents values : RefT (List ℕ)) → Type 0
+GroundOf C k table firsts seats parents values =
+    Ground C k (table .kinds) (table .numbers) (table .sizes) (firsts .now) (seats .now) (parents .now) (table .count) (length (values .now))
 
--- values and trail hold the closure of a set, or that clashes
-pub record Holding (T : List Clause) (S : Literals) (values trail : List ℕ) (r : Closed) : Type 0 where
-  pub trailing : Trailing values trail (r .top)
-  pub calm : r .clash ≡ false → heldIn values ≡ closure T S
-  pub clashing : r .clash ≡ true → clashes (length values) (closure T S) ≡ true
-
--- a closed set, of which v is an open variable
-pub record Ready (T : List Clause) (values trail : List ℕ) (top v : ℕ) : Type 0 where
-  pub trailing : Trailing values trail top
-  pub closed : heldIn values ≡ closure T (heldIn values)
-  pub from : 1 ≤ v
-  pub to : v ≤ length values
-  pub free : isOpen (heldIn values) v ≡ true
-
--- the trail from a place on can be undone, to such a set, of which the variable at that place is open
-pub record Undoable (T : List Clause) (values trail : List ℕ) (from to : ℕ) : Type 0 where
-  pub on : from < to
-  pub room : to ≤ length trail
-  pub ranged : Ranged values trail from to
-  pub ready : Ready T (undone trail from (to - from) values) trail from (getD trail from 0)
-
--- values and trail have grown since a place of the trail, where v stands
-pub record Since (v : ℕ) (v₀ t₀ : List ℕ) (from : ℕ) (values trail : List ℕ) (top : ℕ) : Type 0 where
-  pub grown : Grown v₀ t₀ from values trail top
-  pub more : from < top
-  pub first : getD trail from 0 ≡ v
-
--- a try: they have grown to the closure with the literal added, or that clashes
-pub record Tried (T : List Clause) (l : Literal) (v₀ t₀ : List ℕ) (top : ℕ) (values trail : List ℕ) (r : Closed) : Type 0 where
-  pub since : Since (l .variable) v₀ t₀ top values trail (r .top)
-  pub holding : Holding T (add l (heldIn v₀)) values trail r
+abbrev pub clausesFor : ℕ → ℕ → NodeTable → List ℕ → List Clause
+clausesFor C k table firsts = tableBy C k (table .kinds) (table .numbers) (table .sizes) firsts (table .count)
 
 -- what comes of the whole tree
 abbrev pub Result : List Clause → ℕ → ℕ → ℕ → List ℕ → Below → Type 0

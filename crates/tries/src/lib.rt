@@ -1,21 +1,17 @@
-// The tree of tries on values and a trail: the lowest open channel variable, a try low, the same high, and all tries one after another.
-// `kinds` to `k` are what the queue goes by: nothing here looks into them, but for the number of channel variables.
+// The tree of tries on values and a trail, all tries one after another: it is DPLL's, its decisions in a fixed order, with chronological
+// backtracking. `table` to `k` are what the queue goes by: nothing here looks into them, but for the number of channel variables.
 use closing::Closed;
 use grammar::MAX_CHANNELS;
 use grammar::MAX_NODES;
 use interval::Interval;
-ghost use mathlib.Core.Path.{_≡_};
-ghost use Prim.Native.Nat.{ℕ, _-_, _*_, _^_, _≤_, _<_};
-ghost use lib.ListN.{length, getD};
+use rows::NodeTable;
+ghost use Prim.Native.Nat.{_*_, _^_, _≤_, _<_};
+ghost use lib.ListN.{length};
 ghost use Rattle.moments.specs.Moments.{old, new};
-ghost use Rattle.clauses.specs.Clauses.{plain};
-ghost use Rattle.clauses.specs.Entries.{entry, literalOf};
 ghost use Rattle.closure.specs.Closure.{nothing};
-ghost use Rattle.closing.specs.Values.{undone};
 ghost use Rattle.decode.specs.Decode.{Tables};
-ghost use Rattle.sweeps.specs.Sweeps.{tableBy};
-ghost use Rattle.fanout.specs.Fanout.{Ground};
-ghost use Rattle.tries.specs.Tries.{Openness, Ready, Undoable, Tried, Holding, Started};
+ghost use Rattle.attempts.specs.Attempts.{Holding};
+ghost use Rattle.tries.specs.Tries.{GroundOf, clausesFor, Started};
 
 // So many tries high can be left to make: each is of another channel variable.
 const MAX_DEPTH: usize = Interval::MAX_STEPS * MAX_CHANNELS;
@@ -27,131 +23,26 @@ pub enum Below {
     Spent,
 }
 
-// The lowest open channel variable, or 0 where none is open.
-fn lowest_open(values: &[u8], channels: u32) -> u32
-    requires { ⌜ (channels ≤ length (now values)) × ((x : ℕ) → getD (now values) x 0 ≤ 2) ⌝ }
-    ensures { λ r. ⌜ Openness (old values) channels r ⌝ }
-{
-    let mut v = 0;
-    while v < channels {
-        if values[v as usize] == 0 {
-            return v + 1;
-        }
-        v += 1;
-    }
-    0
-}
-
-// The closure with the literal of the open variable v added, low with mark 0 and high with 1.
-fn try_literal<'a>(
-    values: &mut [u8],
-    trail: &mut [u32],
-    top: usize,
-    kinds: &'a [u8; MAX_NODES],
-    numbers: &'a [u8; MAX_NODES],
-    sizes: &'a [u8; MAX_NODES],
-    firsts: &[u32; MAX_NODES],
-    seats: &[u32; MAX_NODES],
-    parents: &[u8; MAX_NODES],
-    intervals: &[u16],
-    starts: &[u32],
-    count: usize,
-    c: u32,
-    k: u32,
-    v: u32,
-    mark: u8,
-) -> Closed
-    requires { ⌜ Ground c k (now kinds) (now numbers) (now sizes) (now firsts) (now seats) (now parents) count (length (now values)) × Tables k (now intervals) (now starts) ⌝ }
-    requires { ⌜ Ready (tableBy c k (now kinds) (now numbers) (now sizes) (now firsts) count) (now values) (now trail) top v ⌝ }
-    ensures { λ r. ⌜ Tried (tableBy c k (old kinds) (old numbers) (old sizes) (old firsts) count) (literalOf (entry v mark)) (old values) (old trail) top (new values) (new trail) r ⌝ }
-{
-    let added = closing::add(values, trail, top, v, mark);
-    queue::close(
-        values,
-        trail,
-        top,
-        added,
-        kinds,
-        numbers,
-        sizes,
-        firsts,
-        seats,
-        parents,
-        intervals,
-        starts,
-        count,
-        c,
-        k,
-    )
-}
-
-// The try low that began at a place of the trail undone, and its variable tried high.
-fn try_high<'a>(
-    values: &mut [u8],
-    trail: &mut [u32],
-    from: usize,
-    to: usize,
-    kinds: &'a [u8; MAX_NODES],
-    numbers: &'a [u8; MAX_NODES],
-    sizes: &'a [u8; MAX_NODES],
-    firsts: &[u32; MAX_NODES],
-    seats: &[u32; MAX_NODES],
-    parents: &[u8; MAX_NODES],
-    intervals: &[u16],
-    starts: &[u32],
-    count: usize,
-    c: u32,
-    k: u32,
-) -> Closed
-    requires { ⌜ Ground c k (now kinds) (now numbers) (now sizes) (now firsts) (now seats) (now parents) count (length (now values)) × Tables k (now intervals) (now starts) ⌝ }
-    requires { ⌜ Undoable (tableBy c k (now kinds) (now numbers) (now sizes) (now firsts) count) (now values) (now trail) from to ⌝ }
-    ensures { λ r. ⌜ Tried (tableBy c k (old kinds) (old numbers) (old sizes) (old firsts) count) (plain (getD (old trail) from 0)) (undone (old trail) from (to - from) (old values)) (old trail) from (new values) (new trail) r ⌝ }
-{
-    closing::undo(values, trail, from, to);
-    let v = trail[from];
-    try_literal(
-        values,
-        trail,
-        from,
-        kinds,
-        numbers,
-        sizes,
-        firsts,
-        seats,
-        parents,
-        intervals,
-        starts,
-        count,
-        c,
-        k,
-        v,
-        1,
-    )
-}
-
 // The tree from the closure of nothing, within a limit: found where no channel variable is open, else the lowest open one is tried low;
 // after a clash the last one that is still to be tried high is. No try is made that the limit does not allow. `levels` are the tops of
 // the trail before each try low that is still to be tried high, `depth` of them.
-fn descend<'a>(
+fn descend(
     values: &mut [u8],
     trail: &mut [u32],
     closed: Closed,
-    kinds: &'a [u8; MAX_NODES],
-    numbers: &'a [u8; MAX_NODES],
-    sizes: &'a [u8; MAX_NODES],
+    table: NodeTable,
     firsts: &[u32; MAX_NODES],
     seats: &[u32; MAX_NODES],
     parents: &[u8; MAX_NODES],
     intervals: &[u16],
     starts: &[u32],
-    count: usize,
     c: u32,
     k: u32,
     limit: u32,
 ) -> Below
-    requires { ⌜ Ground c k (now kinds) (now numbers) (now sizes) (now firsts) (now seats) (now parents) count (length (now values)) × Tables k (now intervals) (now starts) ⌝ }
-    requires { ⌜ Holding (tableBy c k (now kinds) (now numbers) (now sizes) (now firsts) count) nothing (now values) (now trail) closed ⌝ }
-    ensures { λ r. ⌜ Started (tableBy c k (old kinds) (old numbers) (old sizes) (old firsts) count) (length (old values)) (k * c) limit (new values) r ⌝ }
+    requires { ⌜ GroundOf c k table firsts seats parents values × Tables k (now intervals) (now starts) ⌝ }
+    requires { ⌜ Holding (clausesFor c k table (now firsts)) nothing (now values) (now trail) closed ⌝ }
+    ensures { λ r. ⌜ Started (clausesFor c k table (old firsts)) (length (old values)) (k * c) limit (new values) r ⌝ }
 {
     let channels = k * c;
     let mut levels = [0; MAX_DEPTH];
@@ -167,27 +58,27 @@ fn descend<'a>(
                 return Below::Spent;
             }
             depth -= 1;
-            last = try_high(
+            last = attempts::try_high(
                 values,
                 trail,
                 levels[depth],
                 last.top,
-                kinds,
-                numbers,
-                sizes,
+                &table.kinds,
+                &table.numbers,
+                &table.sizes,
                 firsts,
                 seats,
                 parents,
                 intervals,
                 starts,
-                count,
+                table.count,
                 c,
                 k,
             );
             n += 1;
             continue;
         }
-        let v = lowest_open(values, channels);
+        let v = attempts::lowest_open(values, channels);
         if v == 0 {
             return Below::Found(n);
         }
@@ -196,71 +87,59 @@ fn descend<'a>(
         }
         levels[depth] = last.top;
         depth += 1;
-        last = try_literal(
+        last = attempts::try_literal(
             values,
             trail,
             last.top,
-            kinds,
-            numbers,
-            sizes,
+            &table.kinds,
+            &table.numbers,
+            &table.sizes,
             firsts,
             seats,
             parents,
             intervals,
             starts,
-            count,
+            table.count,
             c,
             k,
             v,
-            0,
+            closing::NEGATED,
         );
         n += 1;
     }
 }
 
-// No variable has a value.
-fn clear(values: &mut [u8])
-    ensures { λ _. ⌜ ((x : ℕ) → getD (new values) x 0 ≡ 0) ⌝ }
-{
-    for x in 0..values.len() {
-        values[x] = 0;
-    }
-}
-
 // The whole tree, whatever values and trail held before.
-pub fn start<'a>(
+pub fn start(
     values: &mut [u8],
     trail: &mut [u32],
-    kinds: &'a [u8; MAX_NODES],
-    numbers: &'a [u8; MAX_NODES],
-    sizes: &'a [u8; MAX_NODES],
+    table: NodeTable,
     firsts: &[u32; MAX_NODES],
     seats: &[u32; MAX_NODES],
     parents: &[u8; MAX_NODES],
     intervals: &[u16],
     starts: &[u32],
-    count: usize,
     c: u32,
     k: u32,
     limit: u32,
 ) -> Below
-    requires { ⌜ Ground c k (now kinds) (now numbers) (now sizes) (now firsts) (now seats) (now parents) count (length (now values)) × Tables k (now intervals) (now starts) ⌝ }
+    requires { ⌜ GroundOf c k table firsts seats parents values × Tables k (now intervals) (now starts) ⌝ }
     requires { ⌜ (length (now values) ≤ length (now trail)) × (length (now values) < 2 ^ 32) ⌝ }
-    ensures { λ r. ⌜ Started (tableBy c k (old kinds) (old numbers) (old sizes) (old firsts) count) (length (old values)) (k * c) limit (new values) r ⌝ }
+    ensures { λ r. ⌜ Started (clausesFor c k table (old firsts)) (length (old values)) (k * c) limit (new values) r ⌝ }
 {
-    clear(values);
+    attempts::clear(values);
     let closed = queue::start(
         values,
         trail,
-        kinds,
-        numbers,
-        sizes,
+        &table.kinds,
+        &table.numbers,
+        &table.sizes,
         firsts,
         seats,
         parents,
         intervals,
         starts,
-        count,
+        table.count,
         c,
         k,
     );
@@ -268,15 +147,12 @@ pub fn start<'a>(
         values,
         trail,
         closed,
-        kinds,
-        numbers,
-        sizes,
+        table,
         firsts,
         seats,
         parents,
         intervals,
         starts,
-        count,
         c,
         k,
         limit,

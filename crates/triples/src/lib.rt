@@ -4,12 +4,11 @@ use closing::Closed;
 use interval::Triple;
 ghost use mathlib.Core.Path.{_≡_};
 ghost use Prim.Native.Nat.{_+_, _-_, _≤_, _<_};
-ghost use Rattle.moments.specs.Moments.{old, new};
 ghost use Rattle.interval.specs.Limits.{maxSteps};
 ghost use Rattle.interval.specs.Places.{countOf, triplePlaceOf};
 ghost use Rattle.blocks.specs.Blocks.{bound};
 ghost use Rattle.blocks.specs.declared.Rule.the-variants.{Cut};
-ghost use Rattle.visits.specs.Visits.{Visited};
+ghost use Rattle.visits.specs.Visits.{Visits};
 ghost use Rattle.fanout.specs.Walks.{Standing, firstClauses, secondClauses};
 
 // The place of a triple.
@@ -39,7 +38,7 @@ pub fn visit_first(
     m: u32,
 ) -> Closed
     requires { ⌜ Standing c k block (now values) (now trail) top × (all ≡ countOf k) × (block .rule ≡ Cut) × (i ≤ m) × (m ≤ k) ⌝ }
-    ensures { λ r. ⌜ Visited (firstClauses c k block i m) (old values) (old trail) top (new values) (new trail) r ⌝ }
+    ensures { λ r. ⌜ Visits (firstClauses c k block i m) values trail top r ⌝ }
 {
     let x = block.left + blocks::place(i, m - i, k, all);
     let start = blocks::place(m, 0, k, all);
@@ -74,7 +73,7 @@ pub fn visit_second(
     j: u32,
 ) -> Closed
     requires { ⌜ Standing c k block (now values) (now trail) top × (all ≡ countOf k) × (block .rule ≡ Cut) × (m ≤ j) × (j ≤ k) ⌝ }
-    ensures { λ r. ⌜ Visited (secondClauses c k block m j) (old values) (old trail) top (new values) (new trail) r ⌝ }
+    ensures { λ r. ⌜ Visits (secondClauses c k block m j) values trail top r ⌝ }
 {
     let start = blocks::place(m, j - m, k, all);
     let mut x = block.left + m;

@@ -5,13 +5,14 @@ use mathlib.Core.Logic.{_⊎_}
 use mathlib.Core.List.{List, [], _∷_, map}
 use Prim.Native.Nat.{ℕ, _+_, _≤_, _<_}
 use lib.ListN.{length}
+use Rattle.moments.specs.Moments.{old, new}
 use Rattle.interval.specs.Listing.{tab}
 use Rattle.literals.specs.Written.{limit}
 use Rattle.clauses.specs.Clauses.{plain, negated, Clause}
 use Rattle.closure.specs.Closure.{Literals, opposite}
 use Rattle.closure.specs.Tree.{closure}
 use Rattle.closure.specs.Runs.{clashes}
-use Rattle.closing.specs.Values.{heldIn, Grown}
+use Rattle.closing.specs.Values.{heldIn, Grown, Slice}
 use Rattle.closing.specs.declared.Closed.{Closed}
 use Rattle.gates.specs.Mentioned.{Variable}
 
@@ -30,6 +31,9 @@ pub record Visited (T : List Clause) (v₀ t₀ : List ℕ) (top₀ : ℕ) (valu
   pub same : closure T (heldIn values) ≡ closure T (heldIn v₀)
   pub due : r .clash ≡ false → Due (heldIn v₀) (heldIn values) T
   pub clashing : r .clash ≡ true → clashes (length v₀) (closure T (heldIn v₀)) ≡ true
+
+abbrev pub Visits : List Clause → Slice → Slice → ℕ → Closed → Type 0
+Visits T values trail top r = Visited T (old values) (old trail) top (new values) (new trail) r
 
 -- n variables from w on
 abbrev pub Row : ℕ → ℕ → ℕ → Type 0

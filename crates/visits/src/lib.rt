@@ -1,15 +1,16 @@
-// A gate visited: every literal that its clauses force, one after another, or a clash.
+// A gate visited: every literal that its clauses force, one after another, or a clash: unit propagation, a gate at a time.
 use circuit::Gate;
 use closing::Closed;
 ghost use mathlib.Core.Path.{_≡_};
 ghost use mathlib.Core.Bool.{true, false};
 ghost use Prim.Native.Nat.{_+_, _<_};
 ghost use lib.ListN.{length};
-ghost use Rattle.moments.specs.Moments.{old, new};
+ghost use Rattle.moments.specs.Moments.{old};
 ghost use Rattle.clauses.specs.Clauses.{clausesOf, Clause};
 ghost use Rattle.closing.specs.Values.{Trailing, heldIn};
 ghost use Rattle.gates.specs.Within.{Within};
-ghost use Rattle.visits.specs.Visits.{Row, raisedBy, longBy, Visited};
+ghost use Rattle.patterns.specs.Patterns.{lowPattern, highPattern};
+ghost use Rattle.visits.specs.Visits.{Row, raisedBy, longBy, Visits};
 ghost use Rattle.gates.specs.Mentioned.{Variable, InputsIn};
 ghost use mathlib.Core.Logic.{_⊎_};
 ghost use mathlib.Core.List.{[], _∷_, _++_};
@@ -22,11 +23,11 @@ ghost use Rattle.closing.specs.Free.{freeOf, Tally};
 // v is high or w is low, for each of n variables from w on.
 fn visit_each(values: &mut [u8], trail: &mut [u32], top: usize, v: u32, w: u32, n: u32) -> Closed
     requires { ⌜ Trailing (now values) (now trail) top × Variable (length (now values)) v × Row (length (now values)) w n ⌝ }
-    ensures { λ r. ⌜ Visited (rows n (raisedBy v w)) (old values) (old trail) top (new values) (new trail) r ⌝ }
+    ensures { λ r. ⌜ Visits (rows n (raisedBy v w)) values trail top r ⌝ }
 {
     let mut t = top;
     for e in 0..n {
-        let r = patterns::settle_by(values, trail, t, 7, v, w + e, v, v);
+        let r = patterns::settle_by(values, trail, t, patterns::RAISED, v, w + e, v, v);
         if r.clash {
             return r;
         }
@@ -38,7 +39,8 @@ fn visit_each(values: &mut [u8], trail: &mut [u32], top: usize, v: u32, w: u32, 
     }
 }
 
-// A clause with so many literals that are not opposed, the last of them that of a variable and a mark.
+// A clause with so many literals that are not opposed, the last of them that of a variable and a mark: with none it is a clash, with one it
+// is unit, and that one is forced.
 fn visit_tallied(
     values: &mut [u8],
     trail: &mut [u32],
@@ -47,8 +49,10 @@ fn visit_tallied(
     variable: u32,
     mark: u8,
 ) -> Closed
-    requires { ⌜ Trailing (now values) (now trail) top × Variable (length (now values)) variable × ((free ≡ 1) → heldIn (now values) (opposite (literalOf (entry variable mark))) ≡ false) ⌝ }
-    ensures { λ r. ⌜ ((c : Clause) → 0 < length c → Tally (freeOf (heldIn (old values)) c) free (literalOf (entry variable mark)) → Visited (c ∷ []) (old values) (old trail) top (new values) (new trail) r) ⌝ }
+    requires { ⌜ Trailing (now values) (now trail) top × Variable (length (now values)) variable
+        × ((free ≡ 1) → heldIn (now values) (opposite (literalOf (entry variable mark))) ≡ false) ⌝ }
+    ensures { λ r. ⌜ ((c : Clause) → 0 < length c → Tally (freeOf (heldIn (old values)) c) free (literalOf (entry variable mark))
+        → Visits (c ∷ []) values trail top r) ⌝ }
 {
     if free == 0 {
         return Closed {
@@ -79,13 +83,13 @@ fn one_free(opposed: bool) -> usize
 // v is low or one of n variables from w on is high.
 fn visit_long(values: &mut [u8], trail: &mut [u32], top: usize, v: u32, w: u32, n: u32) -> Closed
     requires { ⌜ Trailing (now values) (now trail) top × Variable (length (now values)) v × Row (length (now values)) w n ⌝ }
-    ensures { λ r. ⌜ Visited (longBy v w n ∷ []) (old values) (old trail) top (new values) (new trail) r ⌝ }
+    ensures { λ r. ⌜ Visits (longBy v w n ∷ []) values trail top r ⌝ }
 {
-    let mut free = one_free(closing::opposed(values, v, 0));
+    let mut free = one_free(closing::opposed(values, v, closing::NEGATED));
     let mut last = v;
-    let mut mark = 0;
+    let mut mark = closing::NEGATED;
     for e in 0..n {
-        if !closing::opposed(values, w + e, 1) {
+        if !closing::opposed(values, w + e, closing::PLAIN) {
             if free == 1 {
                 return Closed {
                     clash: false,
@@ -94,7 +98,7 @@ fn visit_long(values: &mut [u8], trail: &mut [u32], top: usize, v: u32, w: u32, 
             }
             free = 1;
             last = w + e;
-            mark = 1;
+            mark = closing::PLAIN;
         }
     }
     visit_tallied(values, trail, top, free, last, mark)
@@ -103,7 +107,7 @@ fn visit_long(values: &mut [u8], trail: &mut [u32], top: usize, v: u32, w: u32, 
 // v is any of n variables from w on.
 fn visit_any(values: &mut [u8], trail: &mut [u32], top: usize, v: u32, w: u32, n: u32) -> Closed
     requires { ⌜ Trailing (now values) (now trail) top × Variable (length (now values)) v × Row (length (now values)) w n ⌝ }
-    ensures { λ r. ⌜ Visited (clausesOf v (AnyOf w n)) (old values) (old trail) top (new values) (new trail) r ⌝ }
+    ensures { λ r. ⌜ Visits (clausesOf v (AnyOf w n)) values trail top r ⌝ }
 {
     let r = visit_each(values, trail, top, v, w, n);
     if r.clash {
@@ -123,9 +127,9 @@ pub fn visit_one(
     n: u32,
 ) -> Closed
     requires { ⌜ Trailing (now values) (now trail) top × Variable (length (now values)) v × Row (length (now values)) w n × (e < n) ⌝ }
-    ensures { λ r. ⌜ Visited (raisedBy v w e ++ longBy v w n ∷ []) (old values) (old trail) top (new values) (new trail) r ⌝ }
+    ensures { λ r. ⌜ Visits (raisedBy v w e ++ longBy v w n ∷ []) values trail top r ⌝ }
 {
-    let r = patterns::settle_by(values, trail, top, 7, v, w + e, v, v);
+    let r = patterns::settle_by(values, trail, top, patterns::RAISED, v, w + e, v, v);
     if r.clash {
         return r;
     }
@@ -134,22 +138,22 @@ pub fn visit_one(
 
 // The pattern of a constant.
 pub fn constant(up: bool) -> usize
-    ensures { λ r. ⌜ ((r ≡ 6) × (up ≡ true)) ⊎ ((r ≡ 5) × (up ≡ false)) ⌝ }
+    ensures { λ r. ⌜ ((r ≡ highPattern) × (up ≡ true)) ⊎ ((r ≡ lowPattern) × (up ≡ false)) ⌝ }
 {
-    if up { 6 } else { 5 }
+    if up { patterns::HIGH } else { patterns::LOW }
 }
 
 // The gate that defines v.
 pub fn visit(values: &mut [u8], trail: &mut [u32], top: usize, v: u32, gate: Gate) -> Closed
     requires { ⌜ Trailing (now values) (now trail) top × Variable (length (now values)) v × InputsIn (length (now values)) gate × Within gate ⌝ }
-    ensures { λ r. ⌜ Visited (clausesOf v gate) (old values) (old trail) top (new values) (new trail) r ⌝ }
+    ensures { λ r. ⌜ Visits (clausesOf v gate) values trail top r ⌝ }
 {
     match gate {
         Gate::Constant(up) => patterns::settle_by(values, trail, top, constant(up), v, v, v, v),
-        Gate::Copy(u) => patterns::settle_by(values, trail, top, 0, v, u, v, v),
-        Gate::Inverse(x) => patterns::settle_by(values, trail, top, 1, v, x, v, v),
+        Gate::Copy(u) => patterns::settle_by(values, trail, top, patterns::COPY, v, u, v, v),
+        Gate::Inverse(x) => patterns::settle_by(values, trail, top, patterns::INVERSE, v, x, v, v),
         Gate::Both(x, y) => patterns::settle_both(values, trail, top, v, x, y),
-        Gate::Either(x, y) => patterns::settle_by(values, trail, top, 3, v, x, y, v),
+        Gate::Either(x, y) => patterns::settle_by(values, trail, top, patterns::EITHER, v, x, y, v),
         Gate::AnyOf(w, n) => visit_any(values, trail, top, v, w, n),
         Gate::Step(p, q, s) => patterns::settle_step(values, trail, top, v, p, q, s),
     }

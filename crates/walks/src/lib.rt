@@ -5,12 +5,11 @@ use blocks::Rule;
 use closing::Closed;
 ghost use mathlib.Core.Path.{_≡_};
 ghost use Prim.Native.Nat.{_^_, _<_};
-ghost use Rattle.moments.specs.Moments.{old, new};
 ghost use Rattle.interval.specs.Places.{countOf};
 ghost use Rattle.blocks.specs.Blocks.{formOf, definedBy, Placed, Before, Bounded};
 ghost use Rattle.blocks.specs.declared.Form.the-variants.{Line};
 ghost use Rattle.blocks.specs.declared.Rule.the-variants.{Chop, Cut};
-ghost use Rattle.visits.specs.Visits.{Visited};
+ghost use Rattle.visits.specs.Visits.{Visits};
 ghost use Rattle.sweeps.specs.Sweeps.{clausesAt};
 ghost use Rattle.fanout.specs.Walks.{Standing};
 ghost use Rattle.walks.specs.Lines.{GoesBy};
@@ -29,7 +28,7 @@ pub fn visit_at(
 ) -> Closed
     requires { ⌜ Standing c k block (now values) (now trail) top × (all ≡ countOf k) ⌝ }
     requires { ⌜ Placed (block .points) k (block .rule) x (p .row) (p .line) (p .cell) × (block .rule ≡ Chop → Before (block .points) k Chop p) ⌝ }
-    ensures { λ r. ⌜ Visited (clausesAt (definedBy c k block) x) (old values) (old trail) top (new values) (new trail) r ⌝ }
+    ensures { λ r. ⌜ Visits (clausesAt (definedBy c k block) x) values trail top r ⌝ }
 {
     let first = block.first;
     let gate = blocks::gate_at(c, k, all, block, x, p);
@@ -52,7 +51,7 @@ pub fn visit_cut(
 ) -> Closed
     requires { ⌜ Standing c k block (now values) (now trail) top × (all ≡ countOf k) × (block .rule ≡ Cut) ⌝ }
     requires { ⌜ Placed (block .points) k (block .rule) x i d e ⌝ }
-    ensures { λ r. ⌜ Visited (clausesAt (definedBy c k block) x) (old values) (old trail) top (new values) (new trail) r ⌝ }
+    ensures { λ r. ⌜ Visits (clausesAt (definedBy c k block) x) values trail top r ⌝ }
 {
     let v = block.first + x;
     let first = block.left + blocks::place(i, e, k, all);
@@ -82,42 +81,42 @@ fn inputs_of(c: u32, k: u32, block: Block, x: u32, v: u32) -> Inputs
             y: v,
         },
         Rule::Letter(channel) => Inputs {
-            gate: 0,
+            gate: patterns::COPY,
             x: 1 + x * c + channel,
             y: v,
         },
         Rule::Negation => Inputs {
-            gate: 1,
+            gate: patterns::INVERSE,
             x: left,
             y: v,
         },
         Rule::And => Inputs {
-            gate: 2,
+            gate: patterns::BOTH,
             x: left,
             y: right,
         },
         Rule::Or => Inputs {
-            gate: 3,
+            gate: patterns::EITHER,
             x: left,
             y: right,
         },
         Rule::Chop => Inputs {
-            gate: 0,
+            gate: patterns::COPY,
             x: v,
             y: v,
         },
         Rule::Duration(_) => Inputs {
-            gate: 0,
+            gate: patterns::COPY,
             x: v,
             y: v,
         },
         Rule::Throughout => Inputs {
-            gate: 0,
+            gate: patterns::COPY,
             x: v,
             y: v,
         },
         Rule::Cut => Inputs {
-            gate: 0,
+            gate: patterns::COPY,
             x: v,
             y: v,
         },
@@ -136,7 +135,7 @@ pub fn visit_line(
 ) -> Closed
     requires { ⌜ Standing c k block (now values) (now trail) top × (formOf (block .rule) ≡ Line) ⌝ }
     requires { ⌜ Placed (block .points) k (block .rule) x 0 0 x ⌝ }
-    ensures { λ r. ⌜ Visited (clausesAt (definedBy c k block) x) (old values) (old trail) top (new values) (new trail) r ⌝ }
+    ensures { λ r. ⌜ Visits (clausesAt (definedBy c k block) x) values trail top r ⌝ }
 {
     let v = block.first + x;
     let i = inputs_of(c, k, block, x, v);

@@ -56,8 +56,8 @@ slice-aggregate-draw-5 c = search needs
 
 draw-requires : tie.Need-draw-requires
 draw-requires c κs =
-    let s = c .before .before .before .before .before .before .before .before .before .before .before .before .before .before .before .before .before .before .before .before .before .before .before .before .before .before .before .before .before .before in let p = s .pre .0 in let h = s .pre .1 .1 in let i = c .before .before .before .before .before .before .before .before .before .before .before .before .before .before .before .before .put-intervals in let t = c .before .before .before .before .before .before .before .before .before .before .before .before .before .put-starts in
-    parts-fit _ _ (p .3 .root) (p .3 .is) (s .pre .1 .0) (s .args .values .now) (s .args .trail .now) (s .args .recording .now) (h .0) (h .1) (h .2) (search needs) (p .3 .letters) (p .0) (p .1) (p .2) (c .before .before .before .before .before .before .before .before .before .before .before .before .before .before .before .before .before .before .before .before .before .before .put-seats .ensures) (c .before .before .before .before .before .before .before .before .before .before .before .before .before .before .before .before .before .before .put-parents .ensures)
+    let s = c .before .before .before .before .before .before .before .before .before .before .before .before .before .before .before .before .before .before .before .before .before .before .before .before .before .before in let p = s .pre .0 in let h = s .pre .1 .1 in let i = c .before .before .before .before .before .before .before .before .before .before .before .before .put-intervals in let t = c .before .before .before .before .before .before .before .before .before .put-starts in
+    parts-fit _ _ (p .3 .root) (p .3 .is) (s .pre .1 .0) (s .args .values .now) (s .args .trail .now) (s .args .recording .now) (h .0) (h .1) (h .2) (search needs) (p .3 .letters) (p .0) (p .1) (p .2) (c .before .before .before .before .before .before .before .before .before .before .before .before .before .before .before .before .before .before .put-seats .ensures) (c .before .before .before .before .before .before .before .before .before .before .before .before .before .before .put-parents .ensures)
     (record { room = omega (arith, i .kept .0, counts-at-32 _ (p .1) .0); intervals-to = i .ensures; ends = omega (arith, t .kept .0, p .1); starts-to = t .ensures })
 
 same-length : tie.Need-same-length
@@ -70,7 +70,7 @@ same-length-3 : tie.Need-same-length-3
 same-length-3 c = search needs
 
 returns : tie.Need-returns
-returns c = let s = c .before .before .before .before .before .before .before .before .before .before .before .before .before .before .before .before .before .before .before .before .before .before .before .before .before .before .before .before .before .before .before .before .before .before .before .before .before in let h = s .pre .1 .1 in λ f e. search-known _ _ f e (s .pre .1 .0) (s .args .values .now) (s .args .trail .now) (s .args .recording .now) (h .0) (h .1) (h .2) _ (c .before .before .before .before .before .before .draw .ensures)
+returns c = let s = c .before .before .before .before .before .before .before .before .before .before .before .before .before .before .before .before .before .before .before .before .before .before .before .before .before .before .before .before .before .before .before .before .before in let h = s .pre .1 .1 in λ f e. search-known _ _ f e (s .pre .1 .0) (s .args .values .now) (s .args .trail .now) (s .args .recording .now) (h .0) (h .1) (h .2) _ (c .before .before .before .before .before .before .draw .ensures)
 
 pub search-lent-spec : {M : Type 1} → statement M
 search-lent-spec =

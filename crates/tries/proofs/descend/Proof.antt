@@ -8,18 +8,18 @@ use lib.ListN.{length, length-set}
 use Rattle.interval.specs.Limits.{maxSteps}
 use Rattle.grammar.specs.Limits.{maxChannels}
 use Rattle.clause_table.proofs.Measure.{channels-few}
-use Rattle.sweeps.specs.Sweeps.{tableBy}
 use Rattle.fanout.proofs.Ground.{ground-still, few-channels}
+use Rattle.tries.specs.Tries.{clausesFor}
 use Rattle.tries.proofs.Standing.{Standing, standing, low-found, low-spent, low-ready, low-room, low-on, high-dead, high-spent, high-room, high-ready, high-on}
 use Rattle.tries.proofs.descend.Statement.{statement}
 use Rattle.tries.proofs.descend.Tie as tie
 
 abbrev Inv-loop : tie.InvT-loop
-Inv-loop values₀ trail₀ kinds numbers sizes firsts seats parents intervals starts count c k limit channels levels₀ last₀ depth₀ n₀ values trail levels last depth n =
-    (length trail ≡ length trail₀) × (length levels ≡ maxSteps * maxChannels) × Standing (tableBy c k kinds numbers sizes firsts count) channels (length values₀) limit values trail levels last depth n
+Inv-loop values₀ trail₀ firsts seats parents intervals starts c k limit table channels levels₀ last₀ depth₀ n₀ values trail levels last depth n =
+    (length trail ≡ length trail₀) × (length levels ≡ maxSteps * maxChannels) × Standing (clausesFor c k table firsts) channels (length values₀) limit values trail levels last depth n
 
 abbrev μ-loop : tie.MeasureT-loop
-μ-loop values₀ trail₀ kinds numbers sizes firsts seats parents intervals starts count c k limit channels levels₀ last₀ depth₀ n₀ values trail levels last depth n = limit - n
+μ-loop values₀ trail₀ firsts seats parents intervals starts c k limit table channels levels₀ last₀ depth₀ n₀ values trail levels last depth n = limit - n
 
 mul-channels : tie.Need-mul-channels Inv-loop μ-loop
 mul-channels c = few-channels (c .before .before .before .before .pre .0 .0)
@@ -59,7 +59,7 @@ array-read-try-high : tie.Need-array-read-try-high Inv-loop μ-loop
 array-read-try-high c = omega (arith, high-level (c .before .before))
 
 try-high-requires : tie.Need-try-high-requires Inv-loop μ-loop
-try-high-requires c κs = let s = c .before .before .before .before .before .loop .inv .2 in ((ground-still (s .long) (c .before .before .before .before .before .before .before .before .before .before .pre .0 .0), c .before .before .before .before .before .before .before .before .before .before .pre .0 .1), high-ready _ _ _ _ s (c .before .before .before .before .if1 .taken) (c .before .before .before .if2 .left))
+try-high-requires c κs = let s = c .before .before .before .before .before .before .before .before .before .loop .inv .2 in ((ground-still (s .long) (c .before .before .before .before .before .before .before .before .before .before .before .before .before .before .pre .0 .0), c .before .before .before .before .before .before .before .before .before .before .before .before .before .before .pre .0 .1), high-ready _ _ _ _ s (c .before .before .before .before .before .before .before .before .if1 .taken) (c .before .before .before .before .before .before .before .if2 .left))
 
 add-n : tie.Need-add-n Inv-loop μ-loop
 add-n c = search needs
@@ -68,7 +68,7 @@ loop-less : tie.Need-loop-less Inv-loop μ-loop
 loop-less c = search needs
 
 loop-again : tie.Need-loop-again Inv-loop μ-loop
-loop-again c = let q = c .before .before .before .before .try-high in let l = c .before .before .before .before .before .before .before .before .before .before .loop .inv in (q .kept .1 .0 ∙ l .0, l .1, high-on _ _ _ _ (l .2) (c .before .before .before .before .before .before .before .before .before .if1 .taken) (c .before .before .before .before .before .before .before .before .if2 .left) (c .before .before .before .before .before .before .before .if3 .left) (q .ensures))
+loop-again c = let q = c .before .before .before .before .try-high in let l = c .before .before .before .before .before .before .before .before .before .before .before .before .before .before .loop .inv in (q .kept .1 .0 ∙ l .0, l .1, high-on _ _ _ _ (l .2) (c .before .before .before .before .before .before .before .before .before .before .before .before .before .if1 .taken) (c .before .before .before .before .before .before .before .before .before .before .before .before .if2 .left) (c .before .before .before .before .before .before .before .before .before .before .before .if3 .left) (q .ensures))
 
 lowest-open-requires : tie.Need-lowest-open-requires Inv-loop μ-loop
 lowest-open-requires c κs = let s = c .before .before .loop .inv .2 in (omega (arith, s .fit, s .long), s .holding .trailing .small)
@@ -104,16 +104,16 @@ add-depth : tie.Need-add-depth Inv-loop μ-loop
 add-depth c = record { fits = omega (arith, low-level c) }
 
 try-literal-requires : tie.Need-try-literal-requires Inv-loop μ-loop
-try-literal-requires c κs = let s = c .before .before .before .before .before .before .before .loop .inv .2 in ((ground-still (s .long) (c .before .before .before .before .before .before .before .before .before .before .before .before .pre .0 .0), c .before .before .before .before .before .before .before .before .before .before .before .before .pre .0 .1), low-ready _ _ _ _ s (c .before .before .before .before .before .before .if1 .left) (c .before .before .before .before .lowest-open .ensures) (c .before .before .before .if4 .left))
+try-literal-requires c κs = let s = c .before .before .before .before .before .before .before .before .before .before .before .loop .inv .2 in ((ground-still (s .long) (c .before .before .before .before .before .before .before .before .before .before .before .before .before .before .before .before .pre .0 .0), c .before .before .before .before .before .before .before .before .before .before .before .before .before .before .before .before .pre .0 .1), low-ready _ _ _ _ s (c .before .before .before .before .before .before .before .before .before .before .if1 .left) (c .before .before .before .before .before .before .before .before .lowest-open .ensures) (c .before .before .before .before .before .before .before .if4 .left))
 
 add-n-2 : tie.Need-add-n-2 Inv-loop μ-loop
-add-n-2 c = search needs
+add-n-2 c = search (c .before .before .before .before .before .before .before .before .before .before .before .before .before .before .before .before .loop .inv .2 .few, c .before .before .before .before .before .before .before .before .before .before .before .if5 .left, c .before .before .before .before .before .before .before .before .before .before .before .before .before .before .before .before .before .before .before .before .before .fits .limit, needs)
 
 loop-less-2 : tie.Need-loop-less-2 Inv-loop μ-loop
 loop-less-2 c = search needs
 
 loop-again-2 : tie.Need-loop-again-2 Inv-loop μ-loop
-loop-again-2 c = let q = c .before .before .before .before .try-literal in let w = c .before .before .before .before .before .before .before .before .before .before .before .before .loop in let l = w .inv in (q .kept .1 .0 ∙ l .0, length-set (w .levels) (w .depth) (w .last .top) ∙ l .1, low-on _ _ _ _ (l .2) (c .before .before .before .before .before .before .before .before .before .before .before .if1 .left) (c .before .before .before .before .before .before .before .before .before .lowest-open .ensures) (c .before .before .before .before .before .before .before .before .if4 .left) (omega (arith, low-level (c .before .before .before .before .before .before .before), l .1)) (c .before .before .before .before .before .before .before .if5 .left) (q .ensures))
+loop-again-2 c = let q = c .before .before .before .before .try-literal in let w = c .before .before .before .before .before .before .before .before .before .before .before .before .before .before .before .before .loop in let l = w .inv in (q .kept .1 .0 ∙ l .0, length-set (w .levels) (w .depth) (w .last .top) ∙ l .1, low-on _ _ _ _ (l .2) (c .before .before .before .before .before .before .before .before .before .before .before .before .before .before .before .if1 .left) (c .before .before .before .before .before .before .before .before .before .before .before .before .before .lowest-open .ensures) (c .before .before .before .before .before .before .before .before .before .before .before .before .if4 .left) (omega (arith, low-level (c .before .before .before .before .before .before .before .before .before .before .before), l .1)) (c .before .before .before .before .before .before .before .before .before .before .before .if5 .left) (q .ensures))
 
 pub descend-spec : {M : Type 1} → statement M
 descend-spec =

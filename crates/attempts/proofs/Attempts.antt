@@ -1,5 +1,5 @@
 -- A literal of an open variable is not among the values before it is tried, so the try makes the trail longer, by its variable first, and
--- gives the closure of the set with it added. The whole tree starts from values that are all 0, which are the set of nothing.
+-- gives the closure of the set with it added.
 use mathlib.Core.Path.{_≡_, sym, ap, ap₂, _∙_, subst}
 use mathlib.Core.Bool.{Bool, true, false, true≢false}
 use mathlib.Core.List.{List}
@@ -9,7 +9,7 @@ use lib.Arith.{lt-of-le-ne}
 use lib.ListN.{getD}
 use lib.Seq.{getD-take}
 use Rattle.clauses.specs.Clauses.{Literal, Clause, literal}
-use Rattle.closure.specs.Closure.{Literals, nothing, add}
+use Rattle.closure.specs.Closure.{Literals, add}
 use Rattle.closure.specs.Runs.{clashes, isOpen}
 use Rattle.closure.specs.Tree.{closure}
 use Rattle.closure.proofs.Sets.{either-way, In, added}
@@ -18,11 +18,9 @@ use Rattle.closing.specs.Values.{heldIn, undone, Grown, Added}
 use Rattle.closing.specs.Closing.{ClosedTo}
 use Rattle.closing.specs.declared.Closed.{Closed}
 use Rattle.closing.proofs.Trail.{grown-length, grown-same, grown-more}
-use Rattle.tries.specs.Tries.{Holding, Ready, Undoable, Since, Tried, Started}
-use Rattle.tries.specs.declared.Below.{Below}
-use Rattle.tries.proofs.Values.{zero-nothing}
+use Rattle.attempts.specs.Attempts.{Holding, Ready, Undoable, Since, Tried}
 
-holding : {T : List Clause} {S : Literals} {v₀ t₀ values trail : List ℕ} {top : ℕ} {r : Closed} → heldIn v₀ ≡ S → ClosedTo T v₀ t₀ top values trail r → Holding T S values trail r
+pub holding : {T : List Clause} {S : Literals} {v₀ t₀ values trail : List ℕ} {top : ℕ} {r : Closed} → heldIn v₀ ≡ S → ClosedTo T v₀ t₀ top values trail r → Holding T S values trail r
 holding {T} e c = record {
   trailing = c .grown .trailing;
   calm = λ f. c .calm f ∙ ap (closure T) e;
@@ -61,12 +59,3 @@ undone-ready e u = rw e (u .ready)
 pub undone-tried : {T : List Clause} {l : Literal} {w v₀ t₀ values trail : List ℕ} {top : ℕ} {r : Closed} → w ≡ v₀ → Tried T l w t₀ top values trail r
     → Tried T l v₀ t₀ top values trail r
 undone-tried e t = rw e at t
-
--- ---- the whole tree
-
-pub begun : {T : List Clause} (z : List ℕ) → ((y : ℕ) → getD z y 0 ≡ 0) → {t values trail : List ℕ} {r : Closed} → ClosedTo T z t 0 values trail r → Holding T nothing values trail r
-begun z f = holding (zero-nothing z f)
-
-pub started-long : {T : List Clause} {variables n channels limit : ℕ} {values : List ℕ} {r : Below} → variables ≡ n → Started T variables channels limit values r
-    → Started T n channels limit values r
-started-long e s = rw e at s

@@ -2,9 +2,9 @@
 -- of which the variable at that place of the trail is open.
 use borrow.Author.Needs.{needs}
 use Rattle.fanout.proofs.Ground.{ground-still}
-use Rattle.tries.proofs.Attempts.{undone-ready, undone-tried}
-use Rattle.tries.proofs.try_high.Statement.{statement}
-use Rattle.tries.proofs.try_high.Tie as tie
+use Rattle.attempts.proofs.Attempts.{undone-ready, undone-tried}
+use Rattle.attempts.proofs.try_high.Statement.{statement}
+use Rattle.attempts.proofs.try_high.Tie as tie
 
 undo-requires : tie.Need-undo-requires
 undo-requires c κs = search needs
