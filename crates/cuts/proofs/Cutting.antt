@@ -1,7 +1,7 @@
 -- The cuts of [i, i + d], in order: [i, m] stands m − i places after [i, i], and [m + 1, j] stands k − m places after [m, j], since row m has
 -- k + 1 − m places. Bytes that are bits join as truths do.
 use mathlib.Core.Path.{_≡_, ap, ap₂, _∙_}
-use mathlib.Core.Bool.{_&&_}
+use mathlib.Core.Bool.{true, _&&_}
 use mathlib.Core.List.{List}
 use Prim.Native.Nat.{ℕ, _+_, _-_, _≤_, _<_}
 use native.Mathlib.Omega.{arith}
@@ -49,5 +49,5 @@ module _ {k i d e at : ℕ} (s : i + d ≤ k) (w : Cutting k i d e at) where
     pub cut-byte : {p q : List ℕ} → Binary p → Binary q
         → bitAnd (getD p (first + e) 0) (getD q at 0) ≡ bit (cuts (onPlaces k (highAt p)) (onPlaces k (highAt q)) (record { i = i; m = i + e; j = i + d }))
     cut-byte {p} {q} b c =
-        ap₂ bitAnd (b .at (first + e)) (c .at at) ∙ joined-bits 3 (highAt p (first + e)) (highAt q at)
+        ap₂ bitAnd (b .at (first + e)) (c .at at) ∙ joined-bits true (highAt p (first + e)) (highAt q at)
         ∙ ap₂ (λ (x y : ℕ). bit (highAt p x && highAt q y)) left (w .right h)

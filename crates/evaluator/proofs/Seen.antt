@@ -1,11 +1,10 @@
 -- A node's kind tells which tree stands at its row, where the tree's parts stand, and how its truth comes from theirs:
 -- each kind belongs to one form of tree, and its row says the kind of the tree that stands there.
-use mathlib.Core.Path.{_≡_, refl, sym, ap, ap₂, subst}
+use mathlib.Core.Path.{_≡_, refl, sym, ap, subst}
 use mathlib.Core.Bool.{Bool, true, false, not}
 use mathlib.Core.List.{List}
-use Prim.Native.Nat.{ℕ, _+_, _-_, _≤_, _<_}
+use Prim.Native.Nat.{ℕ, zero, suc, _+_, _%_, _≤_, _<_}
 use native.Mathlib.Omega.{arith}
-use lib.Dec.{eqb}
 use lib.ListN.{getD}
 use Rattle.grammar.specs.Trees.{Link, and, or, chop, Tree, constant, letter, negation, pair, duration, throughout, Letters}
 use Rattle.grammar.specs.declared.Sort.{Sort}
@@ -13,8 +12,9 @@ use Rattle.grammar.specs.declared.Sort.the-variants.{State, Formula}
 use Rattle.rows.specs.Table.{sortCode, constantCode, linkCode}
 use Rattle.nodes.specs.Parts.{Stands}
 use Rattle.meaning.specs.Meaning.{channelAt, Point, truth}
-use Rattle.word.specs.Word.{joined}
 use Rattle.table.specs.Table.{measured}
+use Rattle.table.specs.declared.Measure.{Measure}
+use Rattle.table.specs.declared.Measure.the-variants.{AtLeast, Throughout}
 
 constant-most : (v : Bool) → constantCode v ≤ 1
 constant-most true = omega arith
@@ -25,17 +25,24 @@ link-least and = omega arith
 link-least or = omega arith
 link-least chop = omega arith
 
-pub link-most : {s : Sort} (l : Link s) → linkCode l ≤ 5
+link-most : {s : Sort} (l : Link s) → linkCode l ≤ 5
 link-most and = omega arith
 link-most or = omega arith
 link-most chop = omega arith
 
+-- neither a constant's kind nor that of `!`
+pub beyond-negation : (k : ℕ) → (k ≡ 0 → ⊥) → (k ≡ 1 → ⊥) → (k ≡ 2 → ⊥) → 2 < k
+beyond-negation zero a b c = absurd (a refl)
+beyond-negation (suc zero) a b c = absurd (b refl)
+beyond-negation (suc (suc zero)) a b c = absurd (c refl)
+beyond-negation (suc (suc (suc k))) a b c = omega arith
+
 -- a kind that has two parts, of those that a tree of the sort can have
 abbrev pub Joins : Sort → ℕ → Type 0
 Joins State k = (2 < k) × (k ≡ 6 → ⊥)
-Joins Formula k = (18 < k) × (k < 23)
+Joins Formula k = (2 < k) × (k ≡ 7 → ⊥) × (k ≡ 8 → ⊥)
 
-joins-more : (s : Sort) (k : ℕ) → Joins s k → sortCode s + 2 < k
+joins-more : (s : Sort) (k : ℕ) → Joins s k → 2 < k
 joins-more State k h = h .0
 joins-more Formula k h = h .0
 
@@ -49,22 +56,32 @@ module _ (recording K N S : List ℕ) (C n : ℕ) where
   abbrev pub truthOf : {s : Sort} {m : ℕ} → PartAt s m → Point s → Bool
   truthOf w = truth recording (w .part)
 
-  pub constant-seen : {s : Sort} (x : Tree s) → Stands K N S n x → getD K n 0 < sortCode s + 2 → (p : Point s) → not (eqb (getD K n 0 - sortCode s) 0) ≡ truth recording x p
+  -- what is left of a formula's kind without its sort
+  pub formula-kind : (b : ℕ) → b ≡ getD K n 0 → (x : Tree Formula) → Stands K N S n x → getD K n 0 ≡ sortCode Formula + b % 16
+  formula-kind b e (constant v) w = omega (arith, w .own .kind, constant-most v)
+  formula-kind b e (negation x) w = omega (arith, w .own .kind)
+  formula-kind b e (pair l x y) w = omega (arith, w .own .kind, link-most l)
+  formula-kind b e (duration x m) w = omega (arith, w .own .kind)
+  formula-kind b e (throughout x) w = omega (arith, w .own .kind)
+
+  pub constant-seen : (v : Bool) {s : Sort} (x : Tree s) → Stands K N S n x → getD K n 0 ≡ sortCode s + constantCode v → (p : Point s) → v ≡ truth recording x p
   unfolding truth
-  constant-seen {s} (constant true) w h p = let e : getD K n 0 - sortCode s ≡ 1 = omega (arith, w .own .kind) in ap (λ (c : ℕ). not (eqb c 0)) e
-  constant-seen {s} (constant false) w h p = let e : getD K n 0 - sortCode s ≡ 0 = omega (arith, w .own .kind) in ap (λ (c : ℕ). not (eqb c 0)) e
-  constant-seen (letter c) w h p = absurd (omega (arith, w .own .kind))
-  constant-seen {s} (negation x) w h p = absurd (omega (arith, w .own .kind))
-  constant-seen {s} (pair l x y) w h p = absurd (omega (arith, w .own .kind, link-least l))
-  constant-seen (duration x m) w h p = absurd (omega (arith, w .own .kind))
-  constant-seen (throughout x) w h p = absurd (omega (arith, w .own .kind))
+  constant-seen true {s} (constant true) w h p = refl
+  constant-seen true {s} (constant false) w h p = absurd (omega (arith, w .own .kind))
+  constant-seen false {s} (constant true) w h p = absurd (omega (arith, w .own .kind))
+  constant-seen false {s} (constant false) w h p = refl
+  constant-seen v (letter c) w h p = absurd (omega (arith, w .own .kind, constant-most v))
+  constant-seen v {s} (negation x) w h p = absurd (omega (arith, w .own .kind, constant-most v))
+  constant-seen v {s} (pair l x y) w h p = absurd (omega (arith, w .own .kind, constant-most v, link-least l))
+  constant-seen v (duration x m) w h p = absurd (omega (arith, w .own .kind, constant-most v))
+  constant-seen v (throughout x) w h p = absurd (omega (arith, w .own .kind, constant-most v))
 
   pub negation-seen : {s : Sort} (x : Tree s) → Letters C x → Stands K N S n x → getD K n 0 ≡ sortCode s + 2
-      → (y : PartAt s (n + 1)) × ((p : Point s) (b : Bool) → joined 2 (truthOf y p) b ≡ truth recording x p)
+      → (y : PartAt s (n + 1)) × ((p : Point s) → not (truthOf y p) ≡ truth recording x p)
   unfolding truth
   negation-seen {s} (constant v) a w h = absurd (omega (arith, w .own .kind, constant-most v))
   negation-seen (letter c) a w h = absurd (omega (arith, w .own .kind))
-  negation-seen {s} (negation x) a w h = (record { part = x; letters = a; stands = record { own = w .parts .0; parts = w .parts .1 } }, λ p b. refl)
+  negation-seen {s} (negation x) a w h = (record { part = x; letters = a; stands = record { own = w .parts .0; parts = w .parts .1 } }, λ p. refl)
   negation-seen {s} (pair l x y) a w h = absurd (omega (arith, w .own .kind, link-least l))
   negation-seen (duration x m) a w h = absurd (omega (arith, w .own .kind))
   negation-seen (throughout x) a w h = absurd (omega (arith, w .own .kind))
@@ -77,19 +94,19 @@ module _ (recording K N S : List ℕ) (C n : ℕ) where
     pub kind : getD K n 0 ≡ sortCode s + linkCode link
     pub is : truth recording x ≡ truth recording (pair link (first .part) (second .part))
 
-  pub pair-seen : {s : Sort} (x : Tree s) → Letters C x → Stands K N S n x → Joins s (getD K n 0) → PairSeen s x
-  pair-seen {s} (constant v) a w h = absurd (omega (arith, w .own .kind, constant-most v, joins-more s _ h))
-  pair-seen (letter c) a w h = absurd (h .1 (w .own .kind))
-  pair-seen {s} (negation x) a w h = absurd (omega (arith, w .own .kind, joins-more s _ h))
-  pair-seen {s} (pair l x y) a w h = record {
+  pub pair-seen : (op : ℕ) {s : Sort} (x : Tree s) → Letters C x → Stands K N S n x → getD K n 0 ≡ sortCode s + op → Joins s op → PairSeen s x
+  pair-seen op {s} (constant v) a w e h = absurd (omega (arith, w .own .kind, constant-most v, joins-more s op h))
+  pair-seen op (letter c) a w e h = absurd (h .1 (omega (arith, w .own .kind)))
+  pair-seen op {s} (negation x) a w e h = absurd (omega (arith, w .own .kind, joins-more s op h))
+  pair-seen op {s} (pair l x y) a w e h = record {
     link = l;
     first = record { part = x; letters = a .0; stands = record { own = w .parts .0 .0; parts = w .parts .0 .1 } };
     second = record { part = y; letters = a .1; stands = subst (λ (m : ℕ). Stands K N S (n + 1 + m) y) (sym (w .parts .0 .0 .size)) (record { own = w .parts .1 .0; parts = w .parts .1 .1 }) };
     kind = w .own .kind;
     is = refl;
   }
-  pair-seen (duration x m) a w h = absurd (omega (arith, w .own .kind, h .1))
-  pair-seen (throughout x) a w h = absurd (omega (arith, w .own .kind, h .1))
+  pair-seen op (duration x m) a w e h = absurd (h .1 (omega (arith, w .own .kind)))
+  pair-seen op (throughout x) a w e h = absurd (h .2 (omega (arith, w .own .kind)))
 
   pub letter-seen : (x : Tree State) → Letters C x → Stands K N S n x → getD K n 0 ≡ 6 → (getD N n 0 < C) × (channelAt recording (getD N n 0) ≡ truth recording x)
   unfolding truth
@@ -99,20 +116,23 @@ module _ (recording K N S : List ℕ) (C n : ℕ) where
   letter-seen (pair and x y) a w h = absurd (omega (arith, w .own .kind))
   letter-seen (pair or x y) a w h = absurd (omega (arith, w .own .kind))
 
-  pub measured-seen : (x : Tree Formula) → Letters C x → Stands K N S n x → 23 ≤ getD K n 0
-      → (y : PartAt State (n + 1)) × (measured (getD K n 0 - 16) (getD N n 0) (truthOf y) ≡ truth recording x)
-  unfolding truth
-  measured-seen (constant v) a w h = absurd (omega (arith, w .own .kind, constant-most v))
-  measured-seen (negation x) a w h = absurd (omega (arith, w .own .kind))
-  measured-seen (pair l x y) a w h = absurd (omega (arith, w .own .kind, link-most l))
-  measured-seen (duration x m) a w h =
-      (record { part = x; letters = a; stands = record { own = w .parts .0; parts = w .parts .1 } }, ap₂ (λ (k m : ℕ). measured (k - 16) m (truth recording x)) (w .own .kind) (w .own .number))
-  measured-seen (throughout x) a w h =
-      (record { part = x; letters = a; stands = record { own = w .parts .0; parts = w .parts .1 } }, ap₂ (λ (k m : ℕ). measured (k - 16) m (truth recording x)) (w .own .kind) (w .own .number))
+  -- a duration or `[S]`: its part, and what is asked of it
+  abbrev pub MeasureSeen : Measure → Tree Formula → Type 0
+  MeasureSeen m x = (y : PartAt State (n + 1)) × (measured m (truthOf y) ≡ truth recording x)
 
-  pub formula-seen : (x : Tree Formula) → Stands K N S n x → 16 ≤ getD K n 0
-  formula-seen (constant v) w = omega (arith, w .own .kind)
-  formula-seen (negation x) w = omega (arith, w .own .kind)
-  formula-seen (pair l x y) w = omega (arith, w .own .kind)
-  formula-seen (duration x m) w = omega (arith, w .own .kind)
-  formula-seen (throughout x) w = omega (arith, w .own .kind)
+  pub duration-seen : (x : Tree Formula) → Letters C x → Stands K N S n x → getD K n 0 ≡ 23 → MeasureSeen (AtLeast (getD N n 0)) x
+  unfolding truth
+  duration-seen (constant v) a w h = absurd (omega (arith, w .own .kind, constant-most v))
+  duration-seen (negation x) a w h = absurd (omega (arith, w .own .kind))
+  duration-seen (pair l x y) a w h = absurd (omega (arith, w .own .kind, link-most l))
+  duration-seen (duration x m) a w h =
+      (record { part = x; letters = a; stands = record { own = w .parts .0; parts = w .parts .1 } }, ap (λ (m : ℕ). measured (AtLeast m) (truth recording x)) (w .own .number))
+  duration-seen (throughout x) a w h = absurd (omega (arith, w .own .kind))
+
+  pub throughout-seen : (x : Tree Formula) → Letters C x → Stands K N S n x → getD K n 0 ≡ 24 → MeasureSeen Throughout x
+  unfolding truth
+  throughout-seen (constant v) a w h = absurd (omega (arith, w .own .kind, constant-most v))
+  throughout-seen (negation x) a w h = absurd (omega (arith, w .own .kind))
+  throughout-seen (pair l x y) a w h = absurd (omega (arith, w .own .kind, link-most l))
+  throughout-seen (duration x m) a w h = absurd (omega (arith, w .own .kind))
+  throughout-seen (throughout x) a w h = (record { part = x; letters = a; stands = record { own = w .parts .0; parts = w .parts .1 } }, refl)

@@ -2,24 +2,22 @@
 use grammar::MAX_CHANNELS;
 use grammar::MAX_NODES;
 use interval::Interval;
+use interval::Made;
 use refusal::Refusal;
 use refusal::Reply;
 use rows::NodeTable;
+use table::Measure;
 ghost use mathlib.Core.Path.{_≡_};
-ghost use mathlib.Core.List.{[], _∷_};
-ghost use Prim.Native.Nat.{_+_, _^_, _≤_, _<_};
+ghost use Prim.Native.Nat.{_^_, _≤_, _<_};
 ghost use lib.ListN.{length};
 ghost use Rattle.moments.specs.Moments.{old};
-ghost use Rattle.interval.specs.Limits.{maxSteps};
+ghost use Rattle.interval.specs.Limits.{maxSteps, IntervalOf};
 ghost use Rattle.grammar.specs.Limits.{maxChannels};
-ghost use Rattle.grammar.specs.Trees.{Tree, Letters};
 ghost use Rattle.grammar.specs.declared.Sort.the-variants.{State, Formula};
-ghost use Rattle.nodes.specs.Parts.{Stands};
-ghost use Rattle.meaning.specs.Meaning.{stateAt, holds};
 ghost use Rattle.word.specs.Word.{WordOf};
 ghost use Rattle.table.specs.Table.{TableOf};
-ghost use Rattle.evaluator.specs.Evaluation.{askRecording, askBelow, askBytes, recordingQuestions, verdictOf, evaluated};
-ghost use Rattle.refusal.specs.Asked.{asked};
+ghost use Rattle.evaluator.specs.Evaluation.{askRecording, askBelow, askBytes, evaluated};
+ghost use Rattle.evaluator.specs.Rows.{AtRow, judged};
 
 // What evaluation answers.
 pub enum Verdict {
@@ -37,24 +35,28 @@ fn word_at<'a>(
     x: usize,
 ) -> u32
     requires { ⌜ length (now recording) ≤ maxSteps ⌝ }
-    ensures { λ r. ⌜ ((f : Tree State) → Letters maxChannels f → Stands (old kinds) (old numbers) (old sizes) x f → WordOf (length (old recording)) (stateAt (old recording) f) r) ⌝ }
+    ensures { λ r. ⌜ AtRow (old recording) (old kinds) (old numbers) (old sizes) State x (λ f. WordOf (length (old recording)) f r) ⌝ }
 {
     let kind = rows::byte_at(kinds, x);
-    if kind < 2 {
-        return word::constant_word(kind);
+    match kind {
+        rows::FALSE => return word::constant_word(false),
+        rows::TRUE => return word::constant_word(true),
+        rows::LETTER => {
+            let c = rows::byte_at(numbers, x) as usize % MAX_CHANNELS;
+            return word::word_of(recording, c, recording.len());
+        }
+        rows::NOT => {
+            return word::inverse_word(word_at(kinds, numbers, sizes, recording, x + 1));
+        }
+        _ => {
+            let p = word_at(kinds, numbers, sizes, recording, x + 1);
+            let q = word_at(kinds, numbers, sizes, recording, nodes::second(sizes, x));
+            return word::joined_word(kind == rows::AND, p, q);
+        }
     }
-    if kind == 6 {
-        return word::channel_word(recording, rows::byte_at(numbers, x) as usize % MAX_CHANNELS);
-    }
-    let p = word_at(kinds, numbers, sizes, recording, x + 1);
-    if kind == 2 {
-        return word::joined_word(kind, p, p);
-    }
-    let q = word_at(kinds, numbers, sizes, recording, nodes::second(sizes, x));
-    word::joined_word(kind, p, q)
 }
 
-// The table of the formula at row x. A formula's kinds are 16 more than a state assertion's.
+// The table of the formula at row x.
 fn table_at<'a>(
     kinds: &'a [u8; MAX_NODES],
     numbers: &'a [u8; MAX_NODES],
@@ -63,38 +65,44 @@ fn table_at<'a>(
     x: usize,
 ) -> [u8; Interval::MAX_COUNT]
     requires { ⌜ length (now recording) ≤ maxSteps ⌝ }
-    ensures { λ r. ⌜ ((f : Tree Formula) → Letters maxChannels f → Stands (old kinds) (old numbers) (old sizes) x f → TableOf (length (old recording)) (holds (old recording) f) r) ⌝ }
+    ensures { λ r. ⌜ AtRow (old recording) (old kinds) (old numbers) (old sizes) Formula x (λ f. TableOf (length (old recording)) f r) ⌝ }
 {
     let k = recording.len();
-    let kind = rows::byte_at(kinds, x);
-    if kind < 18 {
-        return table::constant_table(kind % 16);
+    let kind = rows::byte_at(kinds, x) % rows::FORMULA;
+    match kind {
+        rows::FALSE => return table::constant_table(false),
+        rows::TRUE => return table::constant_table(true),
+        rows::DURATION => {
+            let word = word_at(kinds, numbers, sizes, recording, x + 1);
+            return table::measured_table(Measure::AtLeast(rows::byte_at(numbers, x)), word, k);
+        }
+        rows::THROUGHOUT => {
+            let word = word_at(kinds, numbers, sizes, recording, x + 1);
+            return table::measured_table(Measure::Throughout, word, k);
+        }
+        rows::NOT => {
+            let mut p = table_at(kinds, numbers, sizes, recording, x + 1);
+            table::inverse(&mut p, k);
+            return p;
+        }
+        _ => {
+            let mut p = table_at(kinds, numbers, sizes, recording, x + 1);
+            let q = table_at(kinds, numbers, sizes, recording, nodes::second(sizes, x));
+            if kind == rows::CHOP {
+                return chop::chop_table(&p, &q, k);
+            }
+            table::join(kind == rows::AND, &mut p, &q, k);
+            return p;
+        }
     }
-    if kind >= 23 {
-        let word = word_at(kinds, numbers, sizes, recording, x + 1);
-        return table::measured_table(kind - 16, rows::byte_at(numbers, x), word, k);
-    }
-    let mut p = table_at(kinds, numbers, sizes, recording, x + 1);
-    if kind == 18 {
-        // `!` has one part; any other table serves for a second.
-        table::join(2, &mut p, &table::constant_table(0), k);
-        return p;
-    }
-    let q = table_at(kinds, numbers, sizes, recording, nodes::second(sizes, x));
-    if kind == 21 {
-        return chop::chop_table(&p, &q, k);
-    }
-    table::join(kind - 16, &mut p, &q, k);
-    p
 }
 
-// The formula's truth on [i, j], from its node table.
-fn holds_on(table: NodeTable, recording: &[u8], i: usize, j: usize) -> bool
-    requires { ⌜ (length (now recording) ≤ maxSteps) × (i ≤ j) × (j ≤ length (now recording)) ⌝ }
-    ensures { λ r. ⌜ ((f : Tree Formula) → Letters maxChannels f → Stands (table .kinds) (table .numbers) (table .sizes) 0 f → r ≡ holds (old recording) f (record { i = i; j = j })) ⌝ }
+// The formula's truth on an interval, from its node table.
+fn holds_on(table: NodeTable, recording: &[u8], v: Interval) -> bool
+    requires { ⌜ (length (now recording) ≤ maxSteps) × IntervalOf (length (now recording)) v ⌝ }
+    ensures { λ r. ⌜ AtRow (old recording) (table .kinds) (table .numbers) (table .sizes) Formula 0 (λ f. r ≡ f v) ⌝ }
 {
     let t = table_at(&table.kinds, &table.numbers, &table.sizes, recording, 0);
-    let v = Interval { i, j };
     t[v.place(recording.len())] == 1
 }
 
@@ -102,13 +110,7 @@ fn holds_on(table: NodeTable, recording: &[u8], i: usize, j: usize) -> bool
 pub fn ask_recording(k: u32, recording: &[u8]) -> Reply
     ensures { λ r. ⌜ r ≡ askRecording k (old recording) ⌝ }
 {
-    if recording.len() == k as usize {
-        return Reply::Yes;
-    }
-    Reply::No(Refusal {
-        number: 10,
-        place: 0,
-    })
+    refusal::ask(10, recording.len() == k as usize)
 }
 
 // The question whether each byte is below a number.
@@ -133,33 +135,22 @@ pub fn ask_bytes(c: u32, recording: &[u8]) -> Reply
     ask_below(11, 1usize << c, recording)
 }
 
-// The reply to two questions: the first no answers.
-fn first_no(first: Reply, second: Reply) -> Reply
-    ensures { λ r. ⌜ r ≡ asked (first ∷ second ∷ []) Reply.No Reply.Yes ⌝ }
+// What an accepted formula and an interval answer: questions 10 and 11, then the truth. Only a recording of k bytes is asked the last.
+fn verdict_on(table: NodeTable, c: u32, k: u32, recording: &[u8], v: Interval) -> Verdict
+    requires { ⌜ (c ≤ maxChannels) × (k ≤ maxSteps) × IntervalOf k v ⌝ }
+    ensures { λ r. ⌜ AtRow (old recording) (table .kinds) (table .numbers) (table .sizes) Formula 0 (λ f. r ≡ judged c k (old recording) (f v)) ⌝ }
 {
-    if let Reply::No(r) = first {
-        return Reply::No(r);
+    if let Reply::No(r) = ask_recording(k, recording) {
+        return Verdict::Refused(r);
     }
-    second
-}
-
-// Questions 9 to 11. Only a recording of k bytes is asked the last.
-fn ask_recorded(c: u32, k: u32, i: u32, j: u32, recording: &[u8]) -> Reply
-    requires { ⌜ (c ≤ maxChannels) × (k ≤ maxSteps) ⌝ }
-    ensures { λ r. ⌜ r ≡ asked (recordingQuestions c k i j (old recording)) Reply.No Reply.Yes ⌝ }
-{
-    let interval = Interval::ask_interval(i as usize, j as usize, k as usize);
-    let length = ask_recording(k, recording);
-    if let Reply::No(r) = first_no(interval, length) {
-        return Reply::No(r);
+    if let Reply::No(r) = ask_bytes(c, recording) {
+        return Verdict::Refused(r);
     }
-    ask_bytes(c, recording)
-}
-
-fn verdict_of(yes: bool) -> Verdict
-    ensures { λ r. ⌜ r ≡ verdictOf yes ⌝ }
-{
-    if yes { Verdict::Yes } else { Verdict::No }
+    if holds_on(table, recording, v) {
+        Verdict::Yes
+    } else {
+        Verdict::No
+    }
 }
 
 // Whether the recording satisfies the formula on [i, j].
@@ -171,9 +162,9 @@ pub fn evaluate(text: &[u8], c: u32, k: u32, i: u32, j: u32, recording: &[u8]) -
     if let Reply::No(r) = reply {
         return Verdict::Refused(r);
     }
-    if let Reply::No(r) = ask_recorded(c, k, i, j, recording) {
-        return Verdict::Refused(r);
-    }
     let table = tabled.table;
-    verdict_of(holds_on(table, recording, i as usize, j as usize))
+    match Interval::new(i as usize, j as usize, k as usize) {
+        Made::Good(v) => verdict_on(table, c, k, recording, v),
+        Made::Refused(r) => Verdict::Refused(r),
+    }
 }

@@ -1,3 +1,3 @@
 pub mod Joined
 pub mod Rows
-pub mod Measure
+pub mod Measuring

@@ -4,7 +4,7 @@ use mathlib.Core.Path.{_≡_}
 use mathlib.Core.Bool.{Bool, cond}
 use mathlib.Core.List.{List}
 use Prim.Native.Nat.{ℕ, suc, _+_, _-_, _<_}
-use lib.Bits.{bitAnd, bitOr, bitXor}
+use lib.Bits.{bitAnd, bitOr}
 use lib.Dec.{eqb}
 use lib.ListN.{length, getD}
 use Rattle.interval.specs.Listing.{sum}
@@ -12,6 +12,8 @@ use Rattle.interval.specs.Limits.{IntervalOf}
 use Rattle.interval.specs.Places.{placeOf}
 use Rattle.interval.specs.declared.Interval.{Interval}
 use Rattle.meaning.specs.Meaning.{bit, lasts, fills}
+use Rattle.table.specs.declared.Measure.{Measure}
+use Rattle.table.specs.declared.Measure.the-variants.{AtLeast, Throughout}
 
 -- the truth at a place of a table, or of any bytes: no past the end
 abbrev pub highAt : List ℕ → ℕ → Bool
@@ -33,10 +35,16 @@ pub record RowOf (i : ℕ) (f : Interval → Bool) (row : List ℕ) : Type 0 whe
 abbrev pub startOf : ℕ → ℕ → ℕ
 startOf k i = sum (λ a. suc k - a) i
 
--- what `!`, `&` and `|` make of bytes, 1 for true, as `joined` makes of truths
-abbrev pub joinedByte : ℕ → ℕ → ℕ → ℕ
-joinedByte kind a b = cond (eqb kind 2) (bitXor a 1) (cond (eqb kind 3) (bitAnd a b) (bitOr a b))
+-- what `&`, where `both`, or `|` makes of bytes, 1 for true, as `joined` makes of truths
+abbrev pub joinedByte : Bool → ℕ → ℕ → ℕ
+joinedByte both a b = cond both (bitAnd a b) (bitOr a b)
 
--- the truth of a duration (7) or of `[S]` (8) by the truth of S
-abbrev pub measured : ℕ → ℕ → (ℕ → Bool) → Interval → Bool
-measured kind n f v = cond (eqb kind 8) (fills f v) (lasts n f v)
+-- the truth of a duration or of `[S]` by the truth of S
+abbrev pub measured : Measure → (ℕ → Bool) → Interval → Bool
+measured (AtLeast n) f v = lasts n f v
+measured Throughout f v = fills f v
+
+-- at how many instants of an interval S must be true for that
+abbrev pub leastOn : Measure → Interval → ℕ
+leastOn (AtLeast n) v = n
+leastOn Throughout v = v .j - v .i

@@ -1,14 +1,15 @@
 // Truths as bytes, 0 or 1: those of a node's part are taken from an assignment, those of the node are written to a part of it.
 use interval::Interval;
 ghost use mathlib.Core.Path.{_≡_};
+ghost use mathlib.Core.Bool.{not};
 ghost use Prim.Native.Nat.{ℕ, _+_, _-_, _≤_, _<_, min};
 ghost use lib.ListN.{length, getD};
 ghost use Rattle.moments.specs.Moments.{old, new};
 ghost use Rattle.interval.specs.Listing.{tab};
-ghost use Rattle.interval.specs.Limits.{maxSteps, maxCount};
+ghost use Rattle.interval.specs.Limits.{maxCount};
 ghost use Rattle.grammar.specs.Limits.{maxChannels};
-ghost use Rattle.meaning.specs.Meaning.{bit, bitAt, channelAt};
-ghost use Rattle.word.specs.Word.{WordOf, joined};
+ghost use Rattle.meaning.specs.Meaning.{bit, channelAt};
+ghost use Rattle.word.specs.Word.{joined};
 ghost use Rattle.table.specs.Table.{highAt, Binary};
 
 // How many of n places from `at` on there are.
@@ -45,47 +46,37 @@ pub fn put_table(out: &mut [u8], t: &[u8; Interval::MAX_COUNT])
     }
 }
 
-// 1 where bit c of a byte is.
-pub fn bit_of(byte: u8, c: usize) -> u8
-    requires { ⌜ c < maxChannels ⌝ }
-    ensures { λ r. ⌜ r ≡ bit (bitAt byte c) ⌝ }
-{
-    (byte >> c) % 2
-}
-
 // A letter: channel c at each instant.
 pub fn put_channel(out: &mut [u8], recording: &[u8], c: usize)
     requires { ⌜ c < maxChannels ⌝ }
     ensures { λ _. ⌜ new out ≡ tab (length (old out)) (λ t. bit (channelAt (old recording) c t)) ⌝ }
 {
     for t in 0..out.len() {
-        out[t] = bit_of(rows::byte_at(recording, t), c);
+        out[t] = word::bit_of(rows::byte_at(recording, t), c);
     }
 }
 
-// `!`, `&` or `|`, by kind, from the truths of its parts; `!` has one.
+// `!`, from the truths of its part.
+pub fn put_inverse(out: &mut [u8], p: &[u8; Interval::MAX_COUNT])
+    requires { ⌜ (length (now out) ≤ maxCount) × Binary (now p) ⌝ }
+    ensures { λ _. ⌜ new out ≡ tab (length (old out)) (λ e. bit (not (highAt (old p) e))) ⌝ }
+{
+    for e in 0..out.len() {
+        out[e] = p[e] ^ 1;
+    }
+}
+
+// `&`, where `both`, or `|`, from the truths of its parts.
 pub fn put_joined(
     out: &mut [u8],
-    kind: u8,
+    both: bool,
     p: &[u8; Interval::MAX_COUNT],
     q: &[u8; Interval::MAX_COUNT],
 )
     requires { ⌜ (length (now out) ≤ maxCount) × Binary (now p) × Binary (now q) ⌝ }
-    ensures { λ _. ⌜ new out ≡ tab (length (old out)) (λ e. bit (joined kind (highAt (old p) e) (highAt (old q) e))) ⌝ }
+    ensures { λ _. ⌜ new out ≡ tab (length (old out)) (λ e. bit (joined both (highAt (old p) e) (highAt (old q) e))) ⌝ }
 {
     for e in 0..out.len() {
-        out[e] = table::joined_byte(kind, p[e], q[e]);
+        out[e] = table::joined_byte(both, p[e], q[e]);
     }
-}
-
-// The word of a state assertion, from its truths.
-pub fn word_of(p: &[u8; Interval::MAX_COUNT], k: usize) -> u32
-    requires { ⌜ (k ≤ maxSteps) × Binary (now p) ⌝ }
-    ensures { λ r. ⌜ WordOf k (highAt (old p)) r ⌝ }
-{
-    let mut word: u32 = 0;
-    for t in 0..k {
-        word += (p[t] as u32) << t;
-    }
-    word
 }

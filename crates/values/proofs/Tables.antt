@@ -1,9 +1,10 @@
 -- A table put into a part of an assignment gives the truths in order: every place is an interval's, and its byte tells the truth there.
 -- Bytes that are bits are the table of the truths that they tell.
-use mathlib.Core.Path.{_≡_, sym, ap, _∙_}
-use mathlib.Core.Bool.{Bool}
+use mathlib.Core.Path.{_≡_, refl, sym, ap, _∙_}
+use mathlib.Core.Bool.{Bool, true, false}
 use mathlib.Core.List.{List}
-use Prim.Native.Nat.{ℕ, _≤_}
+use Prim.Native.Nat.{ℕ, _/_, _%_, _≤_}
+use lib.Dec.{eqb}
 use lib.ListN.{getD}
 use Rattle.interval.specs.Listing.{tab}
 use Rattle.interval.specs.Places.{countOf, placeOf}
@@ -12,6 +13,8 @@ use Rattle.interval.specs.declared.Interval.{Interval}
 use Rattle.interval.proofs.Counts.{count-le}
 use Rattle.interval.proofs.Laws.{intervals-numbered}
 use Rattle.grammar.specs.declared.Sort.the-variants.{Formula}
+use Rattle.meaning.specs.Meaning.{bit, bitAt, channelAt}
+use Rattle.word.specs.Word.{WordOf}
 use Rattle.table.specs.Table.{highAt, Binary, TableOf}
 use Rattle.assignments.specs.Extension.{truthValues}
 use Rattle.assignments.proofs.Values.{truth-tab}
@@ -30,3 +33,12 @@ table-values k f {n} {t} c T =
 
 pub bits-table : {k : ℕ} {p : List ℕ} → Binary p → TableOf k (onPlaces k (highAt p)) p
 bits-table {k} b = record { at = λ v o. b .at (placeOf k v) }
+
+-- and a word of their bits 0 is that of these truths
+pub bits-word : (k : ℕ) {p : List ℕ} {w : ℕ} → Binary p → WordOf k (channelAt p 0) w → WordOf k (highAt p) w
+unfolding channelAt bitAt
+bits-word k {p} b W = record { at = λ t l. W .at t l ∙ ap (λ (x : ℕ). eqb (x / 1 % 2) 1) (b .at t) ∙ low-bit (highAt p t) }
+  where
+    low-bit : (x : Bool) → eqb (bit x / 1 % 2) 1 ≡ x
+    low-bit true = refl
+    low-bit false = refl

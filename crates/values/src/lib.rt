@@ -2,6 +2,7 @@
 use blocks::Rule;
 use grammar::MAX_CHANNELS;
 use interval::Interval;
+use table::Measure;
 ghost use mathlib.Core.Path.{_≡_};
 ghost use mathlib.Core.Bool.{Bool};
 ghost use mathlib.Core.List.{_++_};
@@ -26,7 +27,7 @@ fn put_instant(out: &mut [u8], byte: u8)
     ensures { λ _. ⌜ new out ≡ tab (length (old out)) (λ c. bit (bitAt byte c)) ⌝ }
 {
     for c in 0..out.len() {
-        out[c] = truths::bit_of(byte, c);
+        out[c] = word::bit_of(byte, c);
     }
 }
 
@@ -52,9 +53,10 @@ fn put_levels(out: &mut [u8], n: u32, word: u32, k: usize)
     let mut at = 0;
     for c in 0..n + 1 {
         let end = at + count;
+        let level = c as u8;
         truths::put_table(
             &mut out[at..end],
-            &table::measured_table(7, c as u8, word, k),
+            &table::measured_table(Measure::AtLeast(level), word, k),
         );
         at = end;
     }
@@ -85,13 +87,16 @@ pub fn put_values(
     match rule {
         Rule::Fixed(up) => truths::put_table(out, &table::all_of(table::byte_of(up))),
         Rule::Letter(c) => truths::put_channel(out, recording, c as usize % MAX_CHANNELS),
-        Rule::Negation => truths::put_joined(out, 2, p, q),
-        Rule::And => truths::put_joined(out, 3, p, q),
-        Rule::Or => truths::put_joined(out, 4, p, q),
+        Rule::Negation => truths::put_inverse(out, p),
+        Rule::And => truths::put_joined(out, true, p, q),
+        Rule::Or => truths::put_joined(out, false, p, q),
         Rule::Chop => put_chop(out, p, q, k),
-        Rule::Duration(n) => put_levels(out, n, truths::word_of(p, k), k),
+        Rule::Duration(n) => put_levels(out, n, word::word_of(p, 0, k), k),
         Rule::Throughout => {
-            truths::put_table(out, &table::measured_table(8, 0, truths::word_of(p, k), k))
+            truths::put_table(
+                out,
+                &table::measured_table(Measure::Throughout, word::word_of(p, 0, k), k),
+            )
         }
         Rule::Cut => truths::put_table(out, &table::all_of(0)),
     }

@@ -132,20 +132,18 @@ all-high n k h = record {
       ∙ ap (λ (x : ℕ). eqb x 1) (ap (λ (x : ℕ). x % 2) (ones-split j 1) ∙ low (2 ^ j - 1) 1 (ones-lt 1));
 }
 
-pub word-constant : (n kind : ℕ) {k : ℕ} {v : Bool} → eqb kind 0 ≡ v → k ≤ n → WordOf k (λ t. not (eqb kind 0)) (cond v 0 (2 ^ n - 1))
+all-low : (k : ℕ) → WordOf k (λ t. false) 0
 unfolding bitAt
-word-constant n kind {k} {v} e h = simp e (go v)
-  where
-    go : (v : Bool) → WordOf k (λ t. not v) (cond v 0 (2 ^ n - 1))
-    go true = record { at = λ t l. ap (λ (x : ℕ). eqb (x % 2) 1) (zero-div (2 ^ t)) }
-    go false = all-high n k h
+all-low k = record { at = λ t l. ap (λ (x : ℕ). eqb (x % 2) 1) (zero-div (2 ^ t)) }
 
--- by what the two tests of the kind say: `!` compares with all ones
-pub word-joined : (n kind : ℕ) {k a b : ℕ} {f g : ℕ → Bool} {turns meets : Bool} → eqb kind 2 ≡ turns → eqb kind 3 ≡ meets → k ≤ n → WordOf k f a → WordOf k g b
-    → WordOf k (λ t. joined kind (f t) (g t)) (cond turns (bitXor a (2 ^ n - 1)) (cond meets (bitAnd a b) (bitOr a b)))
-word-joined n kind {k} {a} {b} {f} {g} {turns} {meets} e d h p q = simp (e, d) (go turns meets)
-  where
-    go : (x y : Bool) → WordOf k (λ t. cond x (not (f t)) (cond y (f t && g t) (f t || g t))) (cond x (bitXor a (2 ^ n - 1)) (cond y (bitAnd a b) (bitOr a b)))
-    go true y = bitwise bitXor (λ x y. cond y (not x) x) xor-shr xor-mod refl refl refl refl p (all-high n k h)
-    go false true = bitwise bitAnd _&&_ and-shr and-mod refl refl refl refl p q
-    go false false = bitwise bitOr _||_ or-shr or-mod refl refl refl refl p q
+pub word-constant : (n : ℕ) (up : Bool) {k : ℕ} → k ≤ n → WordOf k (λ t. up) (cond up (2 ^ n - 1) 0)
+word-constant n true {k} h = all-high n k h
+word-constant n false {k} h = all-low k
+
+-- a bit that differs from 1
+pub word-inverse : (n : ℕ) {k a : ℕ} {f : ℕ → Bool} → k ≤ n → WordOf k f a → WordOf k (λ t. not (f t)) (bitXor a (2 ^ n - 1))
+word-inverse n {k} h p = bitwise bitXor (λ x y. cond y (not x) x) xor-shr xor-mod refl refl refl refl p (all-high n k h)
+
+pub word-joined : (both : Bool) {k a b : ℕ} {f g : ℕ → Bool} → WordOf k f a → WordOf k g b → WordOf k (λ t. joined both (f t) (g t)) (cond both (bitAnd a b) (bitOr a b))
+word-joined true p q = bitwise bitAnd _&&_ and-shr and-mod refl refl refl refl p q
+word-joined false p q = bitwise bitOr _||_ or-shr or-mod refl refl refl refl p q

@@ -1,12 +1,11 @@
--- A truth at each instant as one number, and what a node that is not a leaf makes of its parts. Nothing here need be believed: no call open
--- to others cites it.
+-- A truth at each instant as one number, and what `&` and `|` make of their parts. Nothing here need be believed: no call open to others
+-- cites it.
 use mathlib.Core.Path.{_≡_}
-use mathlib.Core.Bool.{Bool, not, cond, _&&_, _||_}
+use mathlib.Core.Bool.{Bool, cond, _&&_, _||_}
 use mathlib.Core.List.{List}
 use Prim.Native.Nat.{ℕ, _-_, _^_, _≤_, _<_}
 use lib.ListN.{getD}
 use Rattle.interval.specs.Limits.{maxSteps}
-use lib.Dec.{eqb}
 use Rattle.meaning.specs.Meaning.{bitAt}
 
 -- w has, at each instant below k, 1 where f is true
@@ -17,6 +16,6 @@ pub record WordOf (k : ℕ) (f : ℕ → Bool) (w : ℕ) : Type 0 where
 pub record Lows (lows : List ℕ) : Type 0 where
   pub before : (n : ℕ) → n ≤ maxSteps → getD lows n 0 ≡ 2 ^ n - 1
 
--- what `!` (2), `&` (3) and `|` (4, or any other) make of their parts: a node's kinds are so numbered; `!` has one part, the first
-abbrev pub joined : ℕ → Bool → Bool → Bool
-joined kind a b = cond (eqb kind 2) (not a) (cond (eqb kind 3) (a && b) (a || b))
+-- what `&`, where `both`, or `|` makes of its parts
+abbrev pub joined : Bool → Bool → Bool → Bool
+joined both a b = cond both (a && b) (a || b)

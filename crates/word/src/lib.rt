@@ -3,7 +3,6 @@ use interval::Interval;
 ghost use mathlib.Core.Path.{_≡_};
 ghost use mathlib.Core.Bool.{Bool, not};
 ghost use Prim.Native.Nat.{ℕ, _-_, _^_, _≤_, _<_};
-ghost use lib.Dec.{eqb};
 ghost use lib.ListN.{length};
 ghost use Rattle.moments.specs.Moments.{old};
 ghost use Rattle.interval.specs.Limits.{maxSteps};
@@ -49,42 +48,43 @@ pub fn count_high(lows: &[u32; Interval::MAX_ENDS], word: u32, i: usize, j: usiz
     u32::count_ones(word & window(lows, i, j))
 }
 
-// 1 where channel c is high at instant t.
-fn high_at(recording: &[u8], c: usize, t: usize) -> u32
-    requires { ⌜ (t < length (now recording)) × (c < maxChannels) ⌝ }
-    ensures { λ r. ⌜ r ≡ bit (channelAt (old recording) c t) ⌝ }
+// 1 where bit c of a byte is.
+pub fn bit_of(byte: u8, c: usize) -> u8
+    requires { ⌜ c < maxChannels ⌝ }
+    ensures { λ r. ⌜ r ≡ bit (bitAt byte c) ⌝ }
 {
-    ((recording[t] >> c) % 2) as u32
+    (byte >> c) % 2
 }
 
-// A letter's word: channel c at each instant.
-pub fn channel_word(recording: &[u8], c: usize) -> u32
-    requires { ⌜ (length (now recording) ≤ maxSteps) × (c < maxChannels) ⌝ }
-    ensures { λ r. ⌜ WordOf (length (old recording)) (channelAt (old recording) c) r ⌝ }
+// Bit c of each of k bytes as one word: a letter's, by its channel, from a recording; by bit 0 that of truths kept as bytes, 0 or 1.
+pub fn word_of(bytes: &[u8], c: usize, k: usize) -> u32
+    requires { ⌜ (k ≤ length (now bytes)) × (k ≤ maxSteps) × (c < maxChannels) ⌝ }
+    ensures { λ r. ⌜ WordOf k (channelAt (old bytes) c) r ⌝ }
 {
     let mut word: u32 = 0;
-    for t in 0..recording.len() {
-        word += high_at(recording, c, t) << t;
+    for t in 0..k {
+        word += (bit_of(bytes[t], c) as u32) << t;
     }
     word
 }
 
-// The word of `F`, of kind 0, or of `T`.
-pub fn constant_word(kind: u8) -> u32
-    ensures { λ r. ⌜ ((k : ℕ) → k ≤ maxSteps → WordOf k (λ t. not (eqb kind 0)) r) ⌝ }
+// The word of `T`, where `up`, or of `F`.
+pub fn constant_word(up: bool) -> u32
+    ensures { λ r. ⌜ ((k : ℕ) → k ≤ maxSteps → WordOf k (λ t. up) r) ⌝ }
 {
-    if kind == 0 { 0 } else { u32::MAX }
+    if up { u32::MAX } else { 0 }
 }
 
-// The word of `!`, `&` or `|`, by kind, from the words of its parts; `!` has one.
-pub fn joined_word(kind: u8, a: u32, b: u32) -> u32
-    ensures { λ r. ⌜ ((k : ℕ) (f g : ℕ → Bool) → k ≤ maxSteps → WordOf k f a → WordOf k g b → WordOf k (λ t. joined kind (f t) (g t)) r) ⌝ }
+// The word of `!`, from that of its part.
+pub fn inverse_word(a: u32) -> u32
+    ensures { λ r. ⌜ ((k : ℕ) (f : ℕ → Bool) → k ≤ maxSteps → WordOf k f a → WordOf k (λ t. not (f t)) r) ⌝ }
 {
-    if kind == 2 {
-        a ^ u32::MAX
-    } else if kind == 3 {
-        a & b
-    } else {
-        a | b
-    }
+    a ^ u32::MAX
+}
+
+// The word of `&`, where `both`, or of `|`, from those of its parts.
+pub fn joined_word(both: bool, a: u32, b: u32) -> u32
+    ensures { λ r. ⌜ ((k : ℕ) (f g : ℕ → Bool) → WordOf k f a → WordOf k g b → WordOf k (λ t. joined both (f t) (g t)) r) ⌝ }
+{
+    if both { a & b } else { a | b }
 }

@@ -1,14 +1,15 @@
 -- `word_at` gives, for every tree that stands at the row, the word of its truth: by kind, from the words of the parts (Steps.antt).
 -- It ends, since a node with parts stands in the table and its parts stand after it.
 use mathlib.Core.Path.{sym, _∙_}
+use mathlib.Core.Bool.{true, false}
 use Prim.Native.Nat.{_-_, ℕ, _<_}
 use lib.ListN.{length}
 use native.Mathlib.Nat.{mod-lt}
-use native.Mathlib.Numerals.{lt-of-le-of-ne}
 use Rattle.grammar.specs.Limits.{maxNodes}
 use Rattle.grammar.specs.declared.Sort.the-variants.{State}
 use Rattle.word.specs.Word.{WordOf}
-use Rattle.evaluator.proofs.Steps.{constant-step, negation-step, pair-step, letter-step, state-link, within}
+use Rattle.evaluator.proofs.Seen.{beyond-negation, Joins}
+use Rattle.evaluator.proofs.Steps.{Kind, constant-step, negation-step, pair-step, letter-step, state-link, within}
 use borrow.Author.Needs.{needs}
 use native.Mathlib.Omega.{arith}
 use borrow.Fn.Kinds.{In}
@@ -18,9 +19,10 @@ use Rattle.evaluator.proofs.word_at.Kinds as word-at-kinds
 use Rattle.evaluator.proofs.+word_at.Lts-word_at as word-at-lts
 use Rattle.nodes.proofs.second.Reads as second-reads
 use Rattle.rows.proofs.byte_at.Reads as byte-at-reads
-use Rattle.word.proofs.channel_word.Reads as channel-word-reads
 use Rattle.word.proofs.constant_word.Reads as constant-word-reads
+use Rattle.word.proofs.inverse_word.Reads as inverse-word-reads
 use Rattle.word.proofs.joined_word.Reads as joined-word-reads
+use Rattle.word.proofs.word_of.Reads as word-of-reads
 use Rattle.evaluator.proofs.+word_at.{statement}
 use Rattle.evaluator.proofs.+word_at.Tie.{close}
 
@@ -34,11 +36,20 @@ abbrev word-at-below : ℕ → In 2 word-at-kinds.ps
 word-at-below t = and 2 word-at-kinds.ps (falls 2 word-at-kinds.ps _<_ μ-word-at t) word-at.Pre
 
 abbrev calls : ℕ → word-at-lts.Claims
-calls t = (byte-at-reads.Asked, byte-at-reads.Learnt, constant-word-reads.Asked, constant-word-reads.Learnt, channel-word-reads.Asked, channel-word-reads.Learnt, word-at-below t, word-at.Post, joined-word-reads.Asked, joined-word-reads.Learnt, second-reads.Asked, second-reads.Learnt)
+calls t = (byte-at-reads.Asked, byte-at-reads.Learnt, constant-word-reads.Asked, constant-word-reads.Learnt, word-of-reads.Asked, word-of-reads.Learnt, word-at-below t, word-at.Post, inverse-word-reads.Asked, inverse-word-reads.Learnt, second-reads.Asked, second-reads.Learnt, joined-word-reads.Asked, joined-word-reads.Learnt)
 
 -- a node with parts stands in the table
 here : (t : ℕ) (c : word-at-lts.After-byte-at (calls t) (word-at-at t) word-at.Post) → 0 < c .byte-at .result → c .before .before .before .args .x < maxNodes
 here t c h = within (c .before .before .before .args .kinds .now) (c .before .before .before .args .x) maxNodes (c .before .byte-at-arg .given .0) (omega (arith, c .byte-at .ensures))
+
+-- what is read there is the row's kind
+kind : (t : ℕ) (c : word-at-lts.After-byte-at (calls t) (word-at-at t) word-at.Post) → let a = c .before .before .before .args in
+    Kind (a .recording .now) (a .kinds .now) (a .numbers .now) (a .sizes .now) State (a .x) (c .byte-at .result)
+kind t c = λ x w. omega (arith, c .byte-at .ensures)
+
+-- the last arm is that of two parts
+joins : (t : ℕ) (c : word-at-lts.At-match-rest (calls t) (word-at-at t) word-at.Post) → Joins State (c .before .byte-at .result)
+joins t c = let o = c .match .rest in (beyond-negation _ (o .0 .0 .0 .1) (o .0 .0 .1) (o .1), o .0 .1)
 
 word-at-byte-at-requires : (t : ℕ) → word-at-lts.Need-byte-at-requires (calls t) (word-at-at t) word-at.Post
 word-at-byte-at-requires t c κs = search needs
@@ -48,56 +59,71 @@ word-at-constant-word-requires t c κs = search needs
 
 word-at-returns : (t : ℕ) → word-at-lts.Need-returns (calls t) (word-at-at t) word-at.Post
 word-at-returns t c =
-    let a = c .before .before .before .before .before .args in
-    constant-step (a .recording .now) (a .kinds .now) (a .numbers .now) (a .sizes .now) State (a .x) _ (omega (arith, c .before .before .byte-at .ensures))
-    (λ f. WordOf (length (a .recording .now)) f (c .constant-word .result)) (c .before .if1 .taken) (c .constant-word .ensures _ (c .before .before .before .before .before .pre .1))
+    let s = c .before .before .before .before .before in
+    let a = s .args in
+    constant-step (a .recording .now) (a .kinds .now) (a .numbers .now) (a .sizes .now) State (a .x) _ (kind t (c .before .before)) (λ f. WordOf (length (a .recording .now)) f (c .constant-word .result)) false (c .before .match .keys1) (c .constant-word .ensures _ (s .pre .1))
+
+word-at-constant-word-requires-2 : (t : ℕ) → word-at-lts.Need-constant-word-requires-2 (calls t) (word-at-at t) word-at.Post
+word-at-constant-word-requires-2 t c κs = search needs
+
+word-at-returns-2 : (t : ℕ) → word-at-lts.Need-returns-2 (calls t) (word-at-at t) word-at.Post
+word-at-returns-2 t c =
+    let s = c .before .before .before .before .before in
+    let a = s .args in
+    constant-step (a .recording .now) (a .kinds .now) (a .numbers .now) (a .sizes .now) State (a .x) _ (kind t (c .before .before)) (λ f. WordOf (length (a .recording .now)) f (c .constant-word2 .result)) true (c .before .match .keys2) (c .constant-word2 .ensures _ (s .pre .1))
 
 word-at-byte-at-requires-2 : (t : ℕ) → word-at-lts.Need-byte-at-requires-2 (calls t) (word-at-at t) word-at.Post
 word-at-byte-at-requires-2 t c κs = search needs
 
-word-at-cast-channel-word : (t : ℕ) → word-at-lts.Need-cast-channel-word (calls t) (word-at-at t) word-at.Post
-word-at-cast-channel-word t c = search needs
+word-at-cast-c : (t : ℕ) → word-at-lts.Need-cast-c (calls t) (word-at-at t) word-at.Post
+word-at-cast-c t c = search needs
 
-word-at-channel-word-requires : (t : ℕ) → word-at-lts.Need-channel-word-requires (calls t) (word-at-at t) word-at.Post
-word-at-channel-word-requires t c κs = (c .before .before .before .before .before .before .before .pre .1, mod-lt (c .byte-at2 .result) (omega arith))
+word-at-word-of-requires : (t : ℕ) → word-at-lts.Need-word-of-requires (calls t) (word-at-at t) word-at.Post
+word-at-word-of-requires t c κs = (omega arith, c .before .before .before .before .before .before .pre .1, mod-lt (c .byte-at2 .result) (omega arith))
 
-word-at-returns-2 : (t : ℕ) → word-at-lts.Need-returns-2 (calls t) (word-at-at t) word-at.Post
-word-at-returns-2 t c =
-    let a = c .before .before .before .before .before .before .before .before .args in
-    letter-step (a .recording .now) (a .kinds .now) (a .numbers .now) (a .sizes .now) (a .x) _ (λ f. WordOf (length (a .recording .now)) f (c .channel-word .result))
-    (sym (c .before .before .before .before .before .byte-at .ensures) ∙ c .before .before .before .if2 .taken) (c .before .byte-at2 .ensures) (c .channel-word .ensures)
+word-at-returns-3 : (t : ℕ) → word-at-lts.Need-returns-3 (calls t) (word-at-at t) word-at.Post
+word-at-returns-3 t c =
+    let s = c .before .before .before .before .before .before .before in
+    let a = s .args in
+    letter-step (a .recording .now) (a .kinds .now) (a .numbers .now) (a .sizes .now) (a .x) _ (λ f. WordOf (length (a .recording .now)) f (c .word-of .result)) (sym (c .before .before .before .before .byte-at .ensures) ∙ c .before .before .before .match .keys3) (c .before .byte-at2 .ensures) (c .word-of .ensures)
 
 word-at-add-word-at : (t : ℕ) → word-at-lts.Need-add-word-at (calls t) (word-at-at t) word-at.Post
-word-at-add-word-at t c = omega (arith, here t (c .before .before) (omega arith))
+word-at-add-word-at t c = omega (arith, here t (c .before) (omega (arith, c .match .keys4)))
 
 word-at-word-at-requires : (t : ℕ) → word-at-lts.Need-word-at-requires (calls t) (word-at-at t) word-at.Post
-word-at-word-at-requires t c κs = (omega (arith, here t (c .before .before) (omega arith), c .before .before .before .before .before .pre .0), c .before .before .before .before .before .pre .1)
+word-at-word-at-requires t c κs = (omega (arith, here t (c .before) (omega (arith, c .match .keys4)), c .before .before .before .before .pre .0), c .before .before .before .before .pre .1)
+
+word-at-inverse-word-requires : (t : ℕ) → word-at-lts.Need-inverse-word-requires (calls t) (word-at-at t) word-at.Post
+word-at-inverse-word-requires t c κs = search needs
+
+word-at-returns-4 : (t : ℕ) → word-at-lts.Need-returns-4 (calls t) (word-at-at t) word-at.Post
+word-at-returns-4 t c =
+    let s = c .before .before .before .before .before .before in
+    let a = s .args in
+    negation-step (a .recording .now) (a .kinds .now) (a .numbers .now) (a .sizes .now) State (a .x) _ (kind t (c .before .before .before)) (λ f. WordOf (length (a .recording .now)) f (c .inverse-word .result)) (λ f. WordOf (length (a .recording .now)) f (c .before .word-at .result)) (c .before .before .match .keys4)
+    (λ f. c .inverse-word .ensures _ f (s .pre .1)) (c .before .word-at .ensures)
+
+word-at-add-word-at-2 : (t : ℕ) → word-at-lts.Need-add-word-at-2 (calls t) (word-at-at t) word-at.Post
+word-at-add-word-at-2 t c = omega (arith, here t (c .before) (omega (arith, joins t c .0)))
+
+word-at-word-at-requires-2 : (t : ℕ) → word-at-lts.Need-word-at-requires-2 (calls t) (word-at-at t) word-at.Post
+word-at-word-at-requires-2 t c κs = (omega (arith, here t (c .before) (omega (arith, joins t c .0)), c .before .before .before .before .pre .0), c .before .before .before .before .pre .1)
+
+word-at-second-requires : (t : ℕ) → word-at-lts.Need-second-requires (calls t) (word-at-at t) word-at.Post
+word-at-second-requires t c κs = here t (c .before .before) (omega (arith, joins t (c .before) .0))
+
+word-at-word-at-requires-3 : (t : ℕ) → word-at-lts.Need-word-at-requires-3 (calls t) (word-at-at t) word-at.Post
+word-at-word-at-requires-3 t c κs = (omega (arith, here t (c .before .before .before) (omega (arith, joins t (c .before .before) .0)), c .second .ensures, c .before .before .before .before .before .before .pre .0), c .before .before .before .before .before .before .pre .1)
 
 word-at-joined-word-requires : (t : ℕ) → word-at-lts.Need-joined-word-requires (calls t) (word-at-at t) word-at.Post
 word-at-joined-word-requires t c κs = search needs
 
-word-at-returns-3 : (t : ℕ) → word-at-lts.Need-returns-3 (calls t) (word-at-at t) word-at.Post
-word-at-returns-3 t c =
-    let a = c .before .before .before .before .before .before .before .before .args in
-    negation-step (a .recording .now) (a .kinds .now) (a .numbers .now) (a .sizes .now) State (a .x) _ (omega (arith, c .before .before .before .before .before .byte-at .ensures))
-    (λ f. WordOf (length (a .recording .now)) f (c .joined-word .result)) (λ f. WordOf (length (a .recording .now)) f (c .before .before .word-at .result))
-    (c .before .if3 .taken) (λ f g. c .joined-word .ensures _ f g (c .before .before .before .before .before .before .before .before .pre .1)) (c .before .before .word-at .ensures)
-
-word-at-second-requires : (t : ℕ) → word-at-lts.Need-second-requires (calls t) (word-at-at t) word-at.Post
-word-at-second-requires t c κs = here t (c .before .before .before .before) (omega arith)
-
-word-at-word-at-requires-2 : (t : ℕ) → word-at-lts.Need-word-at-requires-2 (calls t) (word-at-at t) word-at.Post
-word-at-word-at-requires-2 t c κs = (omega (arith, here t (c .before .before .before .before .before) (omega arith), c .second .ensures, c .before .before .before .before .before .before .before .before .pre .0), c .before .before .before .before .before .before .before .before .pre .1)
-
-word-at-joined-word-requires-2 : (t : ℕ) → word-at-lts.Need-joined-word-requires-2 (calls t) (word-at-at t) word-at.Post
-word-at-joined-word-requires-2 t c κs = search needs
-
-word-at-returns-4 : (t : ℕ) → word-at-lts.Need-returns-4 (calls t) (word-at-at t) word-at.Post
-word-at-returns-4 t c =
-    let a = c .before .before .before .before .before .before .before .before .before .before .args in
-    pair-step (a .recording .now) (a .kinds .now) (a .numbers .now) (a .sizes .now) State (a .x) (c .before .before .before .before .before .before .before .byte-at .result) (omega (arith, c .before .before .before .before .before .before .before .byte-at .ensures))
-    (λ f. WordOf (length (a .recording .now)) f (c .joined-word2 .result)) (λ f. WordOf (length (a .recording .now)) f (c .before .before .before .before .word-at .result)) (λ f. WordOf (length (a .recording .now)) f (c .before .word-at2 .result))
-    _ (lt-of-le-of-ne (omega arith) (λ e. c .before .before .before .if3 .left (c .before .before .before .before .before .before .before .byte-at .ensures ∙ sym e)), λ e. c .before .before .before .before .before .if2 .left (c .before .before .before .before .before .before .before .byte-at .ensures ∙ e)) (λ l e. state-link l) (c .before .before .second .ensures .0) (λ f g. c .joined-word2 .ensures _ f g (c .before .before .before .before .before .before .before .before .before .before .pre .1)) (c .before .before .before .before .word-at .ensures) (c .before .word-at2 .ensures)
+word-at-returns-5 : (t : ℕ) → word-at-lts.Need-returns-5 (calls t) (word-at-at t) word-at.Post
+word-at-returns-5 t c =
+    let s = c .before .before .before .before .before .before .before .before in
+    let a = s .args in
+    pair-step (a .recording .now) (a .kinds .now) (a .numbers .now) (a .sizes .now) State (a .x) _ (kind t (c .before .before .before .before .before)) (λ f. WordOf (length (a .recording .now)) f (c .joined-word .result)) (λ f. WordOf (length (a .recording .now)) f (c .before .before .before .word-at2 .result)) (λ f. WordOf (length (a .recording .now)) f (c .before .word-at3 .result)) _
+    (joins t (c .before .before .before .before)) (λ l e. state-link l) (c .before .before .second .ensures .0) (c .joined-word .ensures _) (c .before .before .before .word-at2 .ensures) (c .before .word-at3 .ensures)
 
 pub +word-at-spec : {M : Type 1} → statement M
 +word-at-spec = close μ-word-at λ t. word-at-lts.spec (calls t)
@@ -106,15 +132,19 @@ pub +word-at-spec : {M : Type 1} → statement M
     (word-at-byte-at-requires t)
     (word-at-constant-word-requires t)
     (word-at-returns t)
-    (word-at-byte-at-requires-2 t)
-    (word-at-cast-channel-word t)
-    (word-at-channel-word-requires t)
+    (word-at-constant-word-requires-2 t)
     (word-at-returns-2 t)
+    (word-at-byte-at-requires-2 t)
+    (word-at-cast-c t)
+    (word-at-word-of-requires t)
+    (word-at-returns-3 t)
     (word-at-add-word-at t)
     (word-at-word-at-requires t)
-    (word-at-joined-word-requires t)
-    (word-at-returns-3 t)
-    (word-at-second-requires t)
-    (word-at-word-at-requires-2 t)
-    (word-at-joined-word-requires-2 t)
+    (word-at-inverse-word-requires t)
     (word-at-returns-4 t)
+    (word-at-add-word-at-2 t)
+    (word-at-word-at-requires-2 t)
+    (word-at-second-requires t)
+    (word-at-word-at-requires-3 t)
+    (word-at-joined-word-requires t)
+    (word-at-returns-5 t)

@@ -1,17 +1,16 @@
--- `ask_recording` tests what its definition tests:
--- each branch is the one that the test chooses.
+-- `ask_recording` asks what its definition asks:
+-- whether the recording has k bytes.
+use borrow.Author.Needs.{needs}
 use Rattle.evaluator.specs.Evaluation.{askRecording}
-use borrow.Author.Tests.{eq-eqb, ne-eqb}
 use Rattle.evaluator.proofs.ask_recording.Statement.{statement}
 use Rattle.evaluator.proofs.ask_recording.Tie as tie
 
+ask-requires : tie.Need-ask-requires
+ask-requires c κs = search needs
+
 returns : tie.Need-returns
 unfolding askRecording
-returns c = simp (eq-eqb _ _ (c .if1 .taken))
-
-returns-2 : tie.Need-returns-2
-unfolding askRecording
-returns-2 c = simp (ne-eqb _ _ (c .if1 .left))
+returns c = c .ask .ensures
 
 pub ask-recording-spec : {M : Type 1} → statement M
-ask-recording-spec = tie.close (tie.spec returns returns-2)
+ask-recording-spec = tie.close (tie.spec ask-requires returns)

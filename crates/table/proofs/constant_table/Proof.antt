@@ -1,6 +1,6 @@
 -- `constant_table` has the same truth at every place,
 -- so at that of every interval.
-use Rattle.table.proofs.Measure.{constant-places}
+use Rattle.table.proofs.Measuring.{constant-places}
 use borrow.Author.Needs.{needs}
 use Rattle.table.proofs.constant_table.Statement.{statement}
 use Rattle.table.proofs.constant_table.Tie as tie

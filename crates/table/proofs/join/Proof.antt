@@ -13,10 +13,10 @@ use Rattle.table.proofs.join.Statement.{statement}
 use Rattle.table.proofs.join.Tie as tie
 
 abbrev Inv-loop : tie.InvT-loop
-Inv-loop kind p₀ q k x₀ x-end p x = (x-end ≡ countOf k) × (x ≤ countOf k) × (countOf k ≤ length p₀) × Upto (length p₀) (λ y. joinedByte kind (getD p₀ y 0) (getD q y 0)) (λ y. getD p₀ y 0) x p
+Inv-loop both p₀ q k x₀ x-end p x = (x-end ≡ countOf k) × (x ≤ countOf k) × (countOf k ≤ length p₀) × Upto (length p₀) (λ y. joinedByte both (getD p₀ y 0) (getD q y 0)) (λ y. getD p₀ y 0) x p
 
 abbrev μ-loop : tie.MeasureT-loop
-μ-loop kind p₀ q k x₀ x-end p x = countOf k - x
+μ-loop both p₀ q k x₀ x-end p x = countOf k - x
 
 count-requires : tie.Need-count-requires Inv-loop μ-loop
 count-requires c κs = search needs
@@ -44,13 +44,13 @@ loop-less c = search needs
 
 loop-again : tie.Need-loop-again Inv-loop μ-loop
 loop-again c = let l = c .before .before .before .before .loop in
-    (l .inv .0, omega arith, l .inv .2, turn _ _ _ _ _ _ (l .inv .3) (search needs) (c .joined-byte .ensures ∙ ap₂ (joinedByte (c .before .before .before .before .before .before .before .before .args .kind)) (l .inv .3 .beyond (l .x) (omega arith)) refl))
+    (l .inv .0, omega arith, l .inv .2, turn _ _ _ _ _ _ (l .inv .3) (search needs) (c .joined-byte .ensures ∙ ap₂ (joinedByte (c .before .before .before .before .before .before .before .before .args .both)) (l .inv .3 .beyond (l .x) (omega arith)) refl))
 
 same-length : tie.Need-same-length Inv-loop μ-loop
 same-length c = search needs
 
 returns : tie.Need-returns Inv-loop μ-loop
-returns c = λ f g P Q. joined-tables _ (c .before .before .before .before .before .args .kind) _ _ _ _ _ _ (c .before .loop .inv .3) (omega (arith, c .before .loop .inv, c .loop-test .left)) f g P Q
+returns c = λ f g P Q. joined-tables _ _ _ _ _ _ (omega (arith, c .before .loop .inv, c .loop-test .left)) (c .before .before .before .before .before .args .both) _ (c .before .loop .inv .3) f g P Q
 
 pub join-spec : {M : Type 1} → statement M
 join-spec =

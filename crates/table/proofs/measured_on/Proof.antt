@@ -1,6 +1,6 @@
 -- `measured_on` compares the count of ones under the interval's window with how many must be high:
--- n of them for a duration, and every instant is high exactly where as many are (Measure.antt).
-use Rattle.table.proofs.Measure.{measured-least}
+-- n of them for a duration, and every instant is high exactly where as many are (Measuring.antt).
+use Rattle.table.proofs.Measuring.{measured-least}
 use Rattle.meaning.specs.Meaning.{bit, bitAt}
 use lib.Dec.{leb}
 use mathlib.Core.Path.{ap, ap₂, _∙_}
@@ -19,7 +19,7 @@ byte-of-requires c κs = search needs
 
 returns : tie.Need-returns
 returns c = let a = c .before .before .before .args in
-    c .byte-of .ensures ∙ ap bit (ap₂ leb (c .before .least-on .ensures) (c .before .before .count-high .ensures .0) ∙ measured-least (a .kind) (a .n) (bitAt (a .word)) (record { i = a .i; j = a .j }))
+    c .byte-of .ensures ∙ ap bit (ap₂ leb (c .before .least-on .ensures) (c .before .before .count-high .ensures .0) ∙ measured-least (a .measure) (bitAt (a .word)) (record { i = a .i; j = a .j }))
 
 pub measured-on-spec : {M : Type 1} → statement M
 measured-on-spec =

@@ -12,10 +12,10 @@ use Rattle.table.proofs.measured_row.Statement.{statement}
 use Rattle.table.proofs.measured_row.Tie as tie
 
 abbrev Inv-loop : tie.InvT-loop
-Inv-loop row₀ kind n lows word i d₀ d-end row d = (d-end ≡ length row₀) × (d ≤ length row₀) × Upto (length row₀) (λ y. bit (measured kind n (bitAt word) (record { i = i; j = i + y }))) (λ y. getD row₀ y 0) d row
+Inv-loop row₀ measure lows word i d₀ d-end row d = (d-end ≡ length row₀) × (d ≤ length row₀) × Upto (length row₀) (λ y. bit (measured measure (bitAt word) (record { i = i; j = i + y }))) (λ y. getD row₀ y 0) d row
 
 abbrev μ-loop : tie.MeasureT-loop
-μ-loop row₀ kind n lows word i d₀ d-end row d = length row₀ - d
+μ-loop row₀ measure lows word i d₀ d-end row d = length row₀ - d
 
 loop-holds : tie.Need-loop-holds Inv-loop μ-loop
 loop-holds c = (refl, omega arith, begun _ _ _ _ refl (λ y. refl))

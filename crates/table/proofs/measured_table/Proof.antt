@@ -14,10 +14,10 @@ use Rattle.table.proofs.measured_table.Statement.{statement}
 use Rattle.table.proofs.measured_table.Tie as tie
 
 abbrev Inv-loop : tie.InvT-loop
-Inv-loop kind n word k lows t₀ start₀ i₀ i-end t start i = (i-end ≡ suc k) × Filled maxCount k i start t × RowsOf k (measured kind n (bitAt word)) i t
+Inv-loop measure word k lows t₀ start₀ i₀ i-end t start i = (i-end ≡ suc k) × Filled maxCount k i start t × RowsOf k (measured measure (bitAt word)) i t
 
 abbrev μ-loop : tie.MeasureT-loop
-μ-loop kind n word k lows t₀ start₀ i₀ i-end t start i = suc k - i
+μ-loop measure word k lows t₀ start₀ i₀ i-end t start i = suc k - i
 
 lows-requires : tie.Need-lows-requires Inv-loop μ-loop
 lows-requires c κs = search needs

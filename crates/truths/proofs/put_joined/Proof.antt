@@ -13,10 +13,10 @@ use Rattle.truths.proofs.put_joined.Statement.{statement}
 use Rattle.truths.proofs.put_joined.Tie as tie
 
 abbrev Inv-loop : tie.InvT-loop
-Inv-loop out₀ kind p q e₀ e-end out e = Filled (λ y. bit (joined kind (highAt p y) (highAt q y))) (length out₀) e out
+Inv-loop out₀ both p q e₀ e-end out e = Filled (λ y. bit (joined both (highAt p y) (highAt q y))) (length out₀) e out
 
 abbrev μ-loop : tie.MeasureT-loop
-μ-loop out₀ kind p q e₀ e-end out e = length out₀ - e
+μ-loop out₀ both p q e₀ e-end out e = length out₀ - e
 
 loop-holds : tie.Need-loop-holds Inv-loop μ-loop
 loop-holds c = begun refl
@@ -43,8 +43,8 @@ loop-again : tie.Need-loop-again Inv-loop μ-loop
 loop-again c =
     let s = c .before .before .before .before .before .before in
     let l = c .before .before .before .before .loop in
-    let both = ap₂ (joinedByte (s .args .kind)) (s .pre .1 .at (l .e)) (s .pre .2 .at (l .e)) in
-    let joins = joined-bits (s .args .kind) (highAt (s .args .p .now) (l .e)) (highAt (s .args .q .now) (l .e)) in
+    let both = ap₂ (joinedByte (s .args .both)) (s .pre .1 .at (l .e)) (s .pre .2 .at (l .e)) in
+    let joins = joined-bits (s .args .both) (highAt (s .args .p .now) (l .e)) (highAt (s .args .q .now) (l .e)) in
     turn (l .inv) (search needs) (c .joined-byte .ensures ∙ both ∙ joins)
 
 same-length : tie.Need-same-length Inv-loop μ-loop

@@ -7,7 +7,8 @@ use Rattle.interval.specs.Places.{countOf}
 use Rattle.grammar.specs.declared.Sort.the-variants.{Formula}
 use Rattle.meaning.specs.Meaning.{bitAt, lasts}
 use Rattle.word.specs.Word.{WordOf}
-use Rattle.table.proofs.Measure.{measured-word}
+use Rattle.table.specs.declared.Measure.the-variants.{AtLeast}
+use Rattle.table.proofs.Measuring.{measured-word}
 use Rattle.assignments.specs.Extension.{truthValues}
 use Rattle.cuts.proofs.Parts.{Parts, begun-even, room, part-length, turn, done}
 use Rattle.values.proofs.Tables.{table-values}
@@ -40,6 +41,9 @@ loop-holds c = (omega arith, λ f W. begun-even (λ n. truth-length Formula _ (l
 add-end : tie.Need-add-end Inv-loop μ-loop
 add-end c = omega (arith, room (sofar (c .before)) (omega arith), sofar (c .before) .long)
 
+cast-level : tie.Need-cast-level Inv-loop μ-loop
+cast-level c = search needs
+
 sub-put-table : tie.Need-sub-put-table Inv-loop μ-loop
 sub-put-table c = search needs
 
@@ -48,9 +52,6 @@ part-put-table-start c = search needs
 
 part-put-table-end : tie.Need-part-put-table-end Inv-loop μ-loop
 part-put-table-end c = omega (arith, room (sofar (c .before)) (omega arith))
-
-cast-measured-table : tie.Need-cast-measured-table Inv-loop μ-loop
-cast-measured-table c = search needs
 
 measured-table-requires : tie.Need-measured-table-requires Inv-loop μ-loop
 measured-table-requires c κs = search needs
@@ -73,7 +74,7 @@ loop-again c = let a = c .before .before .before .before .before .before .before
       λ f W.
           let p = l .inv .1 f W in
           let o : l .at + c .before .before .before .before .before .before .before .before .count .result ≡ l .at + countOf (a .k) = omega arith in
-          turn p (omega arith) _ o (c .before .before .put-table .ensures ∙ table-values (a .k) (lasts (l .c) f) (part-length p (omega arith) _ o) (measured-word (a .k) 7 (l .c) (a .word) f _ W (t .ensures))),
+          turn p (omega arith) _ o (c .before .before .put-table .ensures ∙ table-values (a .k) (lasts (l .c) f) (part-length p (omega arith) _ o) (measured-word (a .k) (AtLeast (l .c)) (a .word) f _ W (t .ensures))),
     )
 
 same-length : tie.Need-same-length Inv-loop μ-loop
@@ -92,10 +93,10 @@ put-levels-spec =
     add-c-end
     loop-holds
     add-end
+    cast-level
     sub-put-table
     part-put-table-start
     part-put-table-end
-    cast-measured-table
     measured-table-requires
     put-table-requires
     add-c

@@ -5,10 +5,11 @@ use native.Mathlib.Omega.{arith}
 use lib.ListN.{length}
 use Rattle.meaning.specs.Meaning.{fills}
 use Rattle.table.specs.Table.{highAt}
-use Rattle.table.proofs.Measure.{measured-word}
+use Rattle.table.specs.declared.Measure.the-variants.{Throughout}
+use Rattle.table.proofs.Measuring.{measured-word}
 use Rattle.blocks.specs.declared.Rule.{Rule}
 use Rattle.values.specs.Values.{valuesBy, Fits}
-use Rattle.values.proofs.Tables.{few-intervals, table-values}
+use Rattle.values.proofs.Tables.{few-intervals, table-values, bits-word}
 use Rattle.values.proofs.Rules.{values-by, same-values}
 use borrow.Author.Needs.{needs}
 use Rattle.values.proofs.put_values.Statement.{statement}
@@ -42,20 +43,20 @@ put-channel-requires c κs = search needs
 enum-told : tie.Need-enum-told
 enum-told c = search needs
 
-put-joined-requires : tie.Need-put-joined-requires
-put-joined-requires c κs = (fits (c .before .before .before .before .before) (c .before .enum-told .given .1), c .before .before .before .before .before .pre .2, c .before .before .before .before .before .pre .3)
+put-inverse-requires : tie.Need-put-inverse-requires
+put-inverse-requires c κs = (fits (c .before .before .before .before .before) (c .before .enum-told .given .1), c .before .before .before .before .before .pre .2)
 
 enum-told-2 : tie.Need-enum-told-2
 enum-told-2 c = search needs
 
-put-joined-requires-2 : tie.Need-put-joined-requires-2
-put-joined-requires-2 c κs = (fits (c .before .before .before .before .before) (c .before .enum-told2 .given .1), c .before .before .before .before .before .pre .2, c .before .before .before .before .before .pre .3)
+put-joined-requires : tie.Need-put-joined-requires
+put-joined-requires c κs = (fits (c .before .before .before .before .before) (c .before .enum-told2 .given .1), c .before .before .before .before .before .pre .2, c .before .before .before .before .before .pre .3)
 
 enum-told-3 : tie.Need-enum-told-3
 enum-told-3 c = search needs
 
-put-joined-requires-3 : tie.Need-put-joined-requires-3
-put-joined-requires-3 c κs = (fits (c .before .before .before .before .before) (c .before .enum-told3 .given .1), c .before .before .before .before .before .pre .2, c .before .before .before .before .before .pre .3)
+put-joined-requires-2 : tie.Need-put-joined-requires-2
+put-joined-requires-2 c κs = (fits (c .before .before .before .before .before) (c .before .enum-told3 .given .1), c .before .before .before .before .before .pre .2, c .before .before .before .before .before .pre .3)
 
 enum-told-4 : tie.Need-enum-told-4
 enum-told-4 c = search needs
@@ -70,8 +71,8 @@ word-of-requires : tie.Need-word-of-requires
 word-of-requires c κs = search needs
 
 put-levels-requires : tie.Need-put-levels-requires
-put-levels-requires c κs = let o = fits (c .before .before .before .before .before .before .before) (c .before .before .before .rule3 .given .1) in
-    (c .before .before .before .before .before .before .before .pre .0, o .0, o .1)
+put-levels-requires c κs = let o = fits (c .before .before .before .before .before .before .before .before) (c .before .before .before .before .rule3 .given .1) in
+    (c .before .before .before .before .before .before .before .before .pre .0, o .0, o .1)
 
 enum-told-5 : tie.Need-enum-told-5
 enum-told-5 c = search needs
@@ -83,7 +84,7 @@ measured-table-requires : tie.Need-measured-table-requires
 measured-table-requires c κs = search needs
 
 put-table-requires-2 : tie.Need-put-table-requires-2
-put-table-requires-2 c κs = omega (arith, fits (c .before .before .before .before .before .before .before .before) (c .before .before .before .before .enum-told5 .given .1), few-intervals _ (c .before .before .before .before .before .before .before .before .pre .0))
+put-table-requires-2 c κs = omega (arith, fits (c .before .before .before .before .before .before .before .before .before) (c .before .before .before .before .before .enum-told5 .given .1), few-intervals _ (c .before .before .before .before .before .before .before .before .before .pre .0))
 
 enum-told-6 : tie.Need-enum-told-6
 enum-told-6 c = search needs
@@ -113,21 +114,21 @@ same-length-3 c = search needs
 
 returns-3 : tie.Need-returns-3
 unfolding valuesBy
-returns-3 c = values-by _ _ _ _ _ (c .before .before .before .before .enum-told .given .1) (c .before .before .put-joined .ensures)
+returns-3 c = values-by _ _ _ _ _ (c .before .before .before .before .enum-told .given .1) (c .before .before .put-inverse .ensures)
 
 same-length-4 : tie.Need-same-length-4
 same-length-4 c = search needs
 
 returns-4 : tie.Need-returns-4
 unfolding valuesBy
-returns-4 c = values-by _ _ _ _ _ (c .before .before .before .before .enum-told2 .given .1) (c .before .before .put-joined2 .ensures)
+returns-4 c = values-by _ _ _ _ _ (c .before .before .before .before .enum-told2 .given .1) (c .before .before .put-joined .ensures)
 
 same-length-5 : tie.Need-same-length-5
 same-length-5 c = search needs
 
 returns-5 : tie.Need-returns-5
 unfolding valuesBy
-returns-5 c = values-by _ _ _ _ _ (c .before .before .before .before .enum-told3 .given .1) (c .before .before .put-joined3 .ensures)
+returns-5 c = values-by _ _ _ _ _ (c .before .before .before .before .enum-told3 .given .1) (c .before .before .put-joined2 .ensures)
 
 same-length-6 : tie.Need-same-length-6
 same-length-6 c = search needs
@@ -141,17 +142,18 @@ same-length-7 c = search needs
 
 returns-7 : tie.Need-returns-7
 unfolding valuesBy
-returns-7 c = values-by _ _ _ _ _ (c .before .before .before .before .before .before .rule3 .given .1) (c .before .before .put-levels .ensures _ (c .before .before .before .word-of .ensures))
+returns-7 c = values-by _ _ _ _ _ (c .before .before .before .before .before .before .before .rule3 .given .1) (c .before .before .put-levels .ensures _ (bits-word _ (c .before .before .before .before .before .before .before .before .before .before .before .pre .2) (c .before .before .before .word-of .ensures)))
 
 same-length-8 : tie.Need-same-length-8
 same-length-8 c = search needs
 
 returns-8 : tie.Need-returns-8
 unfolding valuesBy
-returns-8 c = let a = c .before .before .before .before .before .before .before .before .before .before .before .args in
+returns-8 c = let s = c .before .before .before .before .before .before .before .before .before .before .before .before in
+    let a = s .args in
     let f = highAt (a .p .now) in
-    let T = measured-word (a .k) 8 0 _ f _ (c .before .before .before .before .before .word-of2 .ensures) (c .before .before .before .before .measured-table .ensures) in
-    values-by _ _ _ _ _ (c .before .before .before .before .before .before .before .enum-told5 .given .1) (c .before .before .put-table2 .ensures ∙ table-values (a .k) (fills f) (fits (c .before .before .before .before .before .before .before .before .before .before .before) (c .before .before .before .before .before .before .before .enum-told5 .given .1)) T)
+    let T = measured-word (a .k) Throughout _ f _ (bits-word _ (s .pre .2) (c .before .before .before .before .before .word-of2 .ensures)) (c .before .before .before .before .measured-table .ensures) in
+    values-by _ _ _ _ _ (c .before .before .before .before .before .before .before .before .enum-told5 .given .1) (c .before .before .put-table2 .ensures ∙ table-values (a .k) (fills f) (fits s (c .before .before .before .before .before .before .before .before .enum-told5 .given .1)) T)
 
 same-length-9 : tie.Need-same-length-9
 same-length-9 c = search needs
@@ -172,11 +174,11 @@ put-values-spec =
     cast-put-channel
     put-channel-requires
     enum-told
-    put-joined-requires
+    put-inverse-requires
     enum-told-2
-    put-joined-requires-2
+    put-joined-requires
     enum-told-3
-    put-joined-requires-3
+    put-joined-requires-2
     enum-told-4
     put-chop-requires
     enum-known-rule-3

@@ -1,9 +1,9 @@
 -- `bit_of` shifts the bit down to the lowest:
 -- this digit is 1 exactly where the bit is.
 use borrow.Author.Needs.{needs}
 use Rattle.word.proofs.Words.{digit}
-use Rattle.truths.proofs.bit_of.Statement.{statement}
-use Rattle.truths.proofs.bit_of.Tie as tie
+use Rattle.word.proofs.bit_of.Statement.{statement}
+use Rattle.word.proofs.bit_of.Tie as tie
 
 cast-result : tie.Need-cast-result
 cast-result c = search needs

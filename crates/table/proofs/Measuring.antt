@@ -1,11 +1,11 @@
 -- A duration and `[S]` look at no instant beyond the interval, so a word of S measures as S does:
 -- the count of its ones under the window is how many instants are high.
-use mathlib.Core.Path.{_≡_, refl, sym, ap, ap₂, _∙_}
-use mathlib.Core.Bool.{Bool, true, false, cond}
+use mathlib.Core.Path.{_≡_, refl, sym, ap, _∙_}
+use mathlib.Core.Bool.{Bool}
 use mathlib.Core.List.{List}
 use Prim.Native.Nat.{ℕ, _-_, _≤_}
 use native.Mathlib.Omega.{arith}
-use lib.Dec.{eqb, leb}
+use lib.Dec.{leb}
 use lib.ListN.{getD, replicate, getD-replicate}
 use Rattle.interval.specs.Limits.{maxSteps, maxCount, IntervalOf}
 use Rattle.interval.specs.Places.{countOf, placeOf}
@@ -16,7 +16,9 @@ use Rattle.meaning.specs.Meaning.{bit, bitAt, highs, lasts, fills}
 use Rattle.meaning.proofs.Laws.{every-highs}
 use Rattle.word.specs.Word.{WordOf}
 use Rattle.word.proofs.Words.{word-highs}
-use Rattle.table.specs.Table.{TableOf, measured}
+use Rattle.table.specs.Table.{TableOf, leastOn, measured}
+use Rattle.table.specs.declared.Measure.{Measure}
+use Rattle.table.specs.declared.Measure.the-variants.{AtLeast, Throughout}
 
 module _ (k w : ℕ) (f : ℕ → Bool) (W : WordOf k f w) (v : Interval) (o : IntervalOf k v) where
   lasts-word : (n : ℕ) → lasts n (bitAt w) v ≡ lasts n f v
@@ -28,8 +30,12 @@ module _ (k w : ℕ) (f : ℕ → Bool) (W : WordOf k f w) (v : Interval) (o : I
   fills-word =
       every-highs (bitAt w) (v .i) (v .j - v .i) ∙ ap (leb (v .j - v .i)) (word-highs (v .i) (v .j - v .i) W (omega arith)) ∙ sym (every-highs f (v .i) (v .j - v .i))
 
-pub measured-word : (k kind n w : ℕ) (f : ℕ → Bool) (t : List ℕ) → WordOf k f w → TableOf k (measured kind n (bitAt w)) t → TableOf k (measured kind n f) t
-measured-word k kind n w f t W T = record { at = λ v o. T .at v o ∙ ap bit (ap₂ (cond (eqb kind 8)) (fills-word k w f W v o) (lasts-word k w f W v o n)) }
+  measured-same : (m : Measure) → measured m (bitAt w) v ≡ measured m f v
+  measured-same (AtLeast n) = lasts-word n
+  measured-same Throughout = fills-word
+
+pub measured-word : (k : ℕ) (m : Measure) (w : ℕ) (f : ℕ → Bool) (t : List ℕ) → WordOf k f w → TableOf k (measured m (bitAt w)) t → TableOf k (measured m f) t
+measured-word k m w f t W T = record { at = λ v o. T .at v o ∙ ap bit (measured-same k w f W v o m) }
 
 -- the same truth at every place
 pub constant-places : (k b : ℕ) (v : Bool) (t : List ℕ) → k ≤ maxSteps → b ≡ bit v → t ≡ replicate maxCount b → TableOf k (λ i. v) t
@@ -39,10 +45,7 @@ constant-places k b v t h e r = record {
 }
 
 -- judged by how many must be high
-pub measured-least : (kind n : ℕ) (f : ℕ → Bool) (v : Interval) → leb (cond (eqb kind 8) (v .j - v .i) n) (highs f (v .i) (v .j - v .i)) ≡ measured kind n f v
+pub measured-least : (m : Measure) (f : ℕ → Bool) (v : Interval) → leb (leastOn m v) (highs f (v .i) (v .j - v .i)) ≡ measured m f v
 unfolding fills lasts
-measured-least kind n f v = go (eqb kind 8)
-  where
-    go : (c : Bool) → leb (cond c (v .j - v .i) n) (highs f (v .i) (v .j - v .i)) ≡ cond c (fills f v) (lasts n f v)
-    go true = sym (every-highs f (v .i) (v .j - v .i))
-    go false = refl
+measured-least (AtLeast n) f v = refl
+measured-least Throughout f v = sym (every-highs f (v .i) (v .j - v .i))
