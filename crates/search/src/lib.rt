@@ -1,5 +1,5 @@
 // The search: the first recording that satisfies a formula, with the number of tries it took.
-use clause_table::Sizes;
+use clause_table::Layout;
 use grammar::MAX_NODES;
 use interval::Interval;
 use refusal::Refusal;
@@ -7,7 +7,6 @@ use refusal::Reply;
 use rows::NodeTable;
 use tries::Below;
 ghost use mathlib.Core.Path.{_≡_};
-ghost use mathlib.Core.List.{map};
 ghost use Prim.Native.Nat.{_*_, _^_, _≤_, _<_};
 ghost use lib.ListN.{length};
 ghost use Rattle.moments.specs.Moments.{old, new};
@@ -15,12 +14,10 @@ ghost use Rattle.interval.specs.Limits.{maxSteps};
 ghost use Rattle.grammar.specs.Limits.{maxNodes, maxChannels};
 ghost use Rattle.grammar.specs.Trees.{Tree};
 ghost use Rattle.grammar.specs.declared.Sort.the-variants.{Formula};
-ghost use Rattle.formula.specs.Nodes.{nodesOf};
-ghost use Rattle.rows.specs.Table.{rowOf, tableOf};
 ghost use Rattle.closure.specs.Tree.{tree};
-ghost use Rattle.clause_table.specs.Rows.{Measured};
+ghost use Rattle.clause_table.specs.Rows.{nodeTableOf, Measured};
 ghost use Rattle.decode.specs.Decode.{Tables};
-ghost use Rattle.tries.specs.Tries.{GroundOf, clausesFor};
+ghost use Rattle.tries.specs.Tries.{GroundOf, tableClauses};
 ghost use Rattle.proposal.specs.Rows.{TableFor};
 ghost use Rattle.search.specs.Search.{treeOf, limited, lentOf, askLent, searched, Unchanged};
 ghost use Rattle.search.specs.Rows.{lentBy, searchedBy};
@@ -71,7 +68,7 @@ fn draw(
     requires { ⌜ GroundOf c k table firsts seats parents values × Tables k (now intervals) (now starts) ⌝ }
     requires { ⌜ (length (now values) ≤ length (now trail)) × (length (now values) < 2 ^ 32) × (length (now recording) ≡ k) ⌝ }
     ensures { λ r. ⌜ record { answer = r; recording = new recording }
-        ≡ limited c k limit (old recording) (tree (clausesFor c k table (old firsts)) (length (old values)) (k * c)) ⌝ }
+        ≡ limited c k limit (old recording) (tree (tableClauses c k table (old firsts)) (length (old values)) (k * c)) ⌝ }
 {
     let below = tries::start(
         values,
@@ -99,8 +96,7 @@ fn draw(
 // The search of an accepted formula whose sizes fit the lent arrays: what the queue goes by, and the tree of tries.
 fn search_lent(
     table: NodeTable,
-    firsts: &[u32; MAX_NODES],
-    s: Sizes,
+    layout: Layout,
     c: u32,
     k: u32,
     limit: u32,
@@ -109,13 +105,13 @@ fn search_lent(
     recording: &mut [u8],
 ) -> Answer
     requires { ⌜ (c ≤ maxChannels) × (k ≤ maxSteps) × (table .count ≤ maxNodes) × TableFor c table ⌝ }
-    requires { ⌜ Measured c k (table .kinds) (table .numbers) (table .count) (now firsts) s ⌝ }
-    requires { ⌜ (s .variables ≤ length (now values)) × (s .variables ≤ length (now trail)) × (k ≤ length (now recording)) ⌝ }
-    ensures { λ r. ⌜ ((f : Tree Formula) → table ≡ tableOf (map rowOf (nodesOf f 0))
+    requires { ⌜ Measured c k (table .kinds) (table .numbers) (table .count) (layout .firsts) (layout .sizes) ⌝ }
+    requires { ⌜ (layout .sizes .variables ≤ length (now values)) × (layout .sizes .variables ≤ length (now trail)) × (k ≤ length (now recording)) ⌝ }
+    ensures { λ r. ⌜ ((f : Tree Formula) → table ≡ nodeTableOf f
         → record { answer = r; recording = new recording } ≡ limited c k limit (old recording) (treeOf c k f)) ⌝ }
 {
     let mut seats = [0; MAX_NODES];
-    clause_table::put_seats(&table.kinds, &table.numbers, firsts, k, &mut seats);
+    clause_table::put_seats(&table.kinds, &table.numbers, &layout.firsts, k, &mut seats);
     let mut parents = [0; MAX_NODES];
     parents::put_parents(&table.sizes, table.count, &mut parents);
     let steps = k as usize;
@@ -123,13 +119,14 @@ fn search_lent(
     decode::put_intervals(&mut intervals, steps);
     let mut starts = [0; Interval::MAX_ENDS];
     decode::put_starts(&mut starts, steps);
+    let s = layout.sizes;
     let v = s.variables as usize;
     draw(
         &mut values[..v],
         &mut trail[..v],
         &mut recording[..steps],
         table,
-        firsts,
+        &layout.firsts,
         &seats,
         &parents,
         &intervals,
@@ -153,13 +150,13 @@ fn search_table(
     recording: &mut [u8],
 ) -> Answer
     requires { ⌜ (c ≤ maxChannels) × (k ≤ maxSteps) × (table .count ≤ maxNodes) × TableFor c table ⌝ }
-    ensures { λ r. ⌜ ((f : Tree Formula) → table ≡ tableOf (map rowOf (nodesOf f 0))
+    ensures { λ r. ⌜ ((f : Tree Formula) → table ≡ nodeTableOf f
         → record { answer = r; recording = new recording }
         ≡ searchedBy c k f limit (lentBy variables marks (old values) (old trail) (old recording)) (old recording)) ⌝ }
     ensures { λ r. ⌜ Unchanged r (old values) (new values) × Unchanged r (old trail) (new trail) ⌝ }
 {
-    let mut firsts = [0; MAX_NODES];
-    let s = clause_table::sizes_of(&table.kinds, &table.numbers, table.count, c, k, &mut firsts);
+    let layout = clause_table::layout_of(table, c, k);
+    let s = layout.sizes;
     let lent = Lent {
         variables,
         marks,
@@ -170,7 +167,7 @@ fn search_table(
     if let Reply::No(r) = ask_lent(s.literals, s.variables, k, lent) {
         return Answer::Refused(r);
     }
-    search_lent(table, &firsts, s, c, k, limit, values, trail, recording)
+    search_lent(table, layout, c, k, limit, values, trail, recording)
 }
 
 // The first recording that satisfies a formula of C channels over k steps, within a limit of tries: found, none or spent.

@@ -19,8 +19,8 @@ abbrev pub GroundOf : ℕ → ℕ → NodeTable → (firsts seats parents values
 GroundOf C k table firsts seats parents values =
     Ground C k (table .kinds) (table .numbers) (table .sizes) (firsts .now) (seats .now) (parents .now) (table .count) (length (values .now))
 
-abbrev pub clausesFor : ℕ → ℕ → NodeTable → List ℕ → List Clause
-clausesFor C k table firsts = tableBy C k (table .kinds) (table .numbers) (table .sizes) firsts (table .count)
+abbrev pub tableClauses : ℕ → ℕ → NodeTable → List ℕ → List Clause
+tableClauses C k table firsts = tableBy C k (table .kinds) (table .numbers) (table .sizes) firsts (table .count)
 
 -- what comes of the whole tree
 abbrev pub Result : List Clause → ℕ → ℕ → ℕ → List ℕ → Below → Type 0

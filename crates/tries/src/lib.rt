@@ -11,7 +11,7 @@ ghost use Rattle.moments.specs.Moments.{old, new};
 ghost use Rattle.closure.specs.Closure.{nothing};
 ghost use Rattle.decode.specs.Decode.{Tables};
 ghost use Rattle.attempts.specs.Attempts.{Holding};
-ghost use Rattle.tries.specs.Tries.{GroundOf, clausesFor, Started};
+ghost use Rattle.tries.specs.Tries.{GroundOf, tableClauses, Started};
 
 // So many tries high can be left to make: each is of another channel variable.
 const MAX_DEPTH: usize = Interval::MAX_STEPS * MAX_CHANNELS;
@@ -41,8 +41,8 @@ fn descend(
     limit: u32,
 ) -> Below
     requires { ⌜ GroundOf c k table firsts seats parents values × Tables k (now intervals) (now starts) ⌝ }
-    requires { ⌜ Holding (clausesFor c k table (now firsts)) nothing (now values) (now trail) closed ⌝ }
-    ensures { λ r. ⌜ Started (clausesFor c k table (old firsts)) (length (old values)) (k * c) limit (new values) r ⌝ }
+    requires { ⌜ Holding (tableClauses c k table (now firsts)) nothing (now values) (now trail) closed ⌝ }
+    ensures { λ r. ⌜ Started (tableClauses c k table (old firsts)) (length (old values)) (k * c) limit (new values) r ⌝ }
 {
     let channels = k * c;
     let mut levels = [0; MAX_DEPTH];
@@ -125,7 +125,7 @@ pub fn start(
 ) -> Below
     requires { ⌜ GroundOf c k table firsts seats parents values × Tables k (now intervals) (now starts) ⌝ }
     requires { ⌜ (length (now values) ≤ length (now trail)) × (length (now values) < 2 ^ 32) ⌝ }
-    ensures { λ r. ⌜ Started (clausesFor c k table (old firsts)) (length (old values)) (k * c) limit (new values) r ⌝ }
+    ensures { λ r. ⌜ Started (tableClauses c k table (old firsts)) (length (old values)) (k * c) limit (new values) r ⌝ }
 {
     attempts::clear(values);
     let closed = queue::start(

@@ -9,14 +9,14 @@ use Rattle.interval.specs.Limits.{maxSteps}
 use Rattle.grammar.specs.Limits.{maxChannels}
 use Rattle.clause_table.proofs.Measure.{channels-few}
 use Rattle.fanout.proofs.Ground.{ground-still, few-channels}
-use Rattle.tries.specs.Tries.{clausesFor}
+use Rattle.tries.specs.Tries.{tableClauses}
 use Rattle.tries.proofs.Standing.{Standing, standing, low-found, low-spent, low-ready, low-room, low-on, high-dead, high-spent, high-room, high-ready, high-on}
 use Rattle.tries.proofs.descend.Statement.{statement}
 use Rattle.tries.proofs.descend.Tie as tie
 
 abbrev Inv-loop : tie.InvT-loop
 Inv-loop values₀ trail₀ firsts seats parents intervals starts c k limit table channels levels₀ last₀ depth₀ n₀ values trail levels last depth n =
-    (length trail ≡ length trail₀) × (length levels ≡ maxSteps * maxChannels) × Standing (clausesFor c k table firsts) channels (length values₀) limit values trail levels last depth n
+    (length trail ≡ length trail₀) × (length levels ≡ maxSteps * maxChannels) × Standing (tableClauses c k table firsts) channels (length values₀) limit values trail levels last depth n
 
 abbrev μ-loop : tie.MeasureT-loop
 μ-loop values₀ trail₀ firsts seats parents intervals starts c k limit table channels levels₀ last₀ depth₀ n₀ values trail levels last depth n = limit - n
