@@ -1,3 +1,2 @@
 pub mod Gates
 pub mod After
-pub mod Rises

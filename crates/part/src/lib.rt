@@ -91,7 +91,7 @@ fn reach_instant(
     }
     let rule = block.rule;
     let rise = own::rise_of(rule);
-    levels::visit_instant(
+    instants::visit_instant(
         values,
         trail,
         top,

@@ -178,7 +178,7 @@ pub fn close<'a>(
     }
 }
 
-// From values that are all 0: every gate visited once, and then the whole trail.
+// From values that are all open: every gate visited once, and then the whole trail.
 pub fn start<'a>(
     values: &mut [u8],
     trail: &mut [u32],

@@ -14,9 +14,9 @@ use Rattle.visits.proofs.Parts.{settled-visited, visited-named}
 use Rattle.visits.proofs.Loops.{loop-begun, loop-turn, loop-stop, loop-done}
 use Rattle.fanout.specs.Walks.{instantPlace}
 use Rattle.walks.proofs.Places.{stands}
-use Rattle.levels.proofs.Rises.{begun-small, whole-some, whole-clauses, whole-asks, Rises, rise-begun, rise-turn, rise-clauses, rise-asks, rise-small}
-use Rattle.levels.proofs.visit_rise.Statement.{statement}
-use Rattle.levels.proofs.visit_rise.Tie as tie
+use Rattle.instants.proofs.Rises.{begun-small, whole-some, whole-clauses, whole-asks, Rises, rise-begun, rise-turn, rise-clauses, rise-asks, rise-small}
+use Rattle.instants.proofs.visit_rise.Statement.{statement}
+use Rattle.instants.proofs.visit_rise.Tie as tie
 
 abbrev Inv-loop : tie.InvT-loop
 Inv-loop values₀ trail₀ top c k all block a n t i first v₀ end₀ e₀ values trail v end e =

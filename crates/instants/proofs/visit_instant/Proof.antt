@@ -11,8 +11,8 @@ use Rattle.visits.specs.Visits.{Visited}
 use Rattle.visits.proofs.Loops.{loop-begun, loop-turn, loop-stop, loop-done}
 use Rattle.fanout.specs.Walks.{riseClauses}
 use Rattle.walks.proofs.Places.{stands}
-use Rattle.levels.proofs.visit_instant.Statement.{statement}
-use Rattle.levels.proofs.visit_instant.Tie as tie
+use Rattle.instants.proofs.visit_instant.Statement.{statement}
+use Rattle.instants.proofs.visit_instant.Tie as tie
 
 abbrev Inv-loop : tie.InvT-loop
 Inv-loop values₀ trail₀ top c k all block a n t end₀ i₀ i-end values trail end i =
