@@ -3,8 +3,12 @@ use mathlib.Core.Path.{_≡_}
 use mathlib.Core.Bool.{Bool, true}
 use mathlib.Core.List.{List}
 use Prim.Native.Nat.{ℕ, suc, _≤_, _<_}
-use lib.ListN.{getD}
+use lib.ListN.{length, getD}
 use Rattle.interval.specs.declared.Interval.{Interval}
+
+-- nothing but 0
+abbrev pub AllZero : List ℕ → Type 0
+AllZero row = (y : ℕ) → y < length row → getD row y 0 ≡ 0
 
 -- a later row for each row, k + 1 at the most
 pub record NextRows (k : ℕ) (nexts : List ℕ) : Type 0 where

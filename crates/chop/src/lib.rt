@@ -12,7 +12,7 @@ ghost use Rattle.interval.specs.Places.{countOf};
 ghost use Rattle.interval.specs.declared.Interval.{Interval};
 ghost use Rattle.meaning.specs.Meaning.{chops};
 ghost use Rattle.table.specs.Table.{TableOf, RowOf, startOf};
-ghost use Rattle.chop.specs.Rows.{NextRows, Within};
+ghost use Rattle.chop.specs.Rows.{AllZero, NextRows, Within};
 
 // Each byte of `from` onto that of `row`.
 fn or_onto(row: &mut [u8], from: &[u8])
@@ -73,7 +73,7 @@ fn chop_row(
     i: usize,
     start: usize,
 )
-    requires { ⌜ (k ≤ maxSteps) × (i ≤ k) × (start ≡ startOf k i) × (length (now row) ≡ suc k - i) × ((y : ℕ) → y < length (now row) → getD (now row) y 0 ≡ 0) ⌝ }
+    requires { ⌜ (k ≤ maxSteps) × (i ≤ k) × (start ≡ startOf k i) × (length (now row) ≡ suc k - i) × AllZero (now row) ⌝ }
     requires { ⌜ (countOf k ≤ length (now p)) × (countOf k ≤ length (now q)) × NextRows k (now nexts) ⌝ }
     ensures { λ r. ⌜ ((f g : Interval → Bool) → TableOf k f (old p) → TableOf k g (old q) → Within k g (old nexts) → RowOf i (chops f g) (new row)) ⌝ }
 {

@@ -13,8 +13,7 @@ use Rattle.refusal.specs.declared.Refusal.{Refusal}
 use Rattle.refusal.specs.declared.Reply.{Reply}
 use Rattle.refusal.specs.declared.Reply.the-variants.{Yes, No}
 use Rattle.refusal.proofs.Laws.{asked-append, replied-yes, replied-no}
-use Rattle.grammar.specs.Limits.{maxChannels}
-use Rattle.grammar.specs.Trees.{Tree, Letters}
+use Rattle.grammar.specs.Trees.{Tree}
 use Rattle.grammar.specs.declared.Sort.the-variants.{Formula}
 use Rattle.grammar.proofs.Laws.{prints-as-text}
 use Rattle.formula.specs.Nodes.{Node, nodesOf, nodesIn}
@@ -38,14 +37,14 @@ use Rattle.clause_table.proofs.Call.{variables-known}
 use Rattle.assignments.specs.Extension.{channelValues, nodeValues, extensionOf}
 use Rattle.assignments.specs.Calls.{askPlaces, Extended, notExtended, extended}
 use Rattle.assignments.proofs.Values.{channels-length, extension-length}
-use Rattle.extension.specs.Rows.{Seated, NodesIn, extendedBy}
+use Rattle.extension.specs.Rows.{Seated, NodesIn, NodesPut, extendedBy, Extends}
 
 -- question 18, answered with yes
 pub places-enough : (n places : ℕ) → question 18 0 (leb n places) ≡ Yes → n ≤ places
 places-enough n places e = leb-true n places (test-yes 18 0 _ e)
 
 -- the sizes tell where the blocks stand
-pub seated : {C k : ℕ} {kinds numbers : List ℕ} {n : ℕ} {F : List ℕ} {s : Sizes} → Measured C k kinds numbers n F s → Seated C k kinds numbers F n (s .variables)
+pub seated : {C k : ℕ} {T : NodeTable} {F : List ℕ} {s : Sizes} → Measured C k (T .kinds) (T .numbers) (T .count) F s → Seated C k T F (s .variables)
 seated w = record { first = w .first; ends = w .variables }
 
 -- the channels' variables are among all
@@ -59,11 +58,11 @@ channels-back C k recording A {out} o l h =
 
 -- ---- an accepted formula's node table
 
-module _ (C k : ℕ) (f : Tree Formula) (L : Letters maxChannels f) {T : NodeTable} (e : T ≡ tableOf (map rowOf (nodesOf f 0))) {F : List ℕ} {s : Sizes} (w : Measured C k (T .kinds) (T .numbers) (T .count) F s)
+module _ (C k : ℕ) (f : Tree Formula) {T : NodeTable} (t : NodesIn f T) {F : List ℕ} {s : Sizes} (w : Measured C k (T .kinds) (T .numbers) (T .count) F s)
     (recording A : List ℕ) where
   question-known : question 18 0 (leb (s .variables) (length A)) ≡ askPlaces (variablesOf C k (nodesOf f 0)) (length A)
   unfolding askPlaces
-  question-known = ap (λ (n : ℕ). question 18 0 (leb n (length A))) (variables-known C k f e w)
+  question-known = ap (λ (n : ℕ). question 18 0 (leb n (length A))) (variables-known C k f (t .is) w)
 
   abbrev done : Extended
   done = record { answer = Done; assignment = over (extensionOf C k recording (nodesOf f 0)) A }
@@ -73,8 +72,7 @@ module _ (C k : ℕ) (f : Tree Formula) (L : Letters maxChannels f) {T : NodeTab
   refused-known r q = ap (λ (a : Reply). asked (a ∷ []) (notExtended A) done) (sym q ∙ question-known)
 
   pub written-known : question 18 0 (leb (s .variables) (length A)) ≡ Yes → {out A′ A″ : List ℕ} → length recording ≡ k → out ≡ channelValues C (length recording) recording → A′ ≡ out ++ drop (k * C) A
-      → ((D : ℕ) (g : Tree Formula) → Seated D k (T .kinds) (T .numbers) F (T .count) (s .variables) → NodesIn g (T .kinds) (T .numbers) (T .sizes) (T .count) → A″ ≡ sets A′ (k * D) (nodeValues k recording (nodesOf g 0)))
-      → record { answer = Done; assignment = A″ } ≡ extendedBy C k f recording A
+      → NodesPut k recording T F (s .variables) A′ A″ → record { answer = Done; assignment = A″ } ≡ extendedBy C k f recording A
   unfolding extendedBy extensionOf
   written-known q {out} {A′} {A″} l o p c =
       let channels = channelValues C k recording in
@@ -85,17 +83,10 @@ module _ (C k : ℕ) (f : Tree Formula) (L : Letters maxChannels f) {T : NodeTab
       let first : A′ ≡ sets A 0 channels =
       p ∙ ap (λ (B : List ℕ). B ++ drop (k * C) A) (o ∙ ap (λ (k : ℕ). channelValues C k recording) l)
       ∙ sym (stored-over channels A refl (omega (arith, n, enough, w .variables)) ∙ ap (λ (i : ℕ). channels ++ drop i A) n) in
-      let in-table : NodesIn f (T .kinds) (T .numbers) (T .sizes) (T .count) = record {
-        letters = L;
-        kinds-are = ap (λ (T : NodeTable). T .kinds) e;
-        numbers-are = ap (λ (T : NodeTable). T .numbers) e;
-        sizes-are = ap (λ (T : NodeTable). T .sizes) e;
-        count-is = ap (λ (T : NodeTable). T .count) e;
-      } in
       let next : 0 + length channels ≡ k * C = omega (arith, n) in
       let all : A″ ≡ sets A 0 (channels ++ nodes) =
-      c C f (seated w) in-table ∙ ap (λ (B : List ℕ). sets B (k * C) nodes) first ∙ sym (sets-append A 0 channels nodes ∙ ap (λ (i : ℕ). sets (sets A 0 channels) i nodes) next) in
-      ap (λ (B : List ℕ). record { answer = Done; assignment = B }) (stored-over (channels ++ nodes) A all (omega (arith, many, enough, variables-known C k f e w)))
+      c C f (seated w) t ∙ ap (λ (B : List ℕ). sets B (k * C) nodes) first ∙ sym (sets-append A 0 channels nodes ∙ ap (λ (i : ℕ). sets (sets A 0 channels) i nodes) next) in
+      ap (λ (B : List ℕ). record { answer = Done; assignment = B }) (stored-over (channels ++ nodes) A all (omega (arith, many, enough, variables-known C k f (t .is) w)))
       ∙ ap (λ (a : Reply). asked (a ∷ []) (notExtended A) done) (sym q ∙ question-known)
 
 -- ---- the whole call
@@ -134,10 +125,10 @@ module _ (C k : ℕ) (t recording A : List ℕ) where
       pub refused-bytes : (r : Refusal) → askBytes C recording ≡ No r → notExtended A r ≡ extended C k t recording A
       refused-bytes r q = sym (extended-bytes (No r) q)
 
-      pub called : askBytes C recording ≡ Yes → {a : Extended} → ((f : Tree Formula) → Letters maxChannels f → T .table ≡ tableOf (map rowOf (nodesOf f 0)) → a ≡ extendedBy C k f recording A) → a ≡ extended C k t recording A
+      pub called : askBytes C recording ≡ Yes → {a : Extended} → Extends (T .table) C k recording A a → a ≡ extended C k t recording A
       unfolding extendedBy
       called q g =
           let a = accepted C k t (accepts C k t T e y) in
           let n = nodes-read t (a .root) (a .reads) in
-          g (a .root) (prints-as-text t (a .root) (a .reads) .0) (table-is C k t T e y ∙ ap (λ (l : List Node). tableOf (map rowOf l)) n)
+          g (a .root) (record { letters = prints-as-text t (a .root) (a .reads) .0; is = table-is C k t T e y ∙ ap (λ (l : List Node). tableOf (map rowOf l)) n })
           ∙ sym (extended-bytes Yes q ∙ ap (λ (l : List Node). asked (askPlaces (variablesOf C k l) (length A) ∷ []) (notExtended A) (record { answer = Done; assignment = over (extensionOf C k recording l) A })) n)

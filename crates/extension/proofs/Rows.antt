@@ -20,6 +20,7 @@ use Rattle.grammar.proofs.Written.{drop-front}
 use Rattle.formula.specs.Nodes.{Node, node, nodesOf}
 use Rattle.formula.proofs.Lists.{all-append}
 use Rattle.rows.specs.Table.{sortCode, headOf, rowOf, tableOf}
+use Rattle.rows.specs.declared.NodeTable.{NodeTable}
 use Rattle.nodes.proofs.Standing.{nodes-count, stands, Begins, node-at}
 use Rattle.meaning.specs.Meaning.{truth}
 use Rattle.word.proofs.Words.{high-bit}
@@ -41,7 +42,7 @@ use Rattle.clause_table.proofs.Call.{variables-are}
 use Rattle.assignments.specs.Extension.{blockValues, nodeValues}
 use Rattle.assignments.proofs.Values.{pointAt, block-length, values-append, values-length, truth-stands}
 use Rattle.values.specs.Values.{valuesBy, Fits}
-use Rattle.node_values.specs.Parts.{firstPoints, secondPoints, TruthFrom, Makes}
+use Rattle.node_values.specs.Parts.{firstPoints, secondPoints, TruthFrom, Makes, BlockIn, BlockPut}
 use Rattle.extension.specs.Rows.{Seated, NodesIn}
 use Rattle.node_values.proofs.Sets.{stored-before, stored-at}
 use Rattle.node_values.proofs.Blocks.{PartsAre, block-values}
@@ -212,75 +213,75 @@ row-fits k kind number h p l = rule-fits k number (pointsBy k kind) h p (kind % 
 -- ---- the loop over the nodes, whatever the node table says
 
 -- the rows from x on are passed; their blocks begin at `end`
-pub record Extending (k : ℕ) (recording kinds numbers sizes firsts : List ℕ) (count last : ℕ) (A A′ : List ℕ) (x end : ℕ) : Type 0 where
-  pub turns : x ≤ count
+pub record Extending (k : ℕ) (recording : List ℕ) (T : NodeTable) (firsts : List ℕ) (last : ℕ) (A A′ : List ℕ) (x end : ℕ) : Type 0 where
+  pub turns : x ≤ T .count
   pub long : length A′ ≡ length A
   pub within : end ≤ length A
-  pub ends : (C : ℕ) → Seated C k kinds numbers firsts count last → end ≡ k * C + weightTo variableWeight k kinds numbers x
-  pub wrote : (f : Tree Formula) → NodesIn f kinds numbers sizes count → A′ ≡ sets A end (nodeValues k recording (drop x (nodesOf f 0)))
+  pub ends : (C : ℕ) → Seated C k T firsts last → end ≡ k * C + weightTo variableWeight k (T .kinds) (T .numbers) x
+  pub wrote : (f : Tree Formula) → NodesIn f T → A′ ≡ sets A end (nodeValues k recording (drop x (nodesOf f 0)))
 
-module _ {k : ℕ} {recording kinds numbers sizes firsts : List ℕ} {count last : ℕ} {A : List ℕ} where
-  pub extending-begun : last ≤ length A → Extending k recording kinds numbers sizes firsts count last A A count last
+module _ {k : ℕ} {recording : List ℕ} {T : NodeTable} {firsts : List ℕ} {last : ℕ} {A : List ℕ} where
+  pub extending-begun : last ≤ length A → Extending k recording T firsts last A A (T .count) last
   unfolding nodeValues flatMap tableOf
   extending-begun h = record {
     turns = omega arith;
     long = refl;
     within = h;
     ends = λ C s. s .ends;
-    wrote = λ f n. ap (λ (l : List Node). sets A last (nodeValues k recording l)) (sym (drop-of-length-le (nodesOf f 0) {i = count} (omega (arith, n .count-is, length-map (nodesOf f 0) rowOf))));
+    wrote = λ f n. ap (λ (l : List Node). sets A last (nodeValues k recording l)) (sym (drop-of-length-le (nodesOf f 0) {i = T .count} (omega (arith, ap (λ (T : NodeTable). T .count) (n .is), length-map (nodesOf f 0) rowOf))));
   }
 
-  pub extending-done : {A′ : List ℕ} {x end : ℕ} → Extending k recording kinds numbers sizes firsts count last A A′ x end → x ≡ 0 → (C : ℕ) (f : Tree Formula) → Seated C k kinds numbers firsts count last
-      → NodesIn f kinds numbers sizes count → A′ ≡ sets A (k * C) (nodeValues k recording (nodesOf f 0))
+  pub extending-done : {A′ : List ℕ} {x end : ℕ} → Extending k recording T firsts last A A′ x end → x ≡ 0 → (C : ℕ) (f : Tree Formula) → Seated C k T firsts last
+      → NodesIn f T → A′ ≡ sets A (k * C) (nodeValues k recording (nodesOf f 0))
   unfolding weightTo sum
   extending-done {x = x} {end} e z C f s n =
-      let o : end ≡ k * C = e .ends C s ∙ ap (λ (x : ℕ). k * C + weightTo variableWeight k kinds numbers x) z ∙ omega arith in
+      let o : end ≡ k * C = e .ends C s ∙ ap (λ (x : ℕ). k * C + weightTo variableWeight k (T .kinds) (T .numbers) x) z ∙ omega arith in
       e .wrote f n ∙ ap₂ (λ (i x : ℕ). sets A i (nodeValues k recording (drop x (nodesOf f 0)))) o z
 
-  module _ {A′ : List ℕ} {x end : ℕ} (e : Extending k recording kinds numbers sizes firsts count last A A′ x end) (o : 0 < x) {b : Block} (q : b ≡ blockBy kinds numbers sizes firsts k (x - 1)) where
+  module _ {A′ : List ℕ} {x end : ℕ} (e : Extending k recording T firsts last A A′ x end) (o : 0 < x) {b : Block} (q : b ≡ blockBy (T .kinds) (T .numbers) (T .sizes) firsts k (x - 1)) where
     -- the next block, the one before
-    next-block : (C : ℕ) → Seated C k kinds numbers firsts count last
-        → (b .first ≡ 1 + k * C + weightTo variableWeight k kinds numbers (x - 1)) × (end ≡ b .first - 1 + rowWeight variableWeight k (getD kinds (x - 1) 0) (getD numbers (x - 1) 0))
+    next-block : (C : ℕ) → Seated C k T firsts last
+        → (b .first ≡ 1 + k * C + weightTo variableWeight k (T .kinds) (T .numbers) (x - 1)) × (end ≡ b .first - 1 + rowWeight variableWeight k (getD (T .kinds) (x - 1) 0) (getD (T .numbers) (x - 1) 0))
     unfolding blockBy
     next-block C s =
         let first = ap (λ (b : Block). b .first) q ∙ s .first (x - 1) (omega (arith, e .turns)) in
         let one : x - 1 + 1 ≡ x = omega arith in
-        let next = total-next variableWeight k kinds numbers (1 + k * C) (x - 1) refl refl ∙ ap (λ (x : ℕ). 1 + k * C + weightTo variableWeight k kinds numbers x) one in
+        let next = total-next variableWeight k (T .kinds) (T .numbers) (1 + k * C) (x - 1) refl refl ∙ ap (λ (x : ℕ). 1 + k * C + weightTo variableWeight k (T .kinds) (T .numbers) x) one in
         (first, omega (arith, e .ends C s, first, next))
 
-    pub block-fits : (C : ℕ) → Seated C k kinds numbers firsts count last → Fine 0 k b → (1 ≤ b .first) × (b .first - 1 ≤ end) × (end ≤ length A′) × Fits k (end - (b .first - 1)) (b .rule)
+    pub block-fits : (C : ℕ) → Seated C k T firsts last → Fine 0 k b → BlockIn k b end (length A′)
     unfolding blockBy
     block-fits C s f =
         let n = next-block C s in
-        let width : rowWeight variableWeight k (getD kinds (x - 1) 0) (getD numbers (x - 1) 0) ≡ end - (b .first - 1) = omega (arith, n .1) in
+        let width : rowWeight variableWeight k (getD (T .kinds) (x - 1) 0) (getD (T .numbers) (x - 1) 0) ≡ end - (b .first - 1) = omega (arith, n .1) in
         let rule = ap (λ (b : Block). b .rule) q in (
           omega (arith, n .0),
           omega (arith, n .1),
           omega (arith, e .within, e .long),
           subst (λ (n : ℕ). Fits k n (b .rule)) width (subst (Fits k _) (sym rule)
-              (row-fits k (getD kinds (x - 1) 0) (getD numbers (x - 1) 0) (f .bounded .steps) (subst (λ (n : ℕ). n ≤ maxCount) (ap (λ (b : Block). b .points) q) (f .points)) (subst (λ (r : Rule). numberOf r ≤ 255) rule (f .bounded .number)))),
+              (row-fits k (getD (T .kinds) (x - 1) 0) (getD (T .numbers) (x - 1) 0) (f .bounded .steps) (subst (λ (n : ℕ). n ≤ maxCount) (ap (λ (b : Block). b .points) q) (f .points)) (subst (λ (r : Rule). numberOf r ≤ 255) rule (f .bounded .number)))),
         )
 
-    block-written : (C : ℕ) → Seated C k kinds numbers firsts count last → last ≤ length A → {A″ : List ℕ} → ((B : List ℕ) → Makes k recording A′ b (end - (b .first - 1)) B → A″ ≡ sets A′ (b .first - 1) B)
-        → (f : Tree Formula) → NodesIn f kinds numbers sizes count → A″ ≡ sets A (b .first - 1) (nodeValues k recording (drop (x - 1) (nodesOf f 0)))
+    block-written : (C : ℕ) → Seated C k T firsts last → last ≤ length A → {A″ : List ℕ} → BlockPut k recording b end A′ A″
+        → (f : Tree Formula) → NodesIn f T → A″ ≡ sets A (b .first - 1) (nodeValues k recording (drop (x - 1) (nodesOf f 0)))
     unfolding tableOf
     block-written C s m {A″} c f n =
         let l = nodesOf f 0 in
-        let many : count ≡ length l = n .count-is ∙ length-map l rowOf in
-        let weight : (y : ℕ) → weightTo variableWeight k kinds numbers y ≡ weightBefore variableWeight k l y = λ y. ap₂ (λ (a b : List ℕ). weightTo variableWeight k a b y) (n .kinds-are) (n .numbers-are) in
-        let same : b ≡ blockBy (kindsOf l) (numbersOf l) (sizesOf l) firsts k (x - 1) = q ∙ (λ i. blockBy (n .kinds-are i) (n .numbers-are i) (n .sizes-are i) firsts k (x - 1)) in
+        let many : T .count ≡ length l = ap (λ (T : NodeTable). T .count) (n .is) ∙ length-map l rowOf in
+        let weight : (y : ℕ) → weightTo variableWeight k (T .kinds) (T .numbers) y ≡ weightBefore variableWeight k l y = λ y. ap (λ (T : NodeTable). weightTo variableWeight k (T .kinds) (T .numbers) y) (n .is) in
+        let same : b ≡ blockBy (kindsOf l) (numbersOf l) (sizesOf l) firsts k (x - 1) = q ∙ ap (λ (T : NodeTable). blockBy (T .kinds) (T .numbers) (T .sizes) firsts k (x - 1)) (n .is) in
         let one : x ≡ x - 1 + 1 = omega arith in
         let firsts-are : (y : ℕ) → y < length l → getD firsts y 0 ≡ start l C k y = λ y h. s .first y (omega (arith, many)) ∙ ap (λ (w : ℕ). 1 + k * C + w) (weight y) in
-        let fits : variablesOf C k l ≤ length A = omega (arith, s .ends, weight count, ap (weightBefore variableWeight k l) many, variables-are C k f) in
+        let fits : variablesOf C k l ≤ length A = omega (arith, s .ends, weight (T .count), ap (weightBefore variableWeight k l) many, variables-are C k f) in
         let ends : end ≡ start l C k (x - 1 + 1) - 1 = omega (arith, e .ends C s, weight x, ap (weightBefore variableWeight k l) one) in
         written-more C k recording f (n .letters) firsts firsts-are A fits (x - 1) (omega (arith, many, e .turns)) ends
         (e .wrote f n ∙ ap (λ (x : ℕ). sets A end (nodeValues k recording (drop x l))) one)
-        (subst (λ (b : Block). (B : List ℕ) → Makes k recording A′ b (end - (b .first - 1)) B → A″ ≡ sets A′ (b .first - 1) B) same c)
+        (subst (λ (b : Block). BlockPut k recording b end A′ A″) same c)
         ∙ ap (λ (b : Block). sets A (b .first - 1) (nodeValues k recording (drop (x - 1) l))) (sym same)
 
-    pub extending-turn : (C : ℕ) → Seated C k kinds numbers firsts count last → last ≤ length A → {A″ : List ℕ} → length A″ ≡ length A′
-        → ((B : List ℕ) → Makes k recording A′ b (end - (b .first - 1)) B → A″ ≡ sets A′ (b .first - 1) B)
-        → Extending k recording kinds numbers sizes firsts count last A A″ (x - 1) (b .first - 1)
+    pub extending-turn : (C : ℕ) → Seated C k T firsts last → last ≤ length A → {A″ : List ℕ} → length A″ ≡ length A′
+        → BlockPut k recording b end A′ A″
+        → Extending k recording T firsts last A A″ (x - 1) (b .first - 1)
     extending-turn C s h l c = record {
       turns = omega (arith, e .turns);
       long = l ∙ e .long;

@@ -3,34 +3,42 @@ use mathlib.Core.Path.{_≡_}
 use mathlib.Core.List.{List, [], _∷_, map}
 use Prim.Native.Nat.{ℕ, _+_, _*_, _<_}
 use lib.ListN.{length, getD}
+use lib.Seq.{sets}
 use Rattle.refusal.specs.Asked.{asked}
 use Rattle.grammar.specs.Limits.{maxChannels}
 use Rattle.grammar.specs.Trees.{Tree, Letters}
 use Rattle.grammar.specs.declared.Sort.the-variants.{Formula}
 use Rattle.formula.specs.Nodes.{nodesOf}
 use Rattle.rows.specs.Table.{rowOf, tableOf}
+use Rattle.rows.specs.declared.NodeTable.{NodeTable}
 use Rattle.circuit.specs.Circuit.{variablesOf}
 use Rattle.weights.specs.Weights.{variableWeight, weightTo}
 use Rattle.clause_table.specs.Table.{over}
 use Rattle.clause_table.specs.declared.Written.the-variants.{Done}
-use Rattle.assignments.specs.Extension.{extensionOf}
+use Rattle.assignments.specs.Extension.{nodeValues, extensionOf}
 use Rattle.assignments.specs.Calls.{askPlaces, Extended, notExtended}
 
--- where the nodes' blocks begin, by the columns of the node table, and where the last one ends
-pub record Seated (C k : ℕ) (kinds numbers firsts : List ℕ) (count last : ℕ) : Type 0 where
-  pub first : (y : ℕ) → y < count → getD firsts y 0 ≡ 1 + k * C + weightTo variableWeight k kinds numbers y
-  pub ends : last ≡ k * C + weightTo variableWeight k kinds numbers count
+-- where the nodes' blocks begin, by the node table, and where the last one ends
+pub record Seated (C k : ℕ) (T : NodeTable) (firsts : List ℕ) (last : ℕ) : Type 0 where
+  pub first : (y : ℕ) → y < T .count → getD firsts y 0 ≡ 1 + k * C + weightTo variableWeight k (T .kinds) (T .numbers) y
+  pub ends : last ≡ k * C + weightTo variableWeight k (T .kinds) (T .numbers) (T .count)
 
--- the columns are those of a formula's node table
-pub record NodesIn (f : Tree Formula) (kinds numbers sizes : List ℕ) (count : ℕ) : Type 0 where
+-- the node table is a formula's
+pub record NodesIn (f : Tree Formula) (T : NodeTable) : Type 0 where
   pub letters : Letters maxChannels f
-  pub kinds-are : kinds ≡ tableOf (map rowOf (nodesOf f 0)) .kinds
-  pub numbers-are : numbers ≡ tableOf (map rowOf (nodesOf f 0)) .numbers
-  pub sizes-are : sizes ≡ tableOf (map rowOf (nodesOf f 0)) .sizes
-  pub count-is : count ≡ tableOf (map rowOf (nodesOf f 0)) .count
+  pub is : T ≡ tableOf (map rowOf (nodesOf f 0))
+
+-- an assignment before and after the values of all nodes are stored in their places
+abbrev pub NodesPut : ℕ → List ℕ → NodeTable → List ℕ → ℕ → List ℕ → List ℕ → Type 0
+NodesPut k recording T firsts last A A′ =
+    (C : ℕ) (f : Tree Formula) → Seated C k T firsts last → NodesIn f T → A′ ≡ sets A (k * C) (nodeValues k recording (nodesOf f 0))
 
 -- what the call does once the formula and the recording are accepted
 unfoldable pub extendedBy : ℕ → ℕ → Tree Formula → List ℕ → List ℕ → Extended
 extendedBy C k f recording assignment =
     asked (askPlaces (variablesOf C k (nodesOf f 0)) (length assignment) ∷ []) (notExtended assignment)
     (record { answer = Done; assignment = over (extensionOf C k recording (nodesOf f 0)) assignment })
+
+-- the same by the formula's node table
+abbrev pub Extends : NodeTable → ℕ → ℕ → List ℕ → List ℕ → Extended → Type 0
+Extends T C k recording assignment e = (f : Tree Formula) → NodesIn f T → e ≡ extendedBy C k f recording assignment

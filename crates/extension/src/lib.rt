@@ -5,42 +5,40 @@ use grammar::MAX_NODES;
 use refusal::Reply;
 use rows::NodeTable;
 ghost use mathlib.Core.Path.{_≡_};
-ghost use mathlib.Core.List.{map};
-ghost use Prim.Native.Nat.{ℕ, _*_, _≤_};
+ghost use Prim.Native.Nat.{ℕ, _≤_};
 ghost use lib.ListN.{length};
-ghost use lib.Seq.{sets};
 ghost use Rattle.moments.specs.Moments.{old, new};
 ghost use Rattle.interval.specs.Limits.{maxSteps};
 ghost use Rattle.grammar.specs.Limits.{maxNodes, maxChannels};
-ghost use Rattle.grammar.specs.Trees.{Tree, Letters};
-ghost use Rattle.grammar.specs.declared.Sort.the-variants.{Formula};
-ghost use Rattle.formula.specs.Nodes.{nodesOf};
-ghost use Rattle.rows.specs.Table.{rowOf, tableOf};
 ghost use Rattle.clause_table.specs.Rows.{Low};
-ghost use Rattle.assignments.specs.Extension.{nodeValues};
 ghost use Rattle.assignments.specs.Calls.{extended};
-ghost use Rattle.extension.specs.Rows.{Seated, NodesIn, extendedBy};
+ghost use Rattle.extension.specs.Rows.{Seated, NodesPut, Extends};
 
 // The blocks of all nodes, which end before `last`.
-fn put_nodes<'a>(
+fn put_nodes(
     assignment: &mut [u8],
-    kinds: &'a [u8; MAX_NODES],
-    numbers: &'a [u8; MAX_NODES],
-    sizes: &'a [u8; MAX_NODES],
+    table: NodeTable,
     firsts: &[u32; MAX_NODES],
-    count: usize,
     k: u32,
     last: usize,
     recording: &[u8],
 )
-    requires { ⌜ (k ≤ maxSteps) × (count ≤ maxNodes) × (last ≤ length (now assignment)) × Low (now firsts) × ((C : ℕ) × Seated C k (now kinds) (now numbers) (now firsts) count last) ⌝ }
-    ensures { λ _. ⌜ ((C : ℕ) (f : Tree Formula) → Seated C k (old kinds) (old numbers) (old firsts) count last → NodesIn f (old kinds) (old numbers) (old sizes) count → new assignment ≡ sets (old assignment) (k * C) (nodeValues k (old recording) (nodesOf f 0))) ⌝ }
+    requires { ⌜ (k ≤ maxSteps) × (table .count ≤ maxNodes) × (last ≤ length (now assignment)) × Low (now firsts) ⌝ }
+    requires { ⌜ ((C : ℕ) × Seated C k table (now firsts) last) ⌝ }
+    ensures { λ _. ⌜ NodesPut k (old recording) table (old firsts) last (old assignment) (new assignment) ⌝ }
 {
-    let mut x = count;
+    let mut x = table.count;
     let mut end = last;
     while x > 0 {
         x -= 1;
-        let block = clause_table::block_at(kinds, numbers, sizes, firsts, k, x);
+        let block = clause_table::block_at(
+            &table.kinds,
+            &table.numbers,
+            &table.sizes,
+            firsts,
+            k,
+            x,
+        );
         node_values::put_node(assignment, block, end, k as usize, recording);
         end = block.first as usize - 1;
     }
@@ -55,7 +53,7 @@ fn write_extension(
     assignment: &mut [u8],
 ) -> Written
     requires { ⌜ (c ≤ maxChannels) × (k ≤ maxSteps) × (table .count ≤ maxNodes) × (length (now recording) ≡ k) ⌝ }
-    ensures { λ r. ⌜ ((f : Tree Formula) → Letters maxChannels f → table ≡ tableOf (map rowOf (nodesOf f 0)) → record { answer = r; assignment = new assignment } ≡ extendedBy c k f (old recording) (old assignment)) ⌝ }
+    ensures { λ r. ⌜ Extends table c k (old recording) (old assignment) (record { answer = r; assignment = new assignment }) ⌝ }
 {
     let mut firsts = [0; MAX_NODES];
     let s = clause_table::sizes_of(&table.kinds, &table.numbers, table.count, c, k, &mut firsts);
@@ -66,11 +64,8 @@ fn write_extension(
     values::put_channels(&mut assignment[..channels], c as usize, recording);
     put_nodes(
         assignment,
-        &table.kinds,
-        &table.numbers,
-        &table.sizes,
+        table,
         &firsts,
-        table.count,
         k,
         s.variables as usize,
         recording,

@@ -3,13 +3,14 @@
 use mathlib.Core.Path.{_≡_}
 use mathlib.Core.Bool.{Bool}
 use mathlib.Core.List.{List}
-use Prim.Native.Nat.{ℕ, _+_, _-_, _<_}
+use Prim.Native.Nat.{ℕ, _+_, _-_, _≤_, _<_}
+use lib.Seq.{sets}
 use Rattle.interval.specs.Places.{countOf}
 use Rattle.table.specs.Table.{highAt}
 use Rattle.blocks.specs.declared.Block.{Block}
 use Rattle.blocks.specs.declared.Rule.{Rule}
 use Rattle.blocks.specs.declared.Rule.the-variants.{Fixed, Letter, Negation, And, Or, Chop, Duration, Throughout, Cut}
-use Rattle.values.specs.Values.{valuesBy}
+use Rattle.values.specs.Values.{valuesBy, Fits}
 
 -- of the first part, and of the second, n being how long the block is
 abbrev pub firstPoints : ℕ → ℕ → Rule → ℕ
@@ -42,3 +43,11 @@ TruthFrom A v n f = (e : ℕ) → e < n → f e ≡ highAt A (v - 1 + e)
 abbrev pub Makes : ℕ → List ℕ → List ℕ → Block → ℕ → List ℕ → Type 0
 Makes k recording A b n B = (f g : ℕ → Bool) → TruthFrom A (b .left) (firstPoints k n (b .rule)) f → TruthFrom A (b .right) (secondPoints k n (b .rule)) g
     → valuesBy k recording n f g (b .rule) ≡ B
+
+-- a block that ends before `end`, of an assignment of m values: it is as long as its rule says
+abbrev pub BlockIn : ℕ → Block → ℕ → ℕ → Type 0
+BlockIn k b end m = (1 ≤ b .first) × (b .first - 1 ≤ end) × (end ≤ m) × Fits k (end - (b .first - 1)) (b .rule)
+
+-- an assignment before and after what the block makes of its parts is stored in its place
+abbrev pub BlockPut : ℕ → List ℕ → Block → ℕ → List ℕ → List ℕ → Type 0
+BlockPut k recording b end A A′ = (B : List ℕ) → Makes k recording A b (end - (b .first - 1)) B → A′ ≡ sets A (b .first - 1) B

@@ -3,15 +3,12 @@ use blocks::Block;
 use blocks::Rule;
 use interval::Interval;
 ghost use mathlib.Core.Path.{_≡_};
-ghost use mathlib.Core.List.{List};
-ghost use Prim.Native.Nat.{ℕ, _-_, _≤_};
+ghost use Prim.Native.Nat.{_≤_};
 ghost use lib.ListN.{length};
-ghost use lib.Seq.{sets};
 ghost use Rattle.moments.specs.Moments.{old, new};
 ghost use Rattle.interval.specs.Limits.{maxSteps};
 ghost use Rattle.interval.specs.Places.{countOf};
-ghost use Rattle.values.specs.Values.{Fits};
-ghost use Rattle.node_values.specs.Parts.{firstPoints, secondPoints, Makes};
+ghost use Rattle.node_values.specs.Parts.{firstPoints, secondPoints, BlockIn, BlockPut};
 
 // How much of its first part's truth a block of n values goes by; `count` is I.
 fn first_points(rule: Rule, k: usize, n: usize, count: usize) -> usize
@@ -51,8 +48,8 @@ fn second_points(rule: Rule, k: usize, n: usize, count: usize) -> usize
 
 // A node's block, which ends before `end`: the middle part of the assignment, from the node's first variable, handed on to be written.
 pub fn put_node(assignment: &mut [u8], block: Block, end: usize, k: usize, recording: &[u8])
-    requires { ⌜ (k ≤ maxSteps) × (1 ≤ block .first) × (block .first - 1 ≤ end) × (end ≤ length (now assignment)) × Fits k (end - (block .first - 1)) (block .rule) ⌝ }
-    ensures { λ _. ⌜ ((B : List ℕ) → Makes k (old recording) (old assignment) block (end - (block .first - 1)) B → new assignment ≡ sets (old assignment) (block .first - 1) B) ⌝ }
+    requires { ⌜ (k ≤ maxSteps) × BlockIn k block end (length (now assignment)) ⌝ }
+    ensures { λ _. ⌜ BlockPut k (old recording) block end (old assignment) (new assignment) ⌝ }
 {
     let rule = block.rule;
     let start = block.first as usize - 1;

@@ -15,6 +15,10 @@ use Rattle.blocks.specs.declared.Rule.the-variants.{Fixed, Letter, Negation, An
 use Rattle.assignments.specs.Extension.{truthValues, cutValues}
 use Rattle.cuts.specs.Cuts.{onPlaces}
 
+-- a chop's block: its intervals, then its triples
+abbrev pub chopValues : ℕ → (ℕ → Bool) → (ℕ → Bool) → List ℕ
+chopValues k f g = truthValues Formula k (chops (onPlaces k f) (onPlaces k g)) ++ cutValues k (onPlaces k f) (onPlaces k g)
+
 -- a block of n values; its parts' truths are f and g. A chop's triples stand in its own block: none has the rule Cut.
 unfoldable pub valuesBy : ℕ → List ℕ → ℕ → (ℕ → Bool) → (ℕ → Bool) → Rule → List ℕ
 valuesBy k recording n f g (Fixed v) = tab n (λ e. bit v)
@@ -22,7 +26,7 @@ valuesBy k recording n f g (Letter c) = tab n (λ t. bit (channelAt recording (c
 valuesBy k recording n f g Negation = tab n (λ e. bit (not (f e)))
 valuesBy k recording n f g And = tab n (λ e. bit (f e && g e))
 valuesBy k recording n f g Or = tab n (λ e. bit (f e || g e))
-valuesBy k recording n f g Chop = truthValues Formula k (chops (onPlaces k f) (onPlaces k g)) ++ cutValues k (onPlaces k f) (onPlaces k g)
+valuesBy k recording n f g Chop = chopValues k f g
 valuesBy k recording n f g (Duration m) = rows (suc m) (λ c. truthValues Formula k (lasts c f))
 valuesBy k recording n f g Throughout = truthValues Formula k (fills f)
 valuesBy k recording n f g Cut = tab n (λ e. 0)

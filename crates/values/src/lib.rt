@@ -5,7 +5,6 @@ use interval::Interval;
 use table::Measure;
 ghost use mathlib.Core.Path.{_≡_};
 ghost use mathlib.Core.Bool.{Bool};
-ghost use mathlib.Core.List.{_++_};
 ghost use Prim.Native.Nat.{ℕ, suc, _+_, _*_, _≤_};
 ghost use lib.ListN.{length};
 ghost use Rattle.moments.specs.Moments.{old, new};
@@ -14,12 +13,11 @@ ghost use Rattle.interval.specs.Limits.{maxSteps};
 ghost use Rattle.interval.specs.Places.{countOf, tripleCountOf};
 ghost use Rattle.grammar.specs.Limits.{maxChannels};
 ghost use Rattle.grammar.specs.declared.Sort.the-variants.{Formula};
-ghost use Rattle.meaning.specs.Meaning.{bit, bitAt, lasts, chops};
+ghost use Rattle.meaning.specs.Meaning.{bit, bitAt, lasts};
 ghost use Rattle.word.specs.Word.{WordOf};
-ghost use Rattle.assignments.specs.Extension.{channelValues, truthValues, cutValues};
+ghost use Rattle.assignments.specs.Extension.{channelValues, truthValues};
 ghost use Rattle.table.specs.Table.{highAt, Binary};
-ghost use Rattle.cuts.specs.Cuts.{onPlaces};
-ghost use Rattle.values.specs.Values.{valuesBy, Fits};
+ghost use Rattle.values.specs.Values.{chopValues, valuesBy, Fits};
 
 // An instant's channels.
 fn put_instant(out: &mut [u8], byte: u8)
@@ -65,7 +63,7 @@ fn put_levels(out: &mut [u8], n: u32, word: u32, k: usize)
 // A chop: its intervals, then its triples.
 fn put_chop(out: &mut [u8], p: &[u8; Interval::MAX_COUNT], q: &[u8; Interval::MAX_COUNT], k: usize)
     requires { ⌜ (k ≤ maxSteps) × (length (now out) ≡ countOf k + tripleCountOf k) × Binary (now p) × Binary (now q) ⌝ }
-    ensures { λ _. ⌜ new out ≡ truthValues Formula k (chops (onPlaces k (highAt (old p))) (onPlaces k (highAt (old q)))) ++ cutValues k (onPlaces k (highAt (old p))) (onPlaces k (highAt (old q))) ⌝ }
+    ensures { λ _. ⌜ new out ≡ chopValues k (highAt (old p)) (highAt (old q)) ⌝ }
 {
     let count = Interval::count(k);
     truths::put_table(&mut out[..count], &chop::chop_table(p, q, k));

@@ -7,40 +7,40 @@ use Rattle.extension.proofs.put_nodes.Statement.{statement}
 use Rattle.extension.proofs.put_nodes.Tie as tie
 
 abbrev Inv-loop : tie.InvT-loop
-Inv-loop assignment₀ kinds numbers sizes firsts count k last recording x₀ end₀ assignment x end = Extending k recording kinds numbers sizes firsts count last assignment₀ assignment x end
+Inv-loop assignment₀ firsts k last recording table x₀ end₀ assignment x end = Extending k recording table firsts last assignment₀ assignment x end
 
 abbrev μ-loop : tie.MeasureT-loop
-μ-loop assignment₀ kinds numbers sizes firsts count k last recording x₀ end₀ assignment x end = x
+μ-loop assignment₀ firsts k last recording table x₀ end₀ assignment x end = x
 
 loop-holds : tie.Need-loop-holds Inv-loop μ-loop
-loop-holds c = extending-begun (c .before .before .pre .2)
+loop-holds c = extending-begun (c .before .before .pre .0 .2)
 
 sub-x : tie.Need-sub-x Inv-loop μ-loop
 sub-x c = search needs
 
 block-at-requires : tie.Need-block-at-requires Inv-loop μ-loop
-block-at-requires c κs = let p = c .before .before .before .before .pre in (p .0, omega (arith, p .1, c .before .loop .inv .turns, c .loop-test .taken), p .3)
+block-at-requires c κs = let p = c .before .before .before .before .before .before .before .before .pre in (p .0 .0, omega (arith, p .0 .1, c .before .before .before .before .before .loop .inv .turns, c .before .before .before .before .loop-test .taken), p .0 .3)
 
 put-node-requires : tie.Need-put-node-requires Inv-loop μ-loop
-put-node-requires c κs = let p = c .before .before .before .before .before .before .pre in
+put-node-requires c κs = let p = c .before .before .before .before .before .before .before .before .before .before .pre in
     let e = c .before .block-at .ensures in
-    let f = block-fits (c .before .before .before .loop .inv) (search needs) (e .0) (p .4 .0) (p .4 .1) (e .1 0 (omega arith)) in
-    (p .0, f .0, f .1, f .2, f .3)
+    let f = block-fits (c .before .before .before .before .before .before .before .loop .inv) (search needs) (e .0) (p .1 .0) (p .1 .1) (e .1 0 (omega arith)) in
+    (p .0 .0, f)
 
 cast-end : tie.Need-cast-end Inv-loop μ-loop
 cast-end c = search needs
 
 sub-end : tie.Need-sub-end Inv-loop μ-loop
-sub-end c = let p = c .before .before .before .before .before .before .before .before .before .before .pre in
+sub-end c = let p = c .before .before .before .before .before .before .before .before .before .before .before .before .before .before .pre in
     let e = c .before .before .before .before .before .block-at .ensures in
-    block-fits (c .before .before .before .before .before .before .before .loop .inv) (search needs) (e .0) (p .4 .0) (p .4 .1) (e .1 0 (omega arith)) .0
+    block-fits (c .before .before .before .before .before .before .before .before .before .before .before .loop .inv) (search needs) (e .0) (p .1 .0) (p .1 .1) (e .1 0 (omega arith)) .0
 
 loop-less : tie.Need-loop-less Inv-loop μ-loop
 loop-less c = search needs
 
 loop-again : tie.Need-loop-again Inv-loop μ-loop
-loop-again c = let p = c .before .before .before .before .before .before .before .before .before .before .pre in
-    extending-turn (c .before .before .before .before .before .before .before .loop .inv) (search needs) (c .before .before .before .before .before .block-at .ensures .0) (p .4 .0) (p .4 .1) (p .2) (search needs) (c .before .before .before .put-node .ensures)
+loop-again c = let p = c .before .before .before .before .before .before .before .before .before .before .before .before .before .before .pre in
+    extending-turn (c .before .before .before .before .before .before .before .before .before .before .before .loop .inv) (search needs) (c .before .before .before .before .before .block-at .ensures .0) (p .1 .0) (p .1 .1) (p .0 .2) (search needs) (c .before .before .before .put-node .ensures)
 
 same-length : tie.Need-same-length Inv-loop μ-loop
 same-length c = c .before .loop .inv .long

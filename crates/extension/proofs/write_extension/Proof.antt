@@ -24,7 +24,7 @@ enum-known-r : tie.Need-enum-known-r
 enum-known-r c = search needs
 
 returns : tie.Need-returns
-returns c = λ f L e. refused-known _ _ f L e (c .before .before .before .before .before .sizes-of .ensures) _ _ _ (sym (c .before .before .before .ask .ensures) ∙ c .before .r .given .1)
+returns c = λ f t. refused-known _ _ f t (c .before .before .before .before .before .sizes-of .ensures) _ _ _ (sym (c .before .before .before .ask .ensures) ∙ c .before .r .given .1)
 
 enum-told : tie.Need-enum-told
 enum-told c = search needs
@@ -52,19 +52,19 @@ cast-put-nodes : tie.Need-cast-put-nodes
 cast-put-nodes c = search needs
 
 put-nodes-requires : tie.Need-put-nodes-requires
-put-nodes-requires c κs = let s = c .before .before .before .before .before .before .before .before .before .before .before .before .before .before .before .before .before .before .before .before .before .before in
-    let w = c .before .before .before .before .before .before .before .before .before .before .before .before .before .before .before .sizes-of .ensures in
-    let enough = places-enough (c .before .before .before .before .before .before .before .before .before .before .before .before .before .before .before .sizes-of .result .variables) (length (s .args .assignment .now)) (sym (c .before .before .before .before .before .before .before .before .before .before .before .before .before .ask .ensures) ∙ c .before .before .before .before .before .before .before .before .before .before .before .enum-told .given .1) in
-    let fit = channels-fit w (s .args .assignment .now) (sym (c .before .before .before .before .before .before .before .before .before .before .before .before .before .ask .ensures) ∙ c .before .before .before .before .before .before .before .before .before .before .before .enum-told .given .1) in
-    let back = channels-back (s .args .c) (s .args .k) (s .args .recording .now) (s .args .assignment .now) (c .before .before .before .before .before .before .before .before .before .put-channels .ensures) (s .pre .3) fit in
-    (s .pre .1, s .pre .2, omega (arith, enough, back), w .low, (s .args .c, seated w))
+put-nodes-requires c κs = let s = c .before .before .before .before .before .before .before .before .before .before .before .before .before .before .before .before .before .before in
+    let w = c .before .before .before .before .before .before .before .before .before .before .before .sizes-of .ensures in
+    let enough = places-enough (c .before .before .before .before .before .before .before .before .before .before .before .sizes-of .result .variables) (length (s .args .assignment .now)) (sym (c .before .before .before .before .before .before .before .before .before .ask .ensures) ∙ c .before .before .before .before .before .before .before .enum-told .given .1) in
+    let fit = channels-fit w (s .args .assignment .now) (sym (c .before .before .before .before .before .before .before .before .before .ask .ensures) ∙ c .before .before .before .before .before .before .before .enum-told .given .1) in
+    let back = channels-back (s .args .c) (s .args .k) (s .args .recording .now) (s .args .assignment .now) (c .before .before .before .before .before .put-channels .ensures) (s .pre .3) fit in
+    ((s .pre .1, s .pre .2, omega (arith, enough, back), w .low), (s .args .c, seated w))
 
 same-length : tie.Need-same-length
 same-length c = search needs
 
 returns-2 : tie.Need-returns-2
-returns-2 c = let s = c .before .before .before .before .before .before .before .before .before .before .before .before .before .before .before .before .before .before .before .before .before .before .before .before .before in
-    λ f L e. written-known (s .args .c) (s .args .k) f L e (c .before .before .before .before .before .before .before .before .before .before .before .before .before .before .before .before .before .before .sizes-of .ensures) (s .args .recording .now) (s .args .assignment .now) (sym (c .before .before .before .before .before .before .before .before .before .before .before .before .before .before .before .before .ask .ensures) ∙ c .before .before .before .before .before .before .before .before .before .before .before .before .before .before .enum-told .given .1) (s .pre .3) (c .before .before .before .before .before .before .before .before .before .before .before .before .put-channels .ensures) refl (c .before .before .put-nodes .ensures)
+returns-2 c = let s = c .before .before .before .before .before .before .before .before .before .before .before .before .before .before .before .before .before .before .before .before .before in
+    λ f t. written-known (s .args .c) (s .args .k) f t (c .before .before .before .before .before .before .before .before .before .before .before .before .before .before .sizes-of .ensures) (s .args .recording .now) (s .args .assignment .now) (sym (c .before .before .before .before .before .before .before .before .before .before .before .before .ask .ensures) ∙ c .before .before .before .before .before .before .before .before .before .before .enum-told .given .1) (s .pre .3) (c .before .before .before .before .before .before .before .before .put-channels .ensures) refl (c .before .before .put-nodes .ensures)
 
 pub write-extension-spec : {M : Type 1} → statement M
 write-extension-spec =

@@ -27,14 +27,14 @@ first-points-requires c κs = search needs
 
 truth-from-requires : tie.Need-truth-from-requires
 truth-from-requires c κs = let s = c .before .before .before .before .before .before in
-    omega (arith, c .first-points .ensures, few-first (s .args .k) (s .args .end - (s .args .block .first - 1)) (s .pre .0) (s .args .block .rule) (s .pre .4))
+    omega (arith, c .first-points .ensures, few-first (s .args .k) (s .args .end - (s .args .block .first - 1)) (s .pre .0) (s .args .block .rule) (s .pre .1 .3))
 
 second-points-requires : tie.Need-second-points-requires
 second-points-requires c κs = search needs
 
 truth-from-requires-2 : tie.Need-truth-from-requires-2
 truth-from-requires-2 c κs = let s = c .before .before .before .before .before .before .before .before .before in
-    omega (arith, c .second-points .ensures, few-second (s .args .k) (s .args .end - (s .args .block .first - 1)) (s .pre .0) (s .args .block .rule) (s .pre .4))
+    omega (arith, c .second-points .ensures, few-second (s .args .k) (s .args .end - (s .args .block .first - 1)) (s .pre .0) (s .args .block .rule) (s .pre .1 .3))
 
 sub-put-values : tie.Need-sub-put-values
 sub-put-values c = search needs
@@ -48,7 +48,7 @@ part-put-values-end c = search needs
 put-values-requires : tie.Need-put-values-requires
 put-values-requires c κs = let s = c .before .before .before .before .before .before .before .before .before .before .before .before .before in
     let a = s .args in
-    let fits = subst (λ n. Fits (a .k) n (a .block .rule)) (sym (mid-len (a .block .first - 1) (a .end) (a .assignment .now) (s .pre .3))) (s .pre .4) in
+    let fits = subst (λ n. Fits (a .k) n (a .block .rule)) (sym (mid-len (a .block .first - 1) (a .end) (a .assignment .now) (s .pre .1 .2))) (s .pre .1 .3) in
     (s .pre .0, fits, c .before .before .before .before .before .before .truth-from .ensures .0, c .before .before .before .truth-from2 .ensures .0)
 
 same-length : tie.Need-same-length
@@ -59,7 +59,7 @@ returns c = let s = c .before .before .before .before .before .before .before .b
     let a = s .args in
     block-put (a .k) (a .end - (a .block .first - 1)) (a .assignment .now) (a .recording .now) (a .block) (c .before .before .before .before .before .before .before .before .before .truth-from .result) (c .before .before .before .before .before .before .truth-from2 .result)
     (c .before .before .before .before .before .before .before .before .before .before .first-points .ensures) (c .before .before .before .before .before .before .before .second-points .ensures) (c .before .before .before .before .before .before .before .before .before .truth-from .ensures .1) (c .before .before .before .before .before .before .truth-from2 .ensures .1)
-    (mid-len (a .block .first - 1) (a .end) (a .assignment .now) (s .pre .3)) (search needs) (omega arith) (c .before .before .put-values .ensures)
+    (mid-len (a .block .first - 1) (a .end) (a .assignment .now) (s .pre .1 .2)) (search needs) (omega arith) (c .before .before .put-values .ensures)
 
 pub put-node-spec : {M : Type 1} → statement M
 put-node-spec =

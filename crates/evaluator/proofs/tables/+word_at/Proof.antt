@@ -14,17 +14,17 @@ use borrow.Author.Needs.{needs}
 use native.Mathlib.Omega.{arith}
 use borrow.Fn.Kinds.{In}
 use borrow.Fn.PlainCycle.{Measures, is, falls, and}
-use Rattle.evaluator.proofs.word_at.Reads as word-at
-use Rattle.evaluator.proofs.word_at.Kinds as word-at-kinds
-use Rattle.evaluator.proofs.+word_at.Lts-word_at as word-at-lts
+use Rattle.evaluator.proofs.tables.word_at.Reads as word-at
+use Rattle.evaluator.proofs.tables.word_at.Kinds as word-at-kinds
+use Rattle.evaluator.proofs.tables.+word_at.Lts-word_at as word-at-lts
 use Rattle.nodes.proofs.second.Reads as second-reads
 use Rattle.rows.proofs.byte_at.Reads as byte-at-reads
 use Rattle.word.proofs.constant_word.Reads as constant-word-reads
 use Rattle.word.proofs.inverse_word.Reads as inverse-word-reads
 use Rattle.word.proofs.joined_word.Reads as joined-word-reads
 use Rattle.word.proofs.word_of.Reads as word-of-reads
-use Rattle.evaluator.proofs.+word_at.{statement}
-use Rattle.evaluator.proofs.+word_at.Tie.{close}
+use Rattle.evaluator.proofs.tables.+word_at.{statement}
+use Rattle.evaluator.proofs.tables.+word_at.Tie.{close}
 
 abbrev μ-word-at : Measures 2 word-at-kinds.ps ℕ
 μ-word-at κs a = maxNodes - a .1 .1 .1 .1 .0

@@ -19,19 +19,19 @@ use borrow.Author.Needs.{needs}
 use native.Mathlib.Omega.{arith}
 use borrow.Fn.Kinds.{In}
 use borrow.Fn.PlainCycle.{Measures, is, falls, and}
-use Rattle.evaluator.proofs.table_at.Reads as table-at
-use Rattle.evaluator.proofs.table_at.Kinds as table-at-kinds
-use Rattle.evaluator.proofs.+table_at.Lts-table_at as table-at-lts
+use Rattle.evaluator.proofs.tables.table_at.Reads as table-at
+use Rattle.evaluator.proofs.tables.table_at.Kinds as table-at-kinds
+use Rattle.evaluator.proofs.tables.+table_at.Lts-table_at as table-at-lts
 use Rattle.chop.proofs.chop_table.Reads as chop-table-reads
-use Rattle.evaluator.proofs.word_at.Reads as word-at-reads
+use Rattle.evaluator.proofs.tables.word_at.Reads as word-at-reads
 use Rattle.nodes.proofs.second.Reads as second-reads
 use Rattle.rows.proofs.byte_at.Reads as byte-at-reads
 use Rattle.table.proofs.constant_table.Reads as constant-table-reads
 use Rattle.table.proofs.inverse.Reads as inverse-reads
 use Rattle.table.proofs.join.Reads as join-reads
 use Rattle.table.proofs.measured_table.Reads as measured-table-reads
-use Rattle.evaluator.proofs.+table_at.{statement}
-use Rattle.evaluator.proofs.+table_at.Tie.{close}
+use Rattle.evaluator.proofs.tables.+table_at.{statement}
+use Rattle.evaluator.proofs.tables.+table_at.Tie.{close}
 
 abbrev μ-table-at : Measures 2 table-at-kinds.ps ℕ
 μ-table-at κs a = maxNodes - a .1 .1 .1 .1 .0
