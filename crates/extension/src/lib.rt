@@ -55,8 +55,8 @@ fn write_extension(
     requires { ⌜ (c ≤ maxChannels) × (k ≤ maxSteps) × (table .count ≤ maxNodes) × (length (now recording) ≡ k) ⌝ }
     ensures { λ r. ⌜ Extends table c k (old recording) (old assignment) (record { answer = r; assignment = new assignment }) ⌝ }
 {
-    let mut firsts = [0; MAX_NODES];
-    let s = clause_table::sizes_of(&table.kinds, &table.numbers, table.count, c, k, &mut firsts);
+    let layout = clause_table::layout_of(table, c, k);
+    let s = layout.sizes;
     if let Reply::No(r) = refusal::ask(18, s.variables as usize <= assignment.len()) {
         return Written::Refused(r);
     }
@@ -65,7 +65,7 @@ fn write_extension(
     put_nodes(
         assignment,
         table,
-        &firsts,
+        &layout.firsts,
         k,
         s.variables as usize,
         recording,
