@@ -119,6 +119,6 @@ pub fn try_high<'a>(
         c,
         k,
         v,
-        closing::PLAIN,
+        clauses::PLAIN,
     )
 }

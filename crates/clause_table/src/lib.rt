@@ -145,7 +145,7 @@ fn put_table(
 {
     let at = put_nodes(variables, marks, table, firsts, c, k);
     let root = seat(&table.kinds, &table.numbers, firsts, k, 0) + k;
-    literals::put_run(variables, marks, at, root, 1, literals::LAST_PLAIN)
+    literals::put_run(variables, marks, at, root, 1, clauses::LAST_PLAIN)
 }
 
 // How a formula's table is laid out, by its node table: one sum along the nodes for each of V, M and L.

@@ -16,11 +16,6 @@ pub const HIGH: u8 = 1;
 
 pub const LOW: u8 = 2;
 
-// A literal's mark: of any number, its last bit counts.
-pub const NEGATED: u8 = 0;
-
-pub const PLAIN: u8 = 1;
-
 // The place of a variable's value.
 fn place(variable: u32) -> usize
     requires { ⌜ 1 ≤ variable ⌝ }

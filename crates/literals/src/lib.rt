@@ -1,4 +1,8 @@
 // Literals written to a table in memory: two parallel arrays, variable numbers and marks.
+use clauses::LAST_NEGATED;
+use clauses::LAST_PLAIN;
+use clauses::NEGATED;
+use clauses::PLAIN;
 ghost use mathlib.Core.Path.{_≡_};
 ghost use mathlib.Core.List.{List};
 ghost use Prim.Native.Nat.{_+_, _≤_};
@@ -12,15 +16,6 @@ ghost use Rattle.meaning.specs.Meaning.{bit};
 ghost use Rattle.clauses.specs.Clauses.{clausesOf};
 ghost use Rattle.literals.specs.Written.{Room, runOf, raisedOf, longOf, limit};
 ghost use Rattle.literals.specs.Writes.{Writes};
-
-// A literal's mark: whether it is plain, and whether it is its clause's last.
-pub const NEGATED: u8 = 0;
-
-pub const PLAIN: u8 = 1;
-
-pub const LAST_NEGATED: u8 = 2;
-
-pub const LAST_PLAIN: u8 = 3;
 
 // Stores numbers from a place on.
 pub fn put_numbers(variables: &mut [u32], at: usize, more: &[u32])

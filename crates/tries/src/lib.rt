@@ -103,7 +103,7 @@ fn descend(
             c,
             k,
             v,
-            closing::NEGATED,
+            clauses::NEGATED,
         );
         n += 1;
     }

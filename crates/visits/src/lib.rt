@@ -85,11 +85,11 @@ fn visit_long(values: &mut [u8], trail: &mut [u32], top: usize, v: u32, w: u32, 
     requires { ⌜ Trailing (now values) (now trail) top × Variable (length (now values)) v × Row (length (now values)) w n ⌝ }
     ensures { λ r. ⌜ Visits (longBy v w n ∷ []) values trail top r ⌝ }
 {
-    let mut free = one_free(closing::opposed(values, v, closing::NEGATED));
+    let mut free = one_free(closing::opposed(values, v, clauses::NEGATED));
     let mut last = v;
-    let mut mark = closing::NEGATED;
+    let mut mark = clauses::NEGATED;
     for e in 0..n {
-        if !closing::opposed(values, w + e, closing::PLAIN) {
+        if !closing::opposed(values, w + e, clauses::PLAIN) {
             if free == 1 {
                 return Closed {
                     clash: false,
@@ -98,7 +98,7 @@ fn visit_long(values: &mut [u8], trail: &mut [u32], top: usize, v: u32, w: u32, 
             }
             free = 1;
             last = w + e;
-            mark = closing::PLAIN;
+            mark = clauses::PLAIN;
         }
     }
     visit_tallied(values, trail, top, free, last, mark)
