@@ -6,7 +6,7 @@ use grammar::MAX_NODES;
 use node_clauses::cursor::Cursor;
 ghost use Prim.Native.Nat.{ℕ, _+_, _≤_, _<_};
 ghost use lib.ListN.{length};
-ghost use Rattle.moments.specs.Moments.{old, new};
+ghost use Rattle.moments.specs.Moments.{old};
 ghost use Rattle.interval.specs.Limits.{maxSteps, maxCount};
 ghost use Rattle.interval.specs.Listing.{rows};
 ghost use Rattle.interval.specs.Places.{countOf};
@@ -17,7 +17,7 @@ ghost use Rattle.node_clauses.specs.Nodes.{choppedBy, nodeBy, Fine};
 ghost use Rattle.clause_table.specs.Rows.{Low, rowDefinitions, seatBy};
 ghost use Rattle.gates.specs.Mentioned.{Variable, AllMentioned};
 ghost use Rattle.closing.specs.Values.{Trailing};
-ghost use Rattle.visits.specs.Visits.{Visited};
+ghost use Rattle.visits.specs.Visits.{Visits};
 ghost use Rattle.sweeps.specs.Sweeps.{rowClauses, tableBy};
 
 // The gates of a block, one after another.
@@ -31,7 +31,7 @@ fn sweep_block(
 ) -> Closed
     requires { ⌜ (Bounded c k block × (block .points ≤ maxCount)) × Trailing (now values) (now trail) top ⌝ }
     requires { ⌜ AllMentioned (length (now values)) (definedBy c k block) ⌝ }
-    ensures { λ r. ⌜ Visited (clausesBy (definedBy c k block)) (old values) (old trail) top (new values) (new trail) r ⌝ }
+    ensures { λ r. ⌜ Visits (clausesBy (definedBy c k block)) values trail top r ⌝ }
 {
     let mut cursor = Cursor::start(k, block);
     let mut t = top;
@@ -61,7 +61,7 @@ fn sweep_chop(
 ) -> Closed
     requires { ⌜ Fine c k block × Trailing (now values) (now trail) top ⌝ }
     requires { ⌜ AllMentioned (length (now values)) (choppedBy c k (block .first + countOf k) block) ⌝ }
-    ensures { λ r. ⌜ Visited (clausesBy (choppedBy c k (block .first + countOf k) block)) (old values) (old trail) top (new values) (new trail) r ⌝ }
+    ensures { λ r. ⌜ Visits (clausesBy (choppedBy c k (block .first + countOf k) block)) values trail top r ⌝ }
 {
     let w = node_clauses::beyond(block.first, k);
     let triples = node_clauses::triples_of(w, block);
@@ -84,7 +84,7 @@ pub fn sweep_node(
 ) -> Closed
     requires { ⌜ Fine c k block × Trailing (now values) (now trail) top ⌝ }
     requires { ⌜ AllMentioned (length (now values)) (nodeBy c k block (isChop (block .rule))) ⌝ }
-    ensures { λ r. ⌜ Visited (clausesBy (nodeBy c k block (isChop (block .rule)))) (old values) (old trail) top (new values) (new trail) r ⌝ }
+    ensures { λ r. ⌜ Visits (clausesBy (nodeBy c k block (isChop (block .rule)))) values trail top r ⌝ }
 {
     let rule = block.rule;
     if blocks::is_chop(rule) {
@@ -108,7 +108,7 @@ fn sweep_nodes<'a>(
 ) -> Closed
     requires { ⌜ (c ≤ maxChannels) × (k ≤ maxSteps) × (count ≤ maxNodes) × Low (now firsts) × Trailing (now values) (now trail) top ⌝ }
     requires { ⌜ ((x : ℕ) → x < count → AllMentioned (length (now values)) (rowDefinitions c k (now kinds) (now numbers) (now sizes) (now firsts) x)) ⌝ }
-    ensures { λ r. ⌜ Visited (rows count (rowClauses c k (old kinds) (old numbers) (old sizes) (old firsts))) (old values) (old trail) top (new values) (new trail) r ⌝ }
+    ensures { λ r. ⌜ Visits (rows count (rowClauses c k (old kinds) (old numbers) (old sizes) (old firsts))) values trail top r ⌝ }
 {
     let mut t = top;
     for x in 0..count {
@@ -141,7 +141,7 @@ pub fn sweep<'a>(
     requires { ⌜ (c ≤ maxChannels) × (k ≤ maxSteps) × (count ≤ maxNodes) × Low (now firsts) × Trailing (now values) (now trail) top ⌝ }
     requires { ⌜ Variable (length (now values)) (seatBy (now kinds) (now numbers) (now firsts) k 0 + k) ⌝ }
     requires { ⌜ ((x : ℕ) → x < count → AllMentioned (length (now values)) (rowDefinitions c k (now kinds) (now numbers) (now sizes) (now firsts) x)) ⌝ }
-    ensures { λ r. ⌜ Visited (tableBy c k (old kinds) (old numbers) (old sizes) (old firsts) count) (old values) (old trail) top (new values) (new trail) r ⌝ }
+    ensures { λ r. ⌜ Visits (tableBy c k (old kinds) (old numbers) (old sizes) (old firsts) count) values trail top r ⌝ }
 {
     let r = sweep_nodes(
         values,
