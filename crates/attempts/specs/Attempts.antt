@@ -4,12 +4,12 @@ use mathlib.Core.Bool.{true, false}
 use mathlib.Core.List.{List}
 use Prim.Native.Nat.{ℕ, _-_, _≤_, _<_}
 use lib.ListN.{length, getD}
-use Rattle.moments.specs.Moments.{old, new}
+use Rattle.moments.specs.Moments.{old, new, Slice}
 use Rattle.clauses.specs.Clauses.{Literal, Clause, plain}
 use Rattle.closure.specs.Closure.{Literals, add}
 use Rattle.closure.specs.Runs.{clashes, isOpen, NoneOpen, Lowest}
 use Rattle.closure.specs.Tree.{closure}
-use Rattle.closing.specs.Values.{heldIn, Trailing, undone, Ranged, Grown, Slice}
+use Rattle.closing.specs.Values.{heldIn, Trailing, undone, Ranged, Grown}
 use Rattle.closing.specs.declared.Closed.{Closed}
 
 -- the lowest open channel variable, or 0 where none is open

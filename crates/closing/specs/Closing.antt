@@ -4,11 +4,11 @@ use mathlib.Core.Bool.{true, false}
 use mathlib.Core.List.{List}
 use Prim.Native.Nat.{ℕ}
 use lib.ListN.{length}
-use Rattle.moments.specs.Moments.{old, new}
+use Rattle.moments.specs.Moments.{old, new, Slice}
 use Rattle.clauses.specs.Clauses.{Clause}
 use Rattle.closure.specs.Runs.{clashes}
 use Rattle.closure.specs.Tree.{closure}
-use Rattle.closing.specs.Values.{heldIn, Grown, Slice}
+use Rattle.closing.specs.Values.{heldIn, Grown}
 use Rattle.closing.specs.declared.Closed.{Closed}
 
 -- values and trail become the closure, or it clashes

@@ -8,7 +8,7 @@ use Prim.Native.Nat.{ℕ, suc, _+_, _-_, _*_, _≤_, _<_}
 use denote.Ref.{RefT}
 use lib.Dec.{eqb}
 use lib.ListN.{length, getD}
-use Rattle.moments.specs.Moments.{old, new}
+use Rattle.moments.specs.Moments.{old, new, Slice}
 use Rattle.interval.specs.Listing.{All}
 use Rattle.interval.specs.Places.{countOf, placeOf, triplePlaceOf}
 use Rattle.interval.specs.Limits.{maxSteps}
@@ -26,7 +26,7 @@ use Rattle.clause_table.specs.Rows.{truthBy, seatBy, blockBy, Low, Seated, rowD
 use Rattle.closure.specs.Closure.{Literals}
 use Rattle.closure.specs.Tree.{closure}
 use Rattle.closure.specs.Runs.{clashes}
-use Rattle.closing.specs.Values.{heldIn, Grown, Slice}
+use Rattle.closing.specs.Values.{heldIn, Grown}
 use Rattle.closing.specs.declared.Closed.{Closed}
 use Rattle.visits.specs.Visits.{Touched, Due, raisedBy, longBy}
 use Rattle.sweeps.specs.Sweeps.{clausesAt}

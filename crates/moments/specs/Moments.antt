@@ -1,4 +1,6 @@
 -- What stands behind a parameter that is a reference, at a call's two moments: a slice's list, an array's, a number.
+use mathlib.Core.List.{List}
+use Prim.Native.Nat.{ℕ}
 use denote.Ref.{RefT}
 use denote.Triple.Both.{Both}
 
@@ -9,3 +11,7 @@ old x = x .entry .now
 -- after it
 abbrev pub new {ℓ} : {E : Type ℓ} {A : Type 0} → Both E (RefT A) → A
 new x = x .exit .now
+
+-- a slice of numbers that a call is lent to write to
+abbrev pub Slice : Type 0
+Slice = Both (RefT (List ℕ)) (RefT (List ℕ))

@@ -7,7 +7,7 @@ use mathlib.Core.Option.{Option, none, some}
 use Prim.Native.Nat.{ℕ, _+_, _-_, _*_, _/_, _%_, _^_, _≤_}
 use lib.Dec.{eqb}
 use lib.ListN.{length, getD}
-use Rattle.moments.specs.Moments.{old, new}
+use Rattle.moments.specs.Moments.{old, new, Slice}
 use Rattle.meaning.specs.Meaning.{bit}
 use Rattle.circuit.specs.declared.Gate.the-variants.{Constant, Copy, Inverse, Both, Either, Step}
 use Rattle.clauses.specs.Clauses as clauses
@@ -15,7 +15,7 @@ use Rattle.clauses.specs.Clauses.{literal, plain, negated, Clause, clausesOf}
 use Rattle.closure.specs.Closure.{Literals, membersIn}
 use Rattle.closure.specs.Tree.{firstForced, closure}
 use Rattle.closure.specs.Runs.{clashes}
-use Rattle.closing.specs.Values.{heldIn, Grown, Slice}
+use Rattle.closing.specs.Values.{heldIn, Grown}
 use Rattle.closing.specs.declared.Closed.{Closed}
 use Rattle.gates.specs.Mentioned.{Variable}
 use Rattle.patterns.specs.declared.Next.{Next}

@@ -5,14 +5,14 @@ use mathlib.Core.Logic.{_⊎_}
 use mathlib.Core.List.{List, [], _∷_, map}
 use Prim.Native.Nat.{ℕ, _+_, _≤_, _<_}
 use lib.ListN.{length}
-use Rattle.moments.specs.Moments.{old, new}
+use Rattle.moments.specs.Moments.{old, new, Slice}
 use Rattle.interval.specs.Listing.{tab}
 use Rattle.literals.specs.Written.{limit}
 use Rattle.clauses.specs.Clauses.{plain, negated, Clause}
 use Rattle.closure.specs.Closure.{Literals, opposite}
 use Rattle.closure.specs.Tree.{closure}
 use Rattle.closure.specs.Runs.{clashes}
-use Rattle.closing.specs.Values.{heldIn, Grown, Slice}
+use Rattle.closing.specs.Values.{heldIn, Grown}
 use Rattle.closing.specs.declared.Closed.{Closed}
 use Rattle.gates.specs.Mentioned.{Variable}
 
