@@ -29,10 +29,6 @@ fileWritten s variables marks file =
     asked (arrayQuestions s variables marks ++ askFileRoom (s .literals) (length file) ∷ []) (fileRefused file)
     (record { answer = Done; file = over (fileOf (fiveOf s) variables marks) file })
 
--- the reader's answer, and the three arrays after it
-abbrev pub left : Written → List ℕ → List ℕ → List ℕ → After
-left a sizes variables marks = record { answer = a; sizes = sizes; variables = variables; marks = marks }
-
 -- the reader's 15, 16 and 17; then 18; then the sizes and the arrays are written
 abbrev pub fileQuestions : List ℕ → List Reply
 fileQuestions file = askFile file ∷ entryQuestions (sizesAt file) (variablesAt file) (marksAt file)

@@ -10,8 +10,9 @@ ghost use lib.ListN.{length};
 ghost use lib.Seq.{sets};
 ghost use Rattle.moments.specs.Moments.{old, new};
 ghost use Rattle.clause_table.specs.Table.{fiveOf};
+ghost use Rattle.clause_table.specs.Left.{left};
 ghost use Rattle.file_numbers.specs.File.{fileOf};
-ghost use Rattle.clause_file.specs.Calls.{fileWritten, left, fileRead};
+ghost use Rattle.clause_file.specs.Calls.{fileWritten, fileRead};
 
 // The bytes of a file, from the first place on.
 fn put_file(file: &mut [u8], s: Sizes, variables: &[u32], marks: &[u8])
@@ -40,7 +41,7 @@ pub fn write(s: Sizes, variables: &[u32], marks: &[u8], file: &mut [u8]) -> Writ
 
 // Reads a file into a table: questions 15 to 18.
 pub fn read(file: &[u8], sizes: &mut [u32], variables: &mut [u32], marks: &mut [u8]) -> Written
-    ensures { λ r. ⌜ left r (new sizes) (new variables) (new marks) ≡ fileRead (old file) (old sizes) (old variables) (old marks) ⌝ }
+    ensures { λ r. ⌜ left r sizes variables marks ≡ fileRead (old file) (old sizes) (old variables) (old marks) ⌝ }
 {
     if let Reply::No(r) = questions::ask_file(file) {
         return Written::Refused(r);
