@@ -165,16 +165,16 @@ pub fn next(rule: Rule, points: u32, k: u32, p: Position) -> Position
     }
 }
 
-// The place of the interval of so many steps from i on.
-pub fn place(i: u32, steps: u32, k: u32) -> u32
-    requires { ⌜ (i + steps ≤ k) × (k ≤ maxSteps) ⌝ }
+// The place of the interval of so many steps from i on, k steps having I intervals in all.
+pub fn place(i: u32, steps: u32, k: u32, all: u32) -> u32
+    requires { ⌜ (i + steps ≤ k) × (k ≤ maxSteps) × (all ≡ countOf k) ⌝ }
     ensures { λ r. ⌜ (r ≡ placeOf k (record { i = i; j = i + steps })) × (r < bound) ⌝ }
 {
     let v = Interval {
         i: i as usize,
         j: (i + steps) as usize,
     };
-    v.place(k as usize) as u32
+    v.place_among(k as usize, all as usize) as u32
 }
 
 // Level a of a duration on the interval of d steps from i on, in place x of its block from b on, the state assertion from s on.
@@ -205,11 +205,11 @@ fn throughout_gate(b: u32, s: u32, x: u32, i: u32, d: u32) -> Gate
 }
 
 // The triple that starts at a, of i steps, chopped after d.
-fn triple_gate(k: u32, l: u32, r: u32, a: u32, i: u32, d: u32) -> Gate
-    requires { ⌜ (k ≤ maxSteps) × (l < bound) × (r < bound) × (d ≤ i) × (a + i ≤ k) ⌝ }
+fn triple_gate(k: u32, all: u32, l: u32, r: u32, a: u32, i: u32, d: u32) -> Gate
+    requires { ⌜ (k ≤ maxSteps) × (all ≡ countOf k) × (l < bound) × (r < bound) × (d ≤ i) × (a + i ≤ k) ⌝ }
     ensures { λ z. ⌜ z ≡ tripleBy k l r a i d ⌝ }
 {
-    Gate::Both(l + place(a, d, k), r + place(a + d, i - d, k))
+    Gate::Both(l + place(a, d, k, all), r + place(a + d, i - d, k, all))
 }
 
 // The variable of a channel at instant t.
@@ -239,6 +239,6 @@ pub fn gate_at(c: u32, k: u32, all: u32, block: Block, x: u32, p: Position) -> G
         Rule::Chop => Gate::AnyOf(left + p.before, p.cell + 1),
         Rule::Duration(_) => level_gate(k, all, first, left, x, p.row, p.line, p.cell),
         Rule::Throughout => throughout_gate(first, left, x, p.line, p.cell),
-        Rule::Cut => triple_gate(k, left, right, p.row, p.line, p.cell),
+        Rule::Cut => triple_gate(k, all, left, right, p.row, p.line, p.cell),
     }
 }

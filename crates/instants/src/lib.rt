@@ -25,7 +25,7 @@ fn visit_rise(
     requires { ⌜ Standing c k block (now values) (now trail) top × (all ≡ countOf k) × Rising (block .rule) a n × (i ≤ t) × (t < k) ⌝ }
     ensures { λ r. ⌜ Visits (riseClauses c k block a n t i) values trail top r ⌝ }
 {
-    let first = block.first + blocks::place(i, t + 1 - i, k);
+    let first = block.first + blocks::place(i, t + 1 - i, k, all);
     if a == 0 {
         return patterns::settle_both(values, trail, top, first, first - 1, block.left + t);
     }

@@ -63,14 +63,23 @@ impl Interval {
         (k + 1) * (k + 2) / 2
     }
 
-    // Its place among the intervals of k steps: those that start before i are all but those of k - i steps.
+    // Its place among the intervals of k steps.
     pub fn place(self, k: usize) -> usize
         requires { ⌜ k ≤ maxSteps ⌝ }
         requires { ⌜ IntervalOf k self ⌝ }
         ensures { λ r. do ⌜ (r ≡ placeOf k self) × (r < (← ⟦Interval::MAX_COUNT⟧ .entry)) ⌝ }
     {
+        self.place_among(k, Self::count(k))
+    }
+
+    // The same, `all` being I, for those who ask often: those that start before i are all but those of k - i steps.
+    pub fn place_among(self, k: usize, all: usize) -> usize
+        requires { ⌜ (k ≤ maxSteps) × (all ≡ countOf k) ⌝ }
+        requires { ⌜ IntervalOf k self ⌝ }
+        ensures { λ r. do ⌜ (r ≡ placeOf k self) × (r < (← ⟦Interval::MAX_COUNT⟧ .entry)) ⌝ }
+    {
         let i = self.i;
-        Self::count(k) - Self::count(k - i) + (self.j - i)
+        all - Self::count(k - i) + (self.j - i)
     }
 }
 

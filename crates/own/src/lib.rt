@@ -161,11 +161,11 @@ fn reach_triple(
     let e = t.m as u32 - i;
     let w = node_clauses::beyond(block.first, k);
     let triples = node_clauses::triples_of(w, block);
-    let r = walks::visit_cut(values, trail, top, c, k, triples, x, i, d, e);
+    let r = walks::visit_cut(values, trail, top, c, k, all, triples, x, i, d, e);
     if r.clash {
         return r;
     }
-    let v = block.first + blocks::place(i, d, k);
+    let v = block.first + blocks::place(i, d, k, all);
     visits::visit_one(values, trail, r.top, v, w + x - e, e, d + 1)
 }
 

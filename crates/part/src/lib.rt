@@ -126,7 +126,17 @@ fn reach_chop(
     let triples = node_clauses::triples_of(node_clauses::beyond(block.first, k), block);
     if among(left, all, u) {
         let v = decode::interval_at(intervals, k as usize, (u - left) as usize);
-        return triples::visit_first(values, trail, top, c, k, triples, v.i as u32, v.j as u32);
+        return triples::visit_first(
+            values,
+            trail,
+            top,
+            c,
+            k,
+            all,
+            triples,
+            v.i as u32,
+            v.j as u32,
+        );
     }
     if among(right, all, u) {
         let v = decode::interval_at(intervals, k as usize, (u - right) as usize);

@@ -32,15 +32,16 @@ pub fn visit_first(
     top: usize,
     c: u32,
     k: u32,
+    all: u32,
     block: Block,
     i: u32,
     m: u32,
 ) -> Closed
-    requires { ⌜ Standing c k block (now values) (now trail) top × (block .rule ≡ Cut) × (i ≤ m) × (m ≤ k) ⌝ }
+    requires { ⌜ Standing c k block (now values) (now trail) top × (all ≡ countOf k) × (block .rule ≡ Cut) × (i ≤ m) × (m ≤ k) ⌝ }
     ensures { λ r. ⌜ Visits (firstClauses c k block i m) values trail top r ⌝ }
 {
-    let x = block.left + blocks::place(i, m - i, k);
-    let start = blocks::place(m, 0, k);
+    let x = block.left + blocks::place(i, m - i, k, all);
+    let start = blocks::place(m, 0, k, all);
     let mut v = block.first + triple_place(k, i, m, m);
     let mut t = top;
     for e in 0..k - m + 1 {
@@ -74,7 +75,7 @@ pub fn visit_second(
     requires { ⌜ Standing c k block (now values) (now trail) top × (all ≡ countOf k) × (block .rule ≡ Cut) × (m ≤ j) × (j ≤ k) ⌝ }
     ensures { λ r. ⌜ Visits (secondClauses c k block m j) values trail top r ⌝ }
 {
-    let start = blocks::place(m, j - m, k);
+    let start = blocks::place(m, j - m, k, all);
     let mut x = block.left + m;
     let mut v = block.first + triple_place(k, 0, m, j);
     let mut row = all;

@@ -17,7 +17,7 @@ use Rattle.blocks.specs.declared.Rule.{Rule}
 use Rattle.blocks.specs.declared.Rule.the-variants.{Chop}
 use Rattle.weights.specs.Weights.{variableWeight, maxWeight}
 use Rattle.weights.proofs.Weights.{shape-weight, weighed}
-use Rattle.node_clauses.proofs.Walk.{light}
+use Rattle.node_clauses.proofs.Walk.{walkable, light}
 use Rattle.closing.specs.Values.{Trailing}
 use Rattle.sweeps.proofs.Walk.{still}
 use Rattle.fanout.specs.Walks.{Standing}
@@ -26,7 +26,7 @@ pub place-small : {C k : ℕ} {b : Block} {values trail : List ℕ} {top x a i d
 place-small {k = k} {b} {a = a} {i = i} {d = d} s p =
     omega (
       arith,
-      weighed (light (s .bounded, s .points) {v = variableWeight} refl (omega arith) (omega arith) (omega arith)) (b .rule) refl refl .1,
+      weighed (light (walkable (s .bounded) (s .points)) {v = variableWeight} refl (omega arith) (omega arith) (omega arith)) (b .rule) refl refl .1,
       shape-weight k (b .points) (b .rule),
       place-lt (shapeOf (b .points) k (b .rule)) (a, (i, d)) (p .inside),
       p .at,

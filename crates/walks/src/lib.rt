@@ -42,19 +42,20 @@ pub fn visit_cut(
     top: usize,
     c: u32,
     k: u32,
+    all: u32,
     block: Block,
     x: u32,
     i: u32,
     d: u32,
     e: u32,
 ) -> Closed
-    requires { ⌜ Standing c k block (now values) (now trail) top × (block .rule ≡ Cut) ⌝ }
+    requires { ⌜ Standing c k block (now values) (now trail) top × (all ≡ countOf k) × (block .rule ≡ Cut) ⌝ }
     requires { ⌜ Placed (block .points) k (block .rule) x i d e ⌝ }
     ensures { λ r. ⌜ Visits (clausesAt (definedBy c k block) x) values trail top r ⌝ }
 {
     let v = block.first + x;
-    let first = block.left + blocks::place(i, e, k);
-    let second = block.right + blocks::place(i + e, d - e, k);
+    let first = block.left + blocks::place(i, e, k, all);
+    let second = block.right + blocks::place(i + e, d - e, k, all);
     patterns::settle_both(values, trail, top, v, first, second)
 }
 

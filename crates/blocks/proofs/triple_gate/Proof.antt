@@ -12,8 +12,8 @@ use Rattle.blocks.proofs.triple_gate.Tie as tie
 place-requires : tie.Need-place-requires
 place-requires c κs = search needs
 
-add-t8 : tie.Need-add-t8
-add-t8 c = search needs
+add-t9 : tie.Need-add-t9
+add-t9 c = search needs
 
 add-place : tie.Need-add-place
 add-place c = search needs
@@ -24,8 +24,8 @@ sub-place c = search needs
 place-requires-2 : tie.Need-place-requires-2
 place-requires-2 c κs = search needs
 
-add-t12 : tie.Need-add-t12
-add-t12 c = search needs
+add-t13 : tie.Need-add-t13
+add-t13 c = search needs
 
 returns : tie.Need-returns
 returns c = let s = c .before .before .args in
@@ -34,4 +34,4 @@ returns c = let s = c .before .before .args in
 
 pub triple-gate-spec : {M : Type 1} → statement M
 triple-gate-spec =
-    tie.close (tie.spec place-requires add-t8 add-place sub-place place-requires-2 add-t12 returns)
+    tie.close (tie.spec place-requires add-t9 add-place sub-place place-requires-2 add-t13 returns)

@@ -43,7 +43,7 @@ visit-cut-requires c κs =
     let p = c .before .before .before .before .before .before .before .before .before .before .before .before .pre in
     let b = c .before .before .before .before .before .before .before .before .before .before .before .before .args .block in
     let h = halves b (c .before .before .before .beyond .ensures) (c .before .before .triples-of .ensures) refl in
-    ((triples-stand (p .0) (p .2) h, ap (λ (t : Block). t .rule) (c .before .before .triples-of .ensures)), triple-here (c .before .before .before .before .before .before .before .before .before .before .before .before .args .k) b (c .before .before .before .beyond .result) (c .before .before .before .before .before .before .before .before .before .before .before .before .args .x) (c .before .before .triples-of .ensures) (c .before .before .before .before .before .before .before .triple-at .result) (c .before .before .before .before .before .before .before .triple-at .ensures))
+    ((triples-stand (p .0) (p .2) h, p .1, ap (λ (t : Block). t .rule) (c .before .before .triples-of .ensures)), triple-here (c .before .before .before .before .before .before .before .before .before .before .before .before .args .k) b (c .before .before .before .beyond .result) (c .before .before .before .before .before .before .before .before .before .before .before .before .args .x) (c .before .before .triples-of .ensures) (c .before .before .before .before .before .before .before .triple-at .result) (c .before .before .before .before .before .before .before .triple-at .ensures))
 
 same-length : tie.Need-same-length
 same-length c = search needs
@@ -59,7 +59,7 @@ returns c =
     (first-visit (c .before .before .before .before .before .before .before .before .before .before .before .before .before .before .before .before .before .before .args .c) (c .before .before .before .before .before .before .before .before .before .before .before .before .before .before .before .before .before .before .args .k) (c .before .before .before .before .before .before .before .before .before .before .before .before .before .before .before .before .before .before .args .block) t (c .before .before .before .before .before .before .before .before .before .before .before .before .before .triple-at .ensures) (c .before .before .before .before .before .before .before .before .before .beyond .ensures) (c .before .before .before .before .before .before .before .before .triples-of .ensures) (c .if1 .taken) (c .before .before .before .before .before .visit-cut .ensures))
 
 place-requires : tie.Need-place-requires
-place-requires c κs = let o = c .before .before .before .before .before .before .before .before .before .before .before .before .before .triple-at .ensures .0 in (omega (arith, o .starts, o .cut, o .ends), c .before .before .before .before .before .before .before .before .before .before .before .before .before .before .before .before .before .before .pre .0 .fine .bounded .steps)
+place-requires c κs = let o = c .before .before .before .before .before .before .before .before .before .before .before .before .before .triple-at .ensures .0 in (omega (arith, o .starts, o .cut, o .ends), c .before .before .before .before .before .before .before .before .before .before .before .before .before .before .before .before .before .before .pre .0 .fine .bounded .steps, c .before .before .before .before .before .before .before .before .before .before .before .before .before .before .before .before .before .before .pre .1)
 
 add-v : tie.Need-add-v
 add-v c = omega (arith, c .before .before .before .before .before .before .before .before .before .before .before .before .before .before .before .before .before .before .before .before .pre .0 .fine .bounded .first, c .before .place .ensures .1)

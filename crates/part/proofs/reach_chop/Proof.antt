@@ -42,7 +42,7 @@ visit-first-requires : tie.Need-visit-first-requires
 visit-first-requires c κs =
     let p = c .before .before .before .before .before .before .before .before .before .before .before .before .pre in
     let o = c .before .before .before .before .interval-at .ensures .0 in
-    (triples-stand (p .0 .0) (p .0 .2) (halves (c .before .before .before .before .before .before .before .before .before .before .before .before .args .block) (c .before .before .before .before .before .before .before .before .beyond .ensures) (c .before .before .before .before .before .before .before .triples-of .ensures) refl), cut-rule (c .before .before .before .before .before .before .before .before .beyond .result) (c .before .before .before .before .before .before .before .before .before .before .before .before .args .block) (c .before .before .before .before .before .before .before .triples-of .ensures), o .starts, o .ends)
+    (triples-stand (p .0 .0) (p .0 .2) (halves (c .before .before .before .before .before .before .before .before .before .before .before .before .args .block) (c .before .before .before .before .before .before .before .before .beyond .ensures) (c .before .before .before .before .before .before .before .triples-of .ensures) refl), p .0 .1, cut-rule (c .before .before .before .before .before .before .before .before .beyond .result) (c .before .before .before .before .before .before .before .before .before .before .before .before .args .block) (c .before .before .before .before .before .before .before .triples-of .ensures), o .starts, o .ends)
 
 same-length : tie.Need-same-length
 same-length c = search needs

@@ -19,12 +19,12 @@ use Rattle.triples.proofs.visit_first.Statement.{statement}
 use Rattle.triples.proofs.visit_first.Tie as tie
 
 abbrev Inv-loop : tie.InvT-loop
-Inv-loop values₀ trail₀ top c k block i m x start v₀ t₀ e₀ e-end values trail v t e =
+Inv-loop values₀ trail₀ top c k all block i m x start v₀ t₀ e₀ e-end values trail v t e =
     (length values ≡ length values₀) × (length trail ≡ length trail₀) × (e ≤ k - m + 1) × Firsts k block i m x start v e
     × Visited (rows e (λ e. clausesAt (definedBy c k block) (triplePlaceOf k (record { i = i; m = m; j = m + e })))) values₀ trail₀ top values trail (record { clash = false; top = t })
 
 abbrev μ-loop : tie.MeasureT-loop
-μ-loop values₀ trail₀ top c k block i m x start v₀ t₀ e₀ e-end values trail v t e = k - m + 1 - e
+μ-loop values₀ trail₀ top c k all block i m x start v₀ t₀ e₀ e-end values trail v t e = k - m + 1 - e
 
 sub-place : tie.Need-sub-place Inv-loop μ-loop
 sub-place c = search needs
@@ -51,7 +51,7 @@ add-e-end : tie.Need-add-e-end Inv-loop μ-loop
 add-e-end c = omega (arith, c .before .before .before .before .before .before .before .pre .0 .bounded .steps)
 
 loop-holds : tie.Need-loop-holds Inv-loop μ-loop
-loop-holds c = let s = c .before .before .before .before .before .before .before .pre in (refl, refl, omega arith, first-begun (s .1) (s .2) (s .3) (c .before .before .before .before .place .ensures .0) (c .before .before .place2 .ensures .0) (c .before .triple-place .ensures .0), loop-begun _ (s .0 .trailing))
+loop-holds c = let s = c .before .before .before .before .before .before .before .pre in (refl, refl, omega arith, first-begun (s .2) (s .3) (s .4) (c .before .before .before .before .place .ensures .0) (c .before .before .place2 .ensures .0) (c .before .triple-place .ensures .0), loop-begun _ (s .0 .trailing))
 
 add-y : tie.Need-add-y Inv-loop μ-loop
 add-y c = omega (arith, first-small (c .before .before .loop .inv .3) (c .before .loop-test .taken) (c .before .before .before .before .before .before .before .before .before .before .pre .0 .bounded), c .before .before .before .before .before .before .before .before .before .before .pre .0 .bounded .right)
