@@ -3,7 +3,7 @@
 use mathlib.Core.Path.{_≡_, refl, sym, ap, ap₂, _∙_, subst}
 use mathlib.Core.Bool.{Bool, true, false, cond}
 use mathlib.Core.List.{List, [], _∷_, _++_, flatMap, append-assoc, append-nil}
-use Prim.Native.Nat.{ℕ, zero, suc, _+_, _-_, _≤_, _<_}
+use Prim.Native.Nat.{ℕ, zero, suc, _+_, _-_, _^_, _≤_, _<_}
 use native.Mathlib.Omega.{arith}
 use lib.Dec.{eqb}
 use lib.ListN.{length}
@@ -136,6 +136,15 @@ module _ (C k : ℕ) (block : Block) {x a i d : ℕ} (p : Placed (block .points)
 
   pub defined-at : Bounded C k block → DefinedAt C k block x gate
   defined-at b = record { here = definition-here; within = subst Within (sym g) (gate-within C k block b x a i d p) }
+
+-- the gate at the cursor
+module _ {C k : ℕ} {block : Block} (b : Bounded C k block) {c : Cursor} (w : Walks k block c) (h : c .place < c .end) where
+  pub gate-asked : (Bounded C k block × (c .place < 2 ^ 24) × (c .all ≡ countOf k))
+      × (Placed (block .points) k (block .rule) (c .place) (c .position .row) (c .position .line) (c .position .cell) × (block .rule ≡ Chop → Before (block .points) k (block .rule) (c .position)))
+  gate-asked = ((b, omega (arith, w .few), w .intervals), (w .here h, λ _. w .before))
+
+  pub gate-defined : {gate : Gate} → gate ≡ gateOf C k block (c .place) (c .position .row) (c .position .line) (c .position .cell) → DefinedAt C k block (c .place) gate
+  gate-defined g = defined-at C k block (w .here h) g b
 
 -- ---- the writing loop
 

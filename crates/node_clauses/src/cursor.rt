@@ -1,12 +1,11 @@
-// A walk through the gates of a block, in the order of their places.
+// A walk through the gates of a block, in the order of their places: `blocks::gate_at` gives the gate here. It is called where the walk
+// is made, since in a function of the cursor the compiler does not put it into the loop.
 use blocks::Block;
 use blocks::Position;
-use circuit::Gate;
 use interval::Interval;
 ghost use mathlib.Core.Path.{_≡_};
 ghost use Prim.Native.Nat.{_+_, _<_};
-ghost use Rattle.blocks.specs.Blocks.{Bounded};
-ghost use Rattle.node_clauses.specs.Walk.{Walkable, Walks, DefinedAt};
+ghost use Rattle.node_clauses.specs.Walk.{Walkable, Walks};
 
 // Where a walk stands: at a place, past the last one at `end`, and at that place's position; k steps have
 // I intervals in `all`.
@@ -35,14 +34,6 @@ impl Cursor {
                 before: 0,
             },
         }
-    }
-
-    // The gate here: that of the block's definition in this place.
-    pub fn gate(self, c: u32, k: u32, block: Block) -> Gate
-        requires { ⌜ Bounded c k block × Walks k block self × (self .place < self .end) ⌝ }
-        ensures { λ r. ⌜ DefinedAt c k block (self .place) r ⌝ }
-    {
-        blocks::gate_at(c, k, self.all, block, self.place, self.position)
     }
 
     // At the next gate.

@@ -33,7 +33,7 @@ fn walk_block(
     let mut cursor = Cursor::start(k, block);
     let mut b = at;
     while cursor.place < cursor.end {
-        let gate = cursor.gate(c, k, block);
+        let gate = blocks::gate_at(c, k, cursor.all, block, cursor.place, cursor.position);
         b = gates::put_gate(variables, marks, b, block.first + cursor.place, gate);
         cursor = cursor.next(k, block);
     }

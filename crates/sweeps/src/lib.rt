@@ -36,7 +36,7 @@ fn sweep_block(
     let mut cursor = Cursor::start(k, block);
     let mut t = top;
     while cursor.place < cursor.end {
-        let gate = cursor.gate(c, k, block);
+        let gate = blocks::gate_at(c, k, cursor.all, block, cursor.place, cursor.position);
         let r = visits::visit(values, trail, t, block.first + cursor.place, gate);
         if r.clash {
             return r;

@@ -46,7 +46,7 @@ fn ask_block(assignment: &[u8], c: u32, k: u32, block: Block, n: u32) -> Reply
     let mut cursor = Cursor::start(k, block);
     let mut m = n;
     while cursor.place < cursor.end {
-        let gate = cursor.gate(c, k, block);
+        let gate = blocks::gate_at(c, k, cursor.all, block, cursor.place, cursor.position);
         if let Reply::No(r) = unmet_gate::ask_gate(
             assignment,
             block.first + cursor.place,

@@ -4,7 +4,7 @@ use Prim.Native.Nat.{_-_}
 use native.Mathlib.Omega.{arith}
 use borrow.Author.Needs.{needs}
 use Rattle.node_clauses.specs.Walk.{Walked}
-use Rattle.node_clauses.proofs.Walk.{walkable, one-less, walk-begun, walk-room, walk-turn, walk-done}
+use Rattle.node_clauses.proofs.Walk.{walkable, one-less, gate-asked, gate-defined, walk-begun, walk-room, walk-turn, walk-done}
 use Rattle.node_clauses.proofs.walk_block.Statement.{statement}
 use Rattle.node_clauses.proofs.walk_block.Tie as tie
 
@@ -20,14 +20,15 @@ start-requires c κs = let p = c .before .before .pre .1 in walkable (p .0) (p .
 loop-holds : tie.Need-loop-holds Inv-loop μ-loop
 loop-holds c = walk-begun _ _ _ (c .start .ensures .0) (c .start .ensures .1)
 
-gate-requires : tie.Need-gate-requires Inv-loop μ-loop
-gate-requires c κs = (c .before .before .before .before .before .before .pre .1 .0, c .before .before .loop .inv .walks, c .if1 .taken)
+gate-at-requires : tie.Need-gate-at-requires Inv-loop μ-loop
+gate-at-requires c κs = gate-asked (c .before .before .before .before .before .before .pre .1 .0) (c .before .before .loop .inv .walks) (c .if1 .taken)
 
 add-put-gate : tie.Need-add-put-gate Inv-loop μ-loop
 add-put-gate c = omega (arith, c .before .before .before .before .before .before .before .loop .inv .walks .few, c .before .before .before .before .before .if1 .taken, c .before .before .before .before .before .before .before .before .before .before .before .pre .1 .0 .first)
 
 put-gate-requires : tie.Need-put-gate-requires Inv-loop μ-loop
-put-gate-requires c κs = let g = c .before .before .before .before .gate .ensures in (walk-room _ _ _ (c .before .before .before .before .before .before .before .loop .inv) (c .before .before .before .before .before .if1 .taken) g (c .before .before .before .before .before .before .before .before .before .before .before .pre .0), g .within)
+put-gate-requires c κs = let w = c .before .before .before .before .before .before .before .loop .inv in let h = c .before .before .before .before .before .if1 .taken in
+    let g = gate-defined (c .before .before .before .before .before .before .before .before .before .before .before .pre .1 .0) (w .walks) h (c .before .before .before .before .gate-at .ensures) in (walk-room _ _ _ w h g (c .before .before .before .before .before .before .before .before .before .before .before .pre .0), g .within)
 
 next-requires : tie.Need-next-requires Inv-loop μ-loop
 next-requires c κs = let p = c .before .before .before .before .before .before .before .before .before .before .before .before .before .before .before .before .pre .1 in (walkable (p .0) (p .1), c .before .before .before .before .before .before .before .before .before .before .before .before .loop .inv .walks, c .before .before .before .before .before .before .before .before .before .before .if1 .taken)
@@ -36,7 +37,8 @@ loop-less : tie.Need-loop-less Inv-loop μ-loop
 loop-less c = one-less (c .before .before .before .before .before .before .before .before .before .before .before .before .before .loop .inv .walks) (c .before .before .before .before .before .before .before .before .before .before .before .if1 .taken) (c .next .ensures .0) (c .next .ensures .1)
 
 loop-again : tie.Need-loop-again Inv-loop μ-loop
-loop-again c = walk-turn _ _ _ (c .before .before .before .before .before .before .before .before .before .before .before .before .before .loop .inv) (c .before .before .before .before .before .before .before .before .before .before .before .if1 .taken) (c .before .before .before .before .before .before .before .before .before .before .gate .ensures) (c .before .before .before .before .before .put-gate .ensures) (c .next .ensures)
+loop-again c = let w = c .before .before .before .before .before .before .before .before .before .before .before .before .before .loop .inv in let h = c .before .before .before .before .before .before .before .before .before .before .before .if1 .taken in
+    walk-turn _ _ _ w h (gate-defined (c .before .before .before .before .before .before .before .before .before .before .before .before .before .before .before .before .before .pre .1 .0) (w .walks) h (c .before .before .before .before .before .before .before .before .before .before .gate-at .ensures)) (c .before .before .before .before .before .put-gate .ensures) (c .next .ensures)
 
 same-length : tie.Need-same-length Inv-loop μ-loop
 same-length c = c .before .before .loop .inv .sofar .long
@@ -55,7 +57,7 @@ walk-block-spec =
     μ-loop
     start-requires
     loop-holds
-    gate-requires
+    gate-at-requires
     add-put-gate
     put-gate-requires
     next-requires

@@ -9,7 +9,7 @@ use lib.ListN.{length}
 use Rattle.interval.specs.Listing.{rows}
 use Rattle.blocks.specs.Blocks.{definedBy}
 use Rattle.node_clauses.specs.Walk.{Walks}
-use Rattle.node_clauses.proofs.Walk.{walkable, one-less, all-defined}
+use Rattle.node_clauses.proofs.Walk.{walkable, one-less, all-defined, gate-asked, gate-defined}
 use Rattle.visits.specs.Visits.{Visited}
 use Rattle.visits.proofs.Parts.{visited-named}
 use Rattle.visits.proofs.Loops.{loop-begun, loop-turn, loop-stop, loop-done}
@@ -33,8 +33,8 @@ loop-holds : tie.Need-loop-holds Inv-loop μ-loop
 loop-holds c = let e = c .start .ensures in let s = c .before .before .before in
     (refl, refl, omega (arith, e .1), e .0, visited-named (ap (λ (n : ℕ). rows n (clausesAt (definedBy (s .args .c) (s .args .k) (s .args .block)))) (sym (e .1))) (loop-begun _ (s .pre .0 .1)))
 
-gate-requires : tie.Need-gate-requires Inv-loop μ-loop
-gate-requires c κs = (c .before .before .before .before .before .before .pre .0 .0 .0, c .before .before .loop .inv .3, c .if1 .taken)
+gate-at-requires : tie.Need-gate-at-requires Inv-loop μ-loop
+gate-at-requires c κs = gate-asked (c .before .before .before .before .before .before .pre .0 .0 .0) (c .before .before .loop .inv .3) (c .if1 .taken)
 
 add-visit : tie.Need-add-visit Inv-loop μ-loop
 add-visit c = omega (arith, c .before .before .before .before .before .before .before .loop .inv .3 .few, c .before .before .before .before .before .if1 .taken, c .before .before .before .before .before .before .before .before .before .before .before .pre .0 .0 .0 .first)
@@ -42,7 +42,7 @@ add-visit c = omega (arith, c .before .before .before .before .before .before .b
 visit-requires : tie.Need-visit-requires Inv-loop μ-loop
 visit-requires c κs = let i = c .before .before .before .before .before .before .before .loop .inv in let s = c .before .before .before .before .before .before .before .before .before .before .before in
     let D = definedBy (s .args .c) (s .args .k) (s .args .block) in
-    let a = asks-at (c .before .before .before .before .gate .ensures) (omega (arith, all-defined (s .args .c) (i .3), c .before .before .before .before .before .if1 .taken)) (still D (i .0) (s .pre .1)) in
+    let a = asks-at (gate-defined (c .before .before .before .before .before .before .before .before .before .before .before .pre .0 .0 .0) (i .3) (c .before .before .before .before .before .if1 .taken) (c .before .before .before .before .gate-at .ensures)) (omega (arith, all-defined (s .args .c) (i .3), c .before .before .before .before .before .if1 .taken)) (still D (i .0) (s .pre .1)) in
     (i .4 .grown .trailing, a .0, a .1, a .2)
 
 same-length : tie.Need-same-length Inv-loop μ-loop
@@ -53,7 +53,7 @@ same-length-2 c = search needs
 
 returns : tie.Need-returns Inv-loop μ-loop
 returns c = let i = c .before .before .before .before .before .before .before .before .before .before .before .before .before .loop .inv in
-    visited-named (whole-block _ (i .3)) (loop-stop _ _ (i .4) (clauses-at (c .before .before .before .before .before .before .before .before .before .before .gate .ensures)) (c .before .before .before .before .before .visit .ensures) _ (c .before .before .before .before .before .before .before .before .before .before .before .if1 .taken) (c .if2 .taken))
+    visited-named (whole-block _ (i .3)) (loop-stop _ _ (i .4) (clauses-at (gate-defined (c .before .before .before .before .before .before .before .before .before .before .before .before .before .before .before .before .before .pre .0 .0 .0) (i .3) (c .before .before .before .before .before .before .before .before .before .before .before .if1 .taken) (c .before .before .before .before .before .before .before .before .before .before .gate-at .ensures))) (c .before .before .before .before .before .visit .ensures) _ (c .before .before .before .before .before .before .before .before .before .before .before .if1 .taken) (c .if2 .taken))
 
 next-requires : tie.Need-next-requires Inv-loop μ-loop
 next-requires c κs = let s = c .before .before .before .before .before .before .before .before .before .before .before .before .before .before .before .before .before .pre .0 .0 in (walkable (s .0) (s .1), c .before .before .before .before .before .before .before .before .before .before .before .before .before .loop .inv .3, c .before .before .before .before .before .before .before .before .before .before .before .if1 .taken)
@@ -68,7 +68,7 @@ loop-again c = let i = c .before .before .before .before .before .before .before
   omega (arith, c .before .before .before .before .before .before .before .before .before .before .before .before .if1 .taken, i .3 .whole, e .0 .whole, e .1),
   e .0,
   visited-named (ap (λ (n : ℕ). rows n (clausesAt (definedBy (s .c) (s .k) (s .block)))) (sym (e .1)))
-      (loop-turn _ _ (i .4) (clauses-at (c .before .before .before .before .before .before .before .before .before .before .before .gate .ensures)) (c .before .before .before .before .before .before .visit .ensures) (c .before .if2 .left)),
+      (loop-turn _ _ (i .4) (clauses-at (gate-defined (c .before .before .before .before .before .before .before .before .before .before .before .before .before .before .before .before .before .before .pre .0 .0 .0) (i .3) (c .before .before .before .before .before .before .before .before .before .before .before .before .if1 .taken) (c .before .before .before .before .before .before .before .before .before .before .before .gate-at .ensures))) (c .before .before .before .before .before .before .visit .ensures) (c .before .if2 .left)),
 )
 
 same-length-3 : tie.Need-same-length-3 Inv-loop μ-loop
@@ -88,7 +88,7 @@ sweep-block-spec =
     μ-loop
     start-requires
     loop-holds
-    gate-requires
+    gate-at-requires
     add-visit
     visit-requires
     same-length
