@@ -3,7 +3,7 @@
 use mathlib.Core.Path.{_≡_, refl, sym, ap, _∙_, subst}
 use mathlib.Core.Bool.{Bool, true, false, cond, false≢true, _&&_}
 use mathlib.Core.List.{List, [], _∷_, _++_, map, flatMap, append-nil}
-use Prim.Native.Nat.{ℕ, zero, suc, _+_, _*_, _≤_}
+use Prim.Native.Nat.{ℕ, _+_, _*_, _≤_}
 use native.Mathlib.Nat.{zero-add}
 use native.Mathlib.Omega.{arith}
 use lib.Dec.{leb}
@@ -48,7 +48,7 @@ use Rattle.literals.specs.Written.{Room, Wrote}
 use Rattle.clauses.proofs.Sizes.{length-flat-join, clauses-by, literals-by}
 use Rattle.clause_table.specs.Table.{After, onTree, sizesOf, sizesIn, placesIn, askRoom, over, refused, writtenTable, fiveOf, tabled}
 use Rattle.node_clauses.specs.Nodes.{tripleBlock, intervalBlock, nodeBy, nodePlaces}
-use Rattle.clause_table.specs.Rows.{nodeTableOf, blockBy, rowDefinitions, rowPlaces, rootPlaces, nodesPlaces, tablePlaces, Low, Measured, tabledBy}
+use Rattle.clause_table.specs.Rows.{nodeTableOf, blockBy, rowDefinitions, rowPlaces, rootPlaces, nodesPlaces, tablePlaces, Measured, tabledBy}
 use Rattle.clause_table.specs.declared.Sizes.{Sizes}
 use Rattle.clause_table.specs.declared.Written.the-variants.{Done}
 use Rattle.clause_table.proofs.Measure.{stored-over}

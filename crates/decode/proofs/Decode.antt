@@ -11,7 +11,7 @@ use lib.ListN.{length, getD, set}
 use lib.Seq.{getD-set-same, getD-set-other}
 use Rattle.interval.specs.Listing.{sum}
 use Rattle.interval.specs.Places.{countOf, tripleCountOf, placeOf}
-use Rattle.interval.proofs.Shape.{intervals, triples}
+use Rattle.interval.proofs.Shape.{intervals}
 use Rattle.interval.specs.Limits.{maxSteps, IntervalOf, TripleOf}
 use Rattle.interval.specs.declared.Interval.{Interval}
 use Rattle.interval.proofs.Counts.{triangle-count, intervals-count, triples-count, interval-place}

@@ -5,7 +5,6 @@ use closing::Closed;
 use grammar::MAX_NODES;
 ghost use mathlib.Core.Path.{_≡_};
 ghost use Prim.Native.Nat.{ℕ, _*_, _≤_, _<_};
-ghost use lib.ListN.{length};
 ghost use Rattle.moments.specs.Moments.{old};
 ghost use Rattle.interval.specs.Limits.{maxSteps};
 ghost use Rattle.interval.specs.Listing.{rows};

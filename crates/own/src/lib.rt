@@ -4,7 +4,6 @@ use blocks::Form;
 use blocks::Position;
 use blocks::Rule;
 use closing::Closed;
-use interval::Interval;
 ghost use mathlib.Core.Path.{_≡_};
 ghost use mathlib.Core.Bool.{false};
 ghost use Prim.Native.Nat.{_+_, _*_, _≤_, _<_};

@@ -7,7 +7,7 @@ ghost use mathlib.Core.Path.{_≡_};
 ghost use mathlib.Core.Bool.{Bool, true};
 ghost use Prim.Native.Nat.{ℕ, _+_, _*_, _≤_, _<_};
 ghost use lib.ListN.{length, getD};
-ghost use Rattle.moments.specs.Moments.{old, new};
+ghost use Rattle.moments.specs.Moments.{old};
 ghost use Rattle.meaning.specs.Meaning.{bit};
 ghost use Rattle.closing.specs.Values.{Trailing};
 ghost use Rattle.patterns.specs.Patterns.{valueAt, Four, Settles, patternOf, among, renamed, stepPattern, forcedBy, Forces, Quiets, endedBy};

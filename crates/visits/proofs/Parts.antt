@@ -11,7 +11,7 @@ use Rattle.meaning.proofs.Laws.{some-one}
 use Rattle.interval.specs.Listing.{All}
 use Rattle.formula.proofs.Lists.{all-append, flat-append}
 use Rattle.clauses.specs.Clauses.{Literal, Clause, plain, negated}
-use Rattle.closure.specs.Closure.{Literals, opposite, Member, member, membersOf, membersIn}
+use Rattle.closure.specs.Closure.{Literals, opposite, Member, membersOf, membersIn}
 use Rattle.closure.specs.Tree.{closure}
 use Rattle.closure.specs.Runs.{clashes}
 use Rattle.closure.proofs.Sets.{either-way, In, Below, Opposed, same-set}

@@ -2,7 +2,6 @@
 -- whose clauses the turn writes (Walk.antt).
 use Prim.Native.Nat.{_-_}
 use native.Mathlib.Omega.{arith}
-use borrow.Author.Needs.{needs}
 use Rattle.node_clauses.specs.Walk.{Walked}
 use Rattle.node_clauses.proofs.Walk.{walkable, one-less, gate-asked, gate-defined, walk-begun, walk-room, walk-turn, walk-done}
 use Rattle.node_clauses.proofs.walk_block.Statement.{statement}

@@ -1,7 +1,6 @@
 -- A chop has two blocks; else the form tells: one line, or intervals, of a duration or `[S]`. No node is of triples alone.
 -- What is visited suffices for the variable (fanout's laws).
 use mathlib.Core.Path.{sym, _∙_, subst}
-use Prim.Native.Nat.{_-_}
 use native.Mathlib.Omega.{arith}
 use Rattle.fanout.proofs.Cover.{reached}
 use Rattle.fanout.proofs.Lines.{own-suffices}

@@ -1,7 +1,7 @@
 -- The triple in place x is decoded. Its own gate mentions its variable, and of its interval's clauses two name it.
 -- Both are visited, one after the other.
 use mathlib.Core.Path.{refl, sym, ap}
-use Prim.Native.Nat.{ℕ, _+_, _-_}
+use Prim.Native.Nat.{ℕ, _+_}
 use native.Mathlib.Omega.{arith}
 use Rattle.interval.specs.Places.{countOf}
 use Rattle.interval.proofs.Laws.{counts-at-32}

@@ -1,7 +1,6 @@
 -- The first part on [i, m] is read by the triples (i, m, j), the second on [m, j] by (i, m, j): all of them are visited.
 -- Any other variable of another node is read by none.
 use mathlib.Core.Path.{_≡_, refl}
-use Prim.Native.Nat.{_-_}
 use native.Mathlib.Omega.{arith}
 use Rattle.interval.specs.Places.{countOf}
 use Rattle.node_clauses.proofs.Nodes.{halves}

@@ -7,7 +7,7 @@ use Rattle.search.proofs.search_table.Statement.{statement}
 use Rattle.search.proofs.search_table.Tie as tie
 
 layout-of-requires : tie.Need-layout-of-requires
-layout-of-requires c κs = let p = c .before .before .before .before .before .before .before .pre in (p .0, p .1, p .2)
+layout-of-requires c κs = let p = c .before .before .before .pre in (p .0, p .1, p .2)
 
 ask-lent-requires : tie.Need-ask-lent-requires
 ask-lent-requires c κs = search needs
@@ -16,15 +16,15 @@ enum-known-r : tie.Need-enum-known-r
 enum-known-r c = search needs
 
 returns : tie.Need-returns
-returns c = (λ f e. lent-refused _ _ f e (c .before .before .before .before .layout-of .ensures) _ _ _ (sym (c .before .before .before .ask-lent .ensures) ∙ c .before .r .given .1), (λ r q. refl, λ r q. refl))
+returns c = (λ f e. lent-refused _ _ f e (c .before .before .before .before .before .layout-of .ensures) _ _ _ (sym (c .before .before .before .ask-lent .ensures) ∙ c .before .r .given .1), (λ r q. refl, λ r q. refl))
 
 enum-told : tie.Need-enum-told
 enum-told c = search needs
 
 search-lent-requires : tie.Need-search-lent-requires
 search-lent-requires c κs =
-    let g = lent-enough _ _ _ _ (sym (c .before .before .before .before .before .before .ask-lent .ensures) ∙ c .before .before .before .before .enum-told .given .1) in
-    (c .before .before .before .before .before .before .before .before .before .before .before .before .before .before .before .pre, (c .before .before .before .before .before .before .before .layout-of .ensures, (g .values, g .trail, g .recording)))
+    let g = lent-enough _ _ _ _ (sym (c .before .before .before .before .before .ask-lent .ensures) ∙ c .before .before .before .enum-told .given .1) in
+    (c .before .before .before .before .before .before .before .before .before .before .before .pre, (c .before .before .before .before .before .before .before .layout-of .ensures, (g .values, g .trail, g .recording)))
 
 same-length : tie.Need-same-length
 same-length c = search needs
@@ -37,8 +37,8 @@ same-length-3 c = search needs
 
 returns-2 : tie.Need-returns-2
 returns-2 c =
-    let p = c .before .before .before .before .before .before .before .before .before .before .before .before .before .before .before .before .before .before .before .before .before .before .pre .3 in let w = c .before .before .before .before .before .before .search-lent .ensures in let n = unrefused _ _ _ _ _ (w (p .root) (p .is)) in
-    (λ f e. w f e ∙ lent-searched _ _ f e (c .before .before .before .before .before .before .before .before .before .before .before .before .before .before .layout-of .ensures) _ _ _ (sym (c .before .before .before .before .before .before .before .before .before .before .before .before .before .ask-lent .ensures) ∙ c .before .before .before .before .before .before .before .before .before .before .before .enum-told .given .1), (λ r q. absurd (n r q), λ r q. absurd (n r q)))
+    let p = c .before .before .before .before .before .before .before .before .before .before .before .before .before .before .before .before .before .before .pre .3 in let w = c .before .before .before .before .before .before .search-lent .ensures in let n = unrefused _ _ _ _ _ (w (p .root) (p .is)) in
+    (λ f e. w f e ∙ lent-searched _ _ f e (c .before .before .before .before .before .before .before .before .before .before .before .before .before .before .layout-of .ensures) _ _ _ (sym (c .before .before .before .before .before .before .before .before .before .before .before .before .ask-lent .ensures) ∙ c .before .before .before .before .before .before .before .before .before .before .enum-told .given .1), (λ r q. absurd (n r q), λ r q. absurd (n r q)))
 
 pub search-table-spec : {M : Type 1} → statement M
 search-table-spec =

@@ -1,7 +1,6 @@
 -- The next position is that of the next place,
 -- if the block has one more (Walk.antt).
 use mathlib.Core.Path.{refl}
-use native.Mathlib.Omega.{arith}
 use borrow.Author.Needs.{needs}
 use Rattle.node_clauses.proofs.Walk.{goes-on, small-here}
 use Rattle.node_clauses.proofs.cursor.Cursor.next.Statement.{statement}
