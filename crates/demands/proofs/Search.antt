@@ -25,7 +25,7 @@ use Rattle.closure.specs.Runs.{dead, Run, highIn}
 use Rattle.closure.specs.Tree.{closure, Trial, trial}
 use Rattle.closure.proofs.Closure.{closure-is, closure-one}
 use Rattle.closure.proofs.Runs.{tree-runs, tree-run}
-use Rattle.search.specs.Search.{lentOf, askLent, treeOf, treeIn, Searched, unwritten, limited, searched, Unchanged, Earliest, countIn}
+use Rattle.search.specs.Search.{Arrays, lentOf, askLent, treeOf, treeIn, Searched, unwritten, limited, searched, Unchanged, Earliest, countIn}
 use Rattle.search.specs.declared.Lent.{Lent}
 use Rattle.search.specs.declared.Answer.{Answer}
 use Rattle.search.specs.declared.Answer.the-variants.{Found, None, Spent, Refused}
@@ -33,7 +33,7 @@ use Rattle.search.proofs.Order.{order-one-way}
 use Rattle.search.proofs.Outcome.{dead-none, found-satisfies, found-earliest}
 use Rattle.search.proofs.Ends.{End, finds, lacks, spends, end, found-first, found-within, none-within, spent-beyond, count-least, only-found-writes}
 use Rattle.demands.specs.Calls.{IsText, formulaReplies, Obeys}
-use Rattle.demands.specs.Demand3.{Trials, Draws, Arrays, Search, Searches}
+use Rattle.demands.specs.Demand3.{Trials, Draws, Search, Searches}
 use Rattle.demands.proofs.Obeyed.{yes-both, reads-as, letters-in, asked-obeys, obeys-two, obeys-through}
 
 -- ---- N

@@ -13,14 +13,14 @@ use Rattle.formula.specs.Nodes.{nodesIn}
 use Rattle.circuit.specs.Circuit.{variablesOf}
 use Rattle.clause_table.specs.Table.{placesIn, After}
 use Rattle.evaluator.specs.declared.Verdict.{Verdict}
-use Rattle.search.specs.Search.{Searched, searched}
+use Rattle.search.specs.Search.{Arrays, Searched, searched}
 use Rattle.search.specs.declared.Answer.{Answer}
 use Rattle.search.specs.declared.Answer.the-variants.{Found, None, Spent, Refused}
 use Rattle.search.specs.declared.Lent.{Lent}
 use Rattle.starred.specs.Edges.{most, lent, edges}
 use Rattle.starred.proofs.Edges.{edges-hold}
 use Rattle.demands.specs.Demand2.{Evaluates, Tables}
-use Rattle.demands.specs.Demand3.{Arrays, Search, Searches}
+use Rattle.demands.specs.Demand3.{Search, Searches}
 use Rattle.demands.proofs.Answers.{evaluated-only, tabled-only}
 use Rattle.demands.proofs.Search.{lengths, searches-contract}
 

@@ -13,7 +13,7 @@ use Rattle.clauses.specs.Entries.{flat}
 use Rattle.clause_table.specs.Table.{over}
 use Rattle.closure.specs.Closure.{Literals, nothing, ClosureOf}
 use Rattle.closure.specs.Runs.{Outcome, Run}
-use Rattle.search.specs.Search.{lentOf, askLent, Satisfies, Earliest, countIn}
+use Rattle.search.specs.Search.{Arrays, lentOf, askLent, Satisfies, Earliest, countIn}
 use Rattle.search.specs.declared.Answer.{Answer}
 use Rattle.search.specs.declared.Answer.the-variants.{Found, None, Spent, Refused}
 use Rattle.demands.specs.Calls.{Obeys}
@@ -39,14 +39,6 @@ pub record Draws (C k : ℕ) (f : Tree Formula) (B N : ℕ) (before : List ℕ) 
   pub count : countIn a ≡ min N B
   -- "The recording array is written only on found."
   pub kept : ((n : ℕ) → a ≢ Found n) → after ≡ before
-
--- the five lent arrays
-pub record Arrays : Type 0 where
-  pub variables : List ℕ
-  pub marks : List ℕ
-  pub values : List ℕ
-  pub trail : List ℕ
-  pub recording : List ℕ
 
 -- an answer, and the arrays after it
 pub record Search : Type 0 where

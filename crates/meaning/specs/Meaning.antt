@@ -66,10 +66,6 @@ truth recording (pair chop x y) v = chops (truth recording x) (truth recording y
 truth recording (duration x n) v = lasts n (truth recording x) v
 truth recording (throughout x) v = fills (truth recording x) v
 
--- a state assertion at an instant
-abbrev pub stateAt : List ℕ → Tree State → ℕ → Bool
-stateAt recording x t = truth recording x t
-
 -- a formula on an interval
 abbrev pub holds : List ℕ → Tree Formula → Interval → Bool
 holds recording x v = truth recording x v

@@ -83,6 +83,14 @@ ended C k recording t =
 unfoldable pub limited : ℕ → ℕ → ℕ → List ℕ → Trial → Searched
 limited C k B recording t = cond (leb (t .tries) B) (ended C k recording t) (unwritten recording (Spent B))
 
+-- the five lent arrays
+pub record Arrays : Type 0 where
+  pub variables : List ℕ
+  pub marks : List ℕ
+  pub values : List ℕ
+  pub trail : List ℕ
+  pub recording : List ℕ
+
 -- the lengths of the lent arrays
 abbrev pub lentOf : List ℕ → List ℕ → List ℕ → List ℕ → List ℕ → Lent
 lentOf variables marks values trail recording = record {

@@ -5,10 +5,10 @@ use Prim.Native.Nat.{ℕ}
 use Rattle.clause_table.specs.Table.{After}
 use Rattle.assignments.specs.Calls.{Extended, Proposed}
 use Rattle.clause_file.specs.Calls.{FileAfter}
-use Rattle.search.specs.Search.{Searched, unwritten, Unchanged}
+use Rattle.search.specs.Search.{Arrays, Searched, unwritten, Unchanged}
 use Rattle.search.specs.declared.Answer.{Answer}
 use Rattle.answers.specs.Answers.{packWritten, packChecked, packAnswer}
-use Rattle.tuvenikar.specs.Left.{TableLeft, AssignmentLeft, RecordingLeft, FileLeft, Arrays, SearchLeft}
+use Rattle.tuvenikar.specs.Left.{TableLeft, AssignmentLeft, RecordingLeft, FileLeft, SearchLeft}
 
 pub table-left : {a b : After} {r : ℕ} → a ≡ b → r ≡ packWritten (a .answer) → TableLeft b r (a .sizes) (a .variables) (a .marks)
 table-left e p = record {

@@ -5,7 +5,7 @@ use Prim.Native.Nat.{ℕ}
 use Rattle.clause_table.specs.Table.{After}
 use Rattle.assignments.specs.Calls.{Extended, Proposed}
 use Rattle.clause_file.specs.Calls.{FileAfter}
-use Rattle.search.specs.Search.{lentOf, searched, Searched, Unchanged}
+use Rattle.search.specs.Search.{Arrays, lentOf, searched, Searched, Unchanged}
 use Rattle.answers.specs.Answers.{packWritten, packChecked, packAnswer}
 
 -- a table written, or read from a file: its sizes and its two arrays
@@ -30,14 +30,7 @@ pub record FileLeft (a : FileAfter) (r : ℕ) (file : List ℕ) : Type 0 where
   pub number : r ≡ packWritten (a .answer)
   pub new-file : file ≡ a .file
 
--- the five arrays that are lent to a search
-pub record Arrays : Type 0 where
-  pub variables : List ℕ
-  pub marks : List ℕ
-  pub values : List ℕ
-  pub trail : List ℕ
-  pub recording : List ℕ
-
+-- the arrays that are lent to a search
 abbrev pub arrays : List ℕ → List ℕ → List ℕ → List ℕ → List ℕ → Arrays
 arrays variables marks values trail recording = record { variables = variables; marks = marks; values = values; trail = trail; recording = recording }
 
