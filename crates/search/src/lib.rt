@@ -19,7 +19,8 @@ ghost use Rattle.clause_table.specs.Rows.{nodeTableOf, Measured};
 ghost use Rattle.decode.specs.Decode.{Tables};
 ghost use Rattle.tries.specs.Tries.{GroundOf, tableClauses};
 ghost use Rattle.proposal.specs.Rows.{TableFor};
-ghost use Rattle.search.specs.Search.{treeOf, limited, lentOf, askLent, searched, Unchanged};
+ghost use Rattle.search.specs.Search.{treeOf, limited, askLent, searched, Unchanged};
+ghost use Rattle.search.specs.Left.{left, lent};
 ghost use Rattle.search.specs.Rows.{lentBy, searchedBy};
 
 // What the search answers: found, none, spent, each with its count.
@@ -67,8 +68,7 @@ fn draw(
 ) -> Answer
     requires { ⌜ GroundOf c k table firsts seats parents values × Tables k (now intervals) (now starts) ⌝ }
     requires { ⌜ (length (now values) ≤ length (now trail)) × (length (now values) < 2 ^ 32) × (length (now recording) ≡ k) ⌝ }
-    ensures { λ r. ⌜ record { answer = r; recording = new recording }
-        ≡ limited c k limit (old recording) (tree (tableClauses c k table (old firsts)) (length (old values)) (k * c)) ⌝ }
+    ensures { λ r. ⌜ left r recording ≡ limited c k limit (old recording) (tree (tableClauses c k table (old firsts)) (length (old values)) (k * c)) ⌝ }
 {
     let below = tries::start(
         values,
@@ -108,7 +108,7 @@ fn search_lent(
     requires { ⌜ Measured c k (table .kinds) (table .numbers) (table .count) (layout .firsts) (layout .sizes) ⌝ }
     requires { ⌜ (layout .sizes .variables ≤ length (now values)) × (layout .sizes .variables ≤ length (now trail)) × (k ≤ length (now recording)) ⌝ }
     ensures { λ r. ⌜ ((f : Tree Formula) → table ≡ nodeTableOf f
-        → record { answer = r; recording = new recording } ≡ limited c k limit (old recording) (treeOf c k f)) ⌝ }
+        → left r recording ≡ limited c k limit (old recording) (treeOf c k f)) ⌝ }
 {
     let mut seats = [0; MAX_NODES];
     clause_table::put_seats(&table.kinds, &table.numbers, &layout.firsts, k, &mut seats);
@@ -151,7 +151,7 @@ fn search_table(
 ) -> Answer
     requires { ⌜ (c ≤ maxChannels) × (k ≤ maxSteps) × (table .count ≤ maxNodes) × TableFor c table ⌝ }
     ensures { λ r. ⌜ ((f : Tree Formula) → table ≡ nodeTableOf f
-        → record { answer = r; recording = new recording }
+        → left r recording
         ≡ searchedBy c k f limit (lentBy variables marks (old values) (old trail) (old recording)) (old recording)) ⌝ }
     ensures { λ r. ⌜ Unchanged r (old values) (new values) × Unchanged r (old trail) (new trail) ⌝ }
 {
@@ -182,8 +182,7 @@ pub fn search(
     trail: &mut [u32],
     recording: &mut [u8],
 ) -> Answer
-    ensures { λ r. ⌜ record { answer = r; recording = new recording }
-        ≡ searched c k (old text) limit (lentOf (old variables) (old marks) (old values) (old trail) (old recording)) (old recording) ⌝ }
+    ensures { λ r. ⌜ left r recording ≡ searched c k (old text) limit (lent variables marks values trail recording) (old recording) ⌝ }
     ensures { λ r. ⌜ Unchanged r (old variables) (new variables) × Unchanged r (old marks) (new marks) ⌝ }
     ensures { λ r. ⌜ Unchanged r (old values) (new values) × Unchanged r (old trail) (new trail) ⌝ }
 {
