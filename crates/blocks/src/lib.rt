@@ -170,11 +170,7 @@ pub fn place(i: u32, steps: u32, k: u32, all: u32) -> u32
     requires { ⌜ (i + steps ≤ k) × (k ≤ maxSteps) × (all ≡ countOf k) ⌝ }
     ensures { λ r. ⌜ (r ≡ placeOf k (record { i = i; j = i + steps })) × (r < bound) ⌝ }
 {
-    let v = Interval {
-        i: i as usize,
-        j: (i + steps) as usize,
-    };
-    v.place_among(k as usize, all as usize) as u32
+    Interval::place_from(i, steps, k, all)
 }
 
 // Level a of a duration on the interval of d steps from i on, in place x of its block from b on, the state assertion from s on.

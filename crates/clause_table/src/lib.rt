@@ -148,26 +148,47 @@ fn put_table(
     literals::put_run(variables, marks, at, root, 1, clauses::LAST_PLAIN)
 }
 
-// How a formula's table is laid out, by its node table: one sum along the nodes for each of V, M and L.
+// The sizes of a formula, by its node table, and the first variable of each node: one sum along the nodes, for each of the three.
+fn sizes_of<'a>(
+    kinds: &'a [u8; MAX_NODES],
+    numbers: &'a [u8; MAX_NODES],
+    count: usize,
+    c: u32,
+    k: u32,
+    firsts: &mut [u32; MAX_NODES],
+) -> Sizes
+    requires { ⌜ (c ≤ maxChannels) × (k ≤ maxSteps) × (count ≤ maxNodes) × (length (now firsts) ≡ maxNodes) × Low (now firsts) ⌝ }
+    ensures { λ r. ⌜ Measured c k (old kinds) (old numbers) count (new firsts) r ⌝ }
+{
+    let clauses = weights::sums(kinds, numbers, count, k, weights::clauses(), 1, firsts);
+    let literals = weights::sums(kinds, numbers, count, k, weights::literals(), 1, firsts);
+    let start = 1 + k * c;
+    let end = weights::sums(
+        kinds,
+        numbers,
+        count,
+        k,
+        weights::variables(),
+        start,
+        firsts,
+    );
+    Sizes {
+        channels: c,
+        steps: k,
+        variables: end - 1,
+        clauses,
+        literals,
+    }
+}
+
+// How a formula's table is laid out, by its node table.
 pub fn layout_of(table: NodeTable, c: u32, k: u32) -> Layout
     requires { ⌜ (c ≤ maxChannels) × (k ≤ maxSteps) × (table .count ≤ maxNodes) ⌝ }
     ensures { λ r. ⌜ Measured c k (table .kinds) (table .numbers) (table .count) (r .firsts) (r .sizes) ⌝ }
 {
     let mut firsts = [0; MAX_NODES];
-    let clauses = weights::sums(table, k, weights::clauses(), 1, &mut firsts);
-    let literals = weights::sums(table, k, weights::literals(), 1, &mut firsts);
-    let start = 1 + k * c;
-    let end = weights::sums(table, k, weights::variables(), start, &mut firsts);
-    Layout {
-        sizes: Sizes {
-            channels: c,
-            steps: k,
-            variables: end - 1,
-            clauses,
-            literals,
-        },
-        firsts,
-    }
+    let sizes = sizes_of(&table.kinds, &table.numbers, table.count, c, k, &mut firsts);
+    Layout { sizes, firsts }
 }
 
 // Question 18, by the arrays' lengths.

@@ -2,7 +2,7 @@
 use refusal::Refusal;
 use refusal::Reply;
 ghost use mathlib.Core.Path.{_≡_};
-ghost use Prim.Native.Nat.{_≤_, _<_};
+ghost use Prim.Native.Nat.{_+_, _≤_, _<_};
 ghost use Rattle.interval.specs.Places.{countOf, placeOf, tripleCountOf, triplePlaceOf};
 ghost use Rattle.interval.specs.Limits.{maxSteps, askSteps, askInterval, madeOf, IntervalOf, TripleOf};
 
@@ -69,17 +69,18 @@ impl Interval {
         requires { ⌜ IntervalOf k self ⌝ }
         ensures { λ r. do ⌜ (r ≡ placeOf k self) × (r < (← ⟦Interval::MAX_COUNT⟧ .entry)) ⌝ }
     {
-        self.place_among(k, Self::count(k))
+        let i = self.i as u32;
+        let steps = self.j as u32 - i;
+        Self::place_from(i, steps, k as u32, Self::count(k) as u32) as usize
     }
 
-    // The same, `all` being I, for those who ask often: those that start before i are all but those of k - i steps.
-    pub fn place_among(self, k: usize, all: usize) -> usize
-        requires { ⌜ (k ≤ maxSteps) × (all ≡ countOf k) ⌝ }
-        requires { ⌜ IntervalOf k self ⌝ }
-        ensures { λ r. do ⌜ (r ≡ placeOf k self) × (r < (← ⟦Interval::MAX_COUNT⟧ .entry)) ⌝ }
+    // The same of the interval of so many steps from i on, for those who ask often: k steps have I intervals in all, and those that start
+    // before i are all but those of k - i steps.
+    pub fn place_from(i: u32, steps: u32, k: u32, all: u32) -> u32
+        requires { ⌜ (i + steps ≤ k) × (k ≤ maxSteps) × (all ≡ countOf k) ⌝ }
+        ensures { λ r. do ⌜ (r ≡ placeOf k (record { i = i; j = i + steps })) × (r < (← ⟦Interval::MAX_COUNT⟧ .entry)) ⌝ }
     {
-        let i = self.i;
-        all - Self::count(k - i) + (self.j - i)
+        all - Self::count((k - i) as usize) as u32 + steps
     }
 }
 

@@ -68,7 +68,15 @@ fn ask_table(
     ensures { λ r. ⌜ r ≡ askClauses (valueIn (old assignment)) 0 (clausesFor c k table (old firsts)) ⌝ }
 {
     let mut numbered = [0; MAX_NODES];
-    let last = weights::sums(table, k, weights::clauses(), 0, &mut numbered);
+    let last = weights::sums(
+        &table.kinds,
+        &table.numbers,
+        table.count,
+        k,
+        weights::clauses(),
+        0,
+        &mut numbered,
+    );
     if let Reply::No(r) = ask_nodes(assignment, table, firsts, &numbered, c, k) {
         return Reply::No(r);
     }

@@ -3,7 +3,6 @@ use blocks::Rule;
 use grammar::MAX_NODES;
 use interval::Interval;
 use interval::Triple;
-use rows::NodeTable;
 ghost use mathlib.Core.Path.{_≡_};
 ghost use Prim.Native.Nat.{_≤_, _*_, _^_};
 ghost use lib.ListN.{length};
@@ -111,15 +110,23 @@ fn row_weight(kind: u8, number: u8, k: u32, w: Weight) -> u32
 }
 
 // Where what each node weighs begins, the nodes following each other from `start` on, and where the last one's ends.
-pub fn sums(table: NodeTable, k: u32, w: Weight, start: u32, out: &mut [u32; MAX_NODES]) -> u32
+pub fn sums<'a>(
+    kinds: &'a [u8; MAX_NODES],
+    numbers: &'a [u8; MAX_NODES],
+    count: usize,
+    k: u32,
+    w: Weight,
+    start: u32,
+    out: &mut [u32; MAX_NODES],
+) -> u32
     requires { ⌜ Small w k ⌝ }
-    requires { ⌜ (table .count ≤ maxNodes) × (start ≤ 2 ^ 20) × (length (now out) ≡ maxNodes) ⌝ }
-    ensures { λ r. ⌜ Summed w k (table .kinds) (table .numbers) start (table .count) (old out) (new out) r ⌝ }
+    requires { ⌜ (count ≤ maxNodes) × (start ≤ 2 ^ 20) × (length (now out) ≡ maxNodes) ⌝ }
+    ensures { λ r. ⌜ Summed w k (old kinds) (old numbers) start count (old out) (new out) r ⌝ }
 {
     let mut total = start;
-    for x in 0..table.count {
+    for x in 0..count {
         out[x] = total;
-        total += row_weight(table.kinds[x], table.numbers[x], k, w);
+        total += row_weight(kinds[x], numbers[x], k, w);
     }
     total
 }

@@ -1,55 +1,15 @@
--- M, L and V are each one sum along the nodes; the last sum leaves where each node's block begins
--- (Measure.antt).
+-- The sizes are the sums along the node table,
+-- and the first variables are put to a new column.
 use mathlib.Core.Path.{refl}
-use native.Mathlib.Omega.{arith}
-use borrow.Author.Needs.{needs}
-use Rattle.weights.proofs.Rows.{small}
-use Rattle.clause_table.proofs.Measure.{channels-few, zeros-low, measured}
+use Rattle.clause_table.proofs.Measure.{zeros-low}
 use Rattle.clause_table.proofs.layout_of.Statement.{statement}
 use Rattle.clause_table.proofs.layout_of.Tie as tie
 
-clauses-requires : tie.Need-clauses-requires
-clauses-requires c κs = search needs
-
-sums-requires : tie.Need-sums-requires
-sums-requires c κs = let p = c .before .before .pre in (small (c .before .clauses .ensures) (omega arith) (omega arith) (omega arith) (p .1), (p .2, omega arith, refl))
-
-literals-requires : tie.Need-literals-requires
-literals-requires c κs = search needs
-
-sums-requires-2 : tie.Need-sums-requires-2
-sums-requires-2 c κs = let p = c .before .before .before .before .before .pre in (small (c .before .literals .ensures) (omega arith) (omega arith) (omega arith) (p .1), (p .2, omega arith, c .before .before .sums .ensures .whole))
-
-mul-start : tie.Need-mul-start
-mul-start c = let s = c .before .before .before .before .before .before in omega (arith, channels-few (s .args .c) (s .args .k) (s .pre .0) (s .pre .1))
-
-add-start : tie.Need-add-start
-add-start c = let s = c .before .before .before .before .before .before in omega (arith, channels-few (s .args .c) (s .args .k) (s .pre .0) (s .pre .1))
-
-variables-requires : tie.Need-variables-requires
-variables-requires c κs = search needs
-
-sums-requires-3 : tie.Need-sums-requires-3
-sums-requires-3 c κs = let s = c .before .before .before .before .before .before .before .before in
-    (small (c .before .variables .ensures) (omega arith) (omega arith) (omega arith) (s .pre .1), (s .pre .2, omega (arith, channels-few (s .args .c) (s .args .k) (s .pre .0) (s .pre .1)), c .before .before .sums2 .ensures .whole))
-
-sub-t12 : tie.Need-sub-t12
-sub-t12 c = search needs
+sizes-of-requires : tie.Need-sizes-of-requires
+sizes-of-requires c κs = let p = c .before .before .before .before .pre in (p .0, p .1, p .2, refl, zeros-low)
 
 returns : tie.Need-returns
-returns c = measured zeros-low (c .before .before .before .before .before .before .before .before .clauses .ensures) (c .before .before .before .before .before .before .sums .ensures) (c .before .before .before .before .before .literals .ensures) (c .before .before .before .sums2 .ensures) (c .before .before .variables .ensures) (c .sums3 .ensures)
+returns c = c .sizes-of .ensures
 
 pub layout-of-spec : {M : Type 1} → statement M
-layout-of-spec =
-    tie.close
-    (tie.spec
-    clauses-requires
-    sums-requires
-    literals-requires
-    sums-requires-2
-    mul-start
-    add-start
-    variables-requires
-    sums-requires-3
-    sub-t12
-    returns)
+layout-of-spec = tie.close (tie.spec sizes-of-requires returns)

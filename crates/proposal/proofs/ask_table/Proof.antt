@@ -17,10 +17,10 @@ clauses-requires : tie.Need-clauses-requires
 clauses-requires c κs = search needs
 
 sums-requires : tie.Need-sums-requires
-sums-requires c κs = let p = c .before .before .before .pre .0 in (small (c .before .clauses .ensures) (omega arith) (omega arith) (omega arith) (p .1), (p .2, omega arith, refl))
+sums-requires c κs = let p = c .before .before .before .before .before .before .pre .0 in (small (c .before .clauses .ensures) (omega arith) (omega arith) (omega arith) (p .1), (p .2, omega arith, refl))
 
 ask-nodes-requires : tie.Need-ask-nodes-requires
-ask-nodes-requires c κs = let s = c .before .before .before .before .before in
+ask-nodes-requires c κs = let s = c .before .before .before .before .before .before .before .before in
     let a = s .args in
     let p = s .pre .0 in
     let sums = c .before .sums .ensures in
@@ -36,20 +36,20 @@ enum-told : tie.Need-enum-told
 enum-told c = search needs
 
 seat-requires : tie.Need-seat-requires
-seat-requires c κs = let p = c .before .before .before .before .before .before .before .before .before .before .before .pre .0 in (p .1, p .3)
+seat-requires c κs = let p = c .before .before .before .before .before .before .before .before .before .before .before .before .before .before .pre .0 in (p .1, p .3)
 
 add-root : tie.Need-add-root
-add-root c = omega (arith, c .seat .ensures .1, c .before .before .before .before .before .before .before .before .before .before .before .before .pre .0 .1)
+add-root c = omega (arith, c .seat .ensures .1, c .before .before .before .before .before .before .before .before .before .before .before .before .before .before .before .pre .0 .1)
 
 high-requires : tie.Need-high-requires
-high-requires c κs = omega (arith, c .before .before .before .before .before .before .before .before .before .before .before .before .pre .1 .1, c .seat .ensures .0)
+high-requires c κs = omega (arith, c .before .before .before .before .before .before .before .before .before .before .before .before .before .before .before .pre .1 .1, c .seat .ensures .0)
 
 returns-2 : tie.Need-returns-2
-returns-2 c = let a = c .before .before .before .before .before .before .before .before .before .before .before .before .before .before .args in
+returns-2 c = let a = c .before .before .before .before .before .before .before .before .before .before .before .before .before .before .before .before .before .args in
     root-met _ _ _ (c .before .before .before .before .before .before .before .before .ask-nodes .ensures) (c .before .before .before .before .before .before .enum-told .given .1) (c .before .high .ensures ∙ ap (λ v. valueIn (a .assignment .now) (v + a .k)) (c .before .before .seat .ensures .0)) (c .if1 .taken)
 
 returns-3 : tie.Need-returns-3
-returns-3 c = let a = c .before .before .before .before .before .before .before .before .before .before .before .before .before .before .args in
+returns-3 c = let a = c .before .before .before .before .before .before .before .before .before .before .before .before .before .before .before .before .before .args in
     let last = c .before .before .before .before .before .before .before .before .before .before .sums .ensures .total ∙ ap (λ (w : Weight). 0 + weightTo w (a .k) (a .t2 .kinds) (a .t2 .numbers) (a .t2 .count)) (c .before .before .before .before .before .before .before .before .before .before .before .before .clauses .ensures) in
     root-unmet _ _ _ (c .before .before .before .before .before .before .before .before .ask-nodes .ensures) (c .before .before .before .before .before .before .enum-told .given .1) (c .before .high .ensures ∙ ap (λ v. valueIn (a .assignment .now) (v + a .k)) (c .before .before .seat .ensures .0)) (c .if1 .left)
     (row-number (a .c) (a .k) (a .t2 .kinds) (a .t2 .numbers) (a .t2 .sizes) (a .firsts .now) (a .t2 .count) last)

@@ -13,11 +13,11 @@ use Rattle.weights.proofs.sums.Statement.{statement}
 use Rattle.weights.proofs.sums.Tie as tie
 
 abbrev Inv-loop : tie.InvT-loop
-Inv-loop k w start out₀ table total₀ x₀ x-end out total x =
-    (x ≤ table .count) × (total ≡ start + weightTo w k (table .kinds) (table .numbers) x) × (total ≤ 2 ^ 20 + x * (2 * maxWeight)) × Upto maxNodes (λ y. start + weightTo w k (table .kinds) (table .numbers) y) (λ y. getD out₀ y 0) x out
+Inv-loop kinds numbers count k w start out₀ total₀ x₀ out total x =
+    (x ≤ count) × (total ≡ start + weightTo w k kinds numbers x) × (total ≤ 2 ^ 20 + x * (2 * maxWeight)) × Upto maxNodes (λ y. start + weightTo w k kinds numbers y) (λ y. getD out₀ y 0) x out
 
 abbrev μ-loop : tie.MeasureT-loop
-μ-loop k w start out₀ table total₀ x₀ x-end out total x = table .count - x
+μ-loop kinds numbers count k w start out₀ total₀ x₀ out total x = count - x
 
 loop-holds : tie.Need-loop-holds Inv-loop μ-loop
 loop-holds c = (omega arith, total-first _ _ _ _ _, omega arith, begun _ _ _ _ (search needs) (λ y. refl))
