@@ -1,4 +1,5 @@
--- What the code says of values and trail before a try and after it, over a list of clauses. Nothing here need be believed: no call open to others cites it.
+-- What the code says of values and trail before a try and after it, over a list of clauses. Nothing here need be believed: no call open to
+-- others cites it.
 use mathlib.Core.Path.{_≡_}
 use mathlib.Core.Bool.{true, false}
 use mathlib.Core.List.{List}

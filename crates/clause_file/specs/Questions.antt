@@ -1,5 +1,4 @@
 -- Document 01, "Questions in order", 15 to 18: what a file's reader and its writer ask, each on the sizes and arrays it is given.
-use mathlib.Core.Path.{_≡_}
 use mathlib.Core.Bool.{Bool, true, false, _&&_, _||_}
 use mathlib.Core.List.{List, [], _∷_}
 use Prim.Native.Nat.{ℕ, _-_}
@@ -58,7 +57,3 @@ askFileRoom L file = question 18 0 (leb (fileLength L) file)
 -- "the file's reader and its writer [ask] 15 to 18": 16 and 17 are the same for both, on sizes and arrays
 abbrev pub entryQuestions : Sizes → List ℕ → List ℕ → List Reply
 entryQuestions s variables marks = askEntries s variables marks ∷ askClosed (s .clauses) marks ∷ []
-
--- for the code, which looks at the variables first, in an array or in a file: what is so of any whose test says `fit`
-abbrev pub OfVariables : Sizes → Bool → (List ℕ → Type 0) → Type 0
-OfVariables s fit P = (variables : List ℕ) → fit ≡ allPass (isVariable (s .variables)) variables → P variables

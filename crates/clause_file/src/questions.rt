@@ -8,8 +8,9 @@ ghost use Rattle.moments.specs.Moments.{old};
 ghost use Rattle.refusal.specs.Asked.{asked};
 ghost use Rattle.file_numbers.specs.File.{variablesAt};
 ghost use Rattle.file_numbers.specs.Held.{Held};
-ghost use Rattle.clause_file.specs.Questions.{allPass, howMany, inLimits, isVariable, isMark, closes, endsClosed, OfVariables};
+ghost use Rattle.clause_file.specs.Questions.{allPass, howMany, inLimits, isVariable, isMark, closes, endsClosed};
 ghost use Rattle.clause_file.specs.Questions.{askFile, askArrays, askEntries, askClosed, askFileRoom, entryQuestions};
+ghost use Rattle.clause_file.specs.Fit.{OfVariables};
 ghost use Rattle.clause_file.specs.Calls.{arrayQuestions, fileQuestions};
 
 // C and k as in questions 1 and 2.

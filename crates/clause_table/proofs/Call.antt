@@ -227,7 +227,7 @@ module _ (C k : ℕ) (t : List ℕ) (T : Tabled) (e : T ≡ nodeTabled C k t) (y
   few-rows =
       omega (arith, ap (λ (N : NodeTable). N .count) (table-is C k t T e y), length-map (nodesIn t) rowOf, nodes-most C k t (accepts C k t T e y))
 
-  pub called : {a : After} (five variables marks : List ℕ) → ((f : Tree Formula) → T .table ≡ tableOf (map rowOf (nodesOf f 0)) → a ≡ tabledBy C k f five variables marks) → a ≡ tabled C k t five variables marks
+  pub called : {a : After} (five variables marks : List ℕ) → ((f : Tree Formula) → T .table ≡ nodeTableOf f → a ≡ tabledBy C k f five variables marks) → a ≡ tabled C k t five variables marks
   called five variables marks g =
       let w = accepts C k t T e y in
       let a = accepted C k t w in

@@ -2,7 +2,7 @@
 -- definitions, whose variables and inputs lie within the blocks and the channels.
 use mathlib.Core.Path.{_≡_, refl, sym, ap, _∙_, subst}
 use mathlib.Core.Bool.{false}
-use mathlib.Core.List.{List, map}
+use mathlib.Core.List.{List}
 use Prim.Native.Nat.{ℕ, _+_, _<_}
 use native.Mathlib.Omega.{arith}
 use lib.ListN.{length, length-map}
@@ -21,7 +21,7 @@ use Rattle.circuit.proofs.Blocks.{From}
 use Rattle.circuit.proofs.Lists.{all-at}
 use Rattle.circuit.proofs.Laws.{Mentions, definitions-mention}
 use Rattle.gates.specs.Mentioned.{Variable, InputsIn, Mentioned, AllMentioned}
-use Rattle.clause_table.specs.Rows.{seatBy, rowDefinitions, Measured}
+use Rattle.clause_table.specs.Rows.{nodeTableOf, seatBy, rowDefinitions, Measured}
 use Rattle.clause_table.specs.declared.Sizes.{Sizes}
 use Rattle.clause_table.proofs.Places.{kinds, numbers, sizes, rows-defined, root-at}
 use Rattle.clause_table.proofs.Call.{known, variables-known}
@@ -54,7 +54,7 @@ module _ (C k : ℕ) (f : Tree Formula) where
       let m = all-at (Mentions C k nodes) (definitionsOf C k nodes) (define 0 (Constant false)) (definitions-mention C k f L) x h in
       record { variable = omega (arith, m .defines); inputs = inputs-in _ _ (m .inputs) }
 
-  module _ {T : NodeTable} (e : T ≡ tableOf (map rowOf nodes)) {F : List ℕ} {s : Sizes} (w : Measured C k (T .kinds) (T .numbers) (T .count) F s) where
+  module _ {T : NodeTable} (e : T ≡ nodeTableOf f) {F : List ℕ} {s : Sizes} (w : Measured C k (T .kinds) (T .numbers) (T .count) F s) where
     abbrev definedIn : NodeTable → ℕ → List Definition
     definedIn T n = rows n (rowDefinitions C k (T .kinds) (T .numbers) (T .sizes) F)
 

@@ -1,6 +1,6 @@
 -- What the call does with an accepted formula's node table. Nothing here need be believed: no call open to others cites it.
 use mathlib.Core.Path.{_≡_}
-use mathlib.Core.List.{List, [], _∷_, map}
+use mathlib.Core.List.{List, [], _∷_}
 use Prim.Native.Nat.{ℕ, _+_, _*_, _<_}
 use lib.ListN.{length, getD}
 use lib.Seq.{sets}
@@ -9,8 +9,8 @@ use Rattle.grammar.specs.Limits.{maxChannels}
 use Rattle.grammar.specs.Trees.{Tree, Letters}
 use Rattle.grammar.specs.declared.Sort.the-variants.{Formula}
 use Rattle.formula.specs.Nodes.{nodesOf}
-use Rattle.rows.specs.Table.{rowOf, tableOf}
 use Rattle.rows.specs.declared.NodeTable.{NodeTable}
+use Rattle.clause_table.specs.Rows.{nodeTableOf}
 use Rattle.circuit.specs.Circuit.{variablesOf}
 use Rattle.weights.specs.Weights.{variableWeight, weightTo}
 use Rattle.clause_table.specs.Table.{over}
@@ -26,7 +26,7 @@ pub record Seated (C k : ℕ) (T : NodeTable) (firsts : List ℕ) (last : ℕ) :
 -- the node table is a formula's
 pub record NodesIn (f : Tree Formula) (T : NodeTable) : Type 0 where
   pub letters : Letters maxChannels f
-  pub is : T ≡ tableOf (map rowOf (nodesOf f 0))
+  pub is : T ≡ nodeTableOf f
 
 -- an assignment before and after the values of all nodes are stored in their places
 abbrev pub NodesPut : ℕ → List ℕ → NodeTable → List ℕ → ℕ → List ℕ → List ℕ → Type 0

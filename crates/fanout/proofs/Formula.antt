@@ -30,7 +30,7 @@ use Rattle.weights.specs.Weights.{variableWeight, pointsBy, rowWeight}
 use Rattle.weights.proofs.Weights.{suc-le-count}
 use Rattle.weights.proofs.Rows.{points-state, points-formula, row-width}
 use Rattle.clauses.specs.Clauses.{clauseTable}
-use Rattle.clause_table.specs.Rows.{truthBy, seatBy, Seated, rowDefinitions, Measured}
+use Rattle.clause_table.specs.Rows.{nodeTableOf, truthBy, seatBy, Seated, rowDefinitions, Measured}
 use Rattle.clause_table.specs.declared.Sizes.{Sizes}
 use Rattle.clause_table.proofs.Places.{kinds, numbers, sizes, start, first-is}
 use Rattle.clause_table.proofs.Call.{known}
@@ -220,7 +220,7 @@ module _ (C k : ℕ) (f : Tree Formula) (L : Letters C f) (firsts parents : List
 
 -- ---- and the ground that the search goes by
 
-module _ (C k : ℕ) (f : Tree Formula) {T : NodeTable} (e : T ≡ tableOf (map rowOf (nodesOf f 0))) {F : List ℕ} {s : Sizes} (w : Measured C k (T .kinds) (T .numbers) (T .count) F s) where
+module _ (C k : ℕ) (f : Tree Formula) {T : NodeTable} (e : T ≡ nodeTableOf f) {F : List ℕ} {s : Sizes} (w : Measured C k (T .kinds) (T .numbers) (T .count) F s) where
   abbrev nodes : List Node
   nodes = nodesOf f 0
 

@@ -7,8 +7,7 @@ ghost use mathlib.Core.Path.{_≡_};
 ghost use Prim.Native.Nat.{_+_, _<_};
 ghost use Rattle.node_clauses.specs.Walk.{Walkable, Walks};
 
-// Where a walk stands: at a place, past the last one at `end`, and at that place's position; k steps have
-// I intervals in `all`.
+// Where a walk stands: at a place, past the last one at `end`, and at that place's position; k steps have I intervals in `all`.
 pub struct Cursor {
     pub place: u32,
     pub end: u32,

@@ -2,7 +2,7 @@
 -- first k bytes of the recording's array it does with the array, since it leaves the rest.
 use mathlib.Core.Path.{_≡_, sym, ap, ap₂, _∙_, subst}
 use mathlib.Core.Logic.{_≢_}
-use mathlib.Core.List.{List, [], _∷_, _++_, append-nil, map}
+use mathlib.Core.List.{List, [], _∷_, _++_, append-nil}
 use Prim.Native.Nat.{ℕ, _*_, _^_, _≤_, _<_}
 use native.Mathlib.Omega.{arith}
 use lib.Dec.{leb}
@@ -25,7 +25,7 @@ use Rattle.rows.specs.declared.NodeTable.{NodeTable}
 use Rattle.nodes.proofs.Standing.{nodes-count, stands}
 use Rattle.clauses.specs.Clauses.{Clause}
 use Rattle.clause_table.specs.Table.{over}
-use Rattle.clause_table.specs.Rows.{Seated, Measured}
+use Rattle.clause_table.specs.Rows.{nodeTableOf, Seated, Measured}
 use Rattle.clause_table.specs.declared.Sizes.{Sizes}
 use Rattle.clause_table.proofs.Places.{first-is}
 use Rattle.clause_table.proofs.Call.{variables-known, literals-known}
@@ -105,7 +105,7 @@ module _ (C k B : ℕ) (recording : List ℕ) (t : Trial) {x : Searched} (d : x 
 
 -- ---- the formula's node table
 
-module _ (C k : ℕ) (f : Tree Formula) {T : NodeTable} (e : T ≡ tableOf (map rowOf (nodesOf f 0))) {G : List ℕ} {s : Sizes}
+module _ (C k : ℕ) (f : Tree Formula) {T : NodeTable} (e : T ≡ nodeTableOf f) {G : List ℕ} {s : Sizes}
     (w : Measured C k (T .kinds) (T .numbers) (T .count) G s) where
   module _ (B : ℕ) (n : Lent) (recording : List ℕ) where
     abbrev ending : Reply → Searched

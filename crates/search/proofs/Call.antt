@@ -12,7 +12,7 @@ use Rattle.refusal.proofs.Laws.{asked-append, replied-yes, earlier-no}
 use Rattle.grammar.specs.Trees.{Tree}
 use Rattle.grammar.specs.Reader.{Read, parsed, stopped, read}
 use Rattle.grammar.specs.declared.Sort.the-variants.{Formula}
-use Rattle.formula.specs.Nodes.{Node, nodesOf, nodesIn}
+use Rattle.formula.specs.Nodes.{Node, nodesIn}
 use Rattle.formula.specs.Questions.{formulaQuestions, acceptOf}
 use Rattle.formula.proofs.Laws.{accepted, nodes-read}
 use Rattle.rows.specs.Table.{rowOf, tableOf}
@@ -29,6 +29,7 @@ use Rattle.search.specs.Search.{treeOf, treeIn, Searched, unwritten, lim
 use Rattle.search.specs.Rows.{searchedBy}
 use Rattle.search.specs.declared.Answer.the-variants.{Refused}
 use Rattle.search.specs.declared.Lent.{Lent}
+use Rattle.clause_table.specs.Rows.{nodeTableOf}
 
 module _ (C k : ℕ) (t : List ℕ) (B : ℕ) (n : Lent) (recording : List ℕ) where
   abbrev refused : Refusal → Searched
@@ -57,7 +58,7 @@ module _ (C k : ℕ) (t : List ℕ) (B : ℕ) (n : Lent) (recording : List ℕ) 
       ∙ sym (asked-append refused answer (formulaQuestions C k t) (lent ∷ []) ∙ replied-yes refused _ (formulaQuestions C k t) e)
 
   pub called : (T : Tabled) → T ≡ tabledOf C k t → T .reply ≡ Yes → {x : Searched}
-      → ((f : Tree Formula) → T .table ≡ tableOf (map rowOf (nodesOf f 0)) → x ≡ searchedBy C k f B n recording) → x ≡ searched C k t B n recording
+      → ((f : Tree Formula) → T .table ≡ nodeTableOf f → x ≡ searchedBy C k f B n recording) → x ≡ searched C k t B n recording
   called T e y g =
       let w = accepts C k t T e y in
       let a = accepted C k t w in

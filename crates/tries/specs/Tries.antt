@@ -1,4 +1,5 @@
--- A node table as the queue goes by it, and what the code's search says of the tree of its clauses. Nothing here need be believed: no call open to others cites it.
+-- A node table as the queue goes by it, and what the code's search says of the tree of its clauses. Nothing here need be believed: no call
+-- open to others cites it.
 use mathlib.Core.Path.{_≡_}
 use mathlib.Core.List.{List}
 use Prim.Native.Nat.{ℕ, _≤_, _<_}
