@@ -25,7 +25,9 @@
  * part of the proof: tests/header/run holds its numbers of answers, and the refusals that it lists at each call, to the definitions
  * that are. Not proved: the stack figures, measured on x86-64, and TUV_MOST_*, counted.
  *
- * Link libtuvenikar.a; of the firmware it needs memcpy and memset, and nothing else.
+ * Language: C99 or later, or C++11 or later. Target: x86-64, System V calling convention, 64-bit pointers and size_t. Link
+ * libtuvenikar.a, which `rt staticlib tuvenikar` writes; of the firmware it needs memcpy and memset, and nothing else.
+ * docs/REFERENCE.md says what formulas, tables, files and tries are.
  */
 #ifndef TUVENIKAR_H
 #define TUVENIKAR_H
@@ -36,6 +38,11 @@
 #ifdef __cplusplus
 extern "C" {
 #endif
+
+/* Raised by one with each change that a caller can see: a call more, another prototype, number or limit, another answer or other
+ * bytes for some input. A quicker engine, other stack figures and other words here leave it as it is. The archive does not carry
+ * it: header and archive go together. */
+#define TUV_VERSION 1
 
 /* What an answer says: a tuv_refusal or a tuv_answer. */
 static inline uint32_t tuv_code(uint64_t answer) { return (uint32_t)(answer & 0xffffffffu); }

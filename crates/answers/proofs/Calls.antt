@@ -18,23 +18,23 @@ use Rattle.refusal.proofs.Numbers.{asked-meets}
 use Rattle.grammar.specs.Limits.{maxLength}
 use Rattle.grammar.specs.Trees.{textOf}
 use Rattle.grammar.specs.Reader.{read}
-use Rattle.grammar.proofs.Bytes.{both}
-use Rattle.formula.specs.Nodes.{Node, nodesIn}
-use Rattle.formula.specs.Questions.{formulaQuestions}
+use Rattle.lists.proofs.Tests.{both}
+use Rattle.grammar.specs.Nodes.{Node, nodesIn}
+use Rattle.grammar.specs.Questions.{formulaQuestions}
 use Rattle.formula.proofs.Laws.{accepted}
 use Rattle.nodes.specs.Calls.{nodeQuestions, nodeRefusalOf, partPlace, nodePlaceOf}
 use Rattle.nodes.specs.declared.Located.the-variants.{Refused}
 use Rattle.nodes.proofs.Laws.{both-yes, part-within}
 use Rattle.evaluator.specs.Evaluation.{recordingQuestions, readHolds, evaluated}
 use Rattle.clause_table.specs.Table.{After, askRoom, tableQuestions, tabled}
-use Rattle.clause_table.specs.declared.Sizes.{Sizes}
+use Rattle.table_layout.specs.declared.Sizes.{Sizes}
 use Rattle.assignments.specs.Calls.{extensionQuestions, Extended, extended, proposalQuestions, Proposed, proposed}
 use Rattle.file_numbers.specs.File.{sizesAt}
-use Rattle.clause_file.specs.Questions.{askFileRoom}
-use Rattle.clause_file.specs.Calls.{FileAfter, arrayQuestions, fileWritten, fileQuestions, fileRead}
-use Rattle.search.specs.Search.{searchQuestions, Searched, treeIn, searched}
-use Rattle.search.specs.declared.Lent.{Lent}
-use Rattle.search.proofs.Ends.{End, finds, lacks, spends, end}
+use Rattle.file_questions.specs.Questions.{askFileRoom, arrayQuestions, fileQuestions}
+use Rattle.clause_file.specs.Calls.{FileAfter, fileWritten, fileRead}
+use Rattle.search_answer.specs.Search.{searchQuestions, Searched, treeIn, searched}
+use Rattle.search_answer.specs.declared.Lent.{Lent}
+use Rattle.search_answer.proofs.Ends.{End, finds, lacks, spends, end}
 use Rattle.answers.specs.Answers.{Told, packVerdict, verdictBy, packWritten, writtenBy, packChecked, checkedBy, packAnswer, answerBy, packLocated, locatedBy}
 use Rattle.answers.specs.Numbers.{nodeNumbers, evaluationNumbers, tableNumbers, searchNumbers, extensionNumbers, proposalNumbers, fileNumbers}
 use Rattle.answers.proofs.Asks.{node-asks, evaluation-asks, table-asks, search-asks, extension-asks, proposal-asks, writer-asks, reader-asks}

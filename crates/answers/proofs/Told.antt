@@ -10,9 +10,9 @@ use borrow.Author.Tests.{ne-eqb}
 use Rattle.refusal.specs.declared.Refusal.{Refusal}
 use Rattle.evaluator.specs.Evaluation.{verdictOf}
 use Rattle.evaluator.specs.declared.Verdict.the-variants as verdict
-use Rattle.clause_table.specs.declared.Written.the-variants as written
+use Rattle.refusal.specs.declared.Written.the-variants as written
 use Rattle.assignments.specs.declared.Checked.the-variants as checked
-use Rattle.search.specs.declared.Answer.the-variants as answer
+use Rattle.search_answer.specs.declared.Answer.the-variants as answer
 use Rattle.nodes.specs.declared.Located.the-variants as located
 use Rattle.answers.specs.Answers.{tuvNo, tuvYes, tuvWritten, tuvAccepted, tuvFound, tuvNone, tuvSpent, tuvNodeText, packed, halves, Told, packVerdict, verdictBy, packWritten, writtenBy, packChecked, checkedBy, packAnswer, answerBy, packLocated, locatedBy}
 

@@ -7,12 +7,12 @@ use lib.Dec.{eqb}
 use Rattle.refusal.specs.declared.Refusal.{Refusal}
 use Rattle.evaluator.specs.declared.Verdict.{Verdict}
 use Rattle.evaluator.specs.declared.Verdict.the-variants as verdict
-use Rattle.clause_table.specs.declared.Written.{Written}
-use Rattle.clause_table.specs.declared.Written.the-variants as written
+use Rattle.refusal.specs.declared.Written.{Written}
+use Rattle.refusal.specs.declared.Written.the-variants as written
 use Rattle.assignments.specs.declared.Checked.{Checked}
 use Rattle.assignments.specs.declared.Checked.the-variants as checked
-use Rattle.search.specs.declared.Answer.{Answer}
-use Rattle.search.specs.declared.Answer.the-variants as answer
+use Rattle.search_answer.specs.declared.Answer.{Answer}
+use Rattle.search_answer.specs.declared.Answer.the-variants as answer
 use Rattle.nodes.specs.declared.Located.{Located}
 use Rattle.nodes.specs.declared.Located.the-variants as located
 

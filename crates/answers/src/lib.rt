@@ -1,11 +1,11 @@
 // The numbers of answers for C, as include/tuvenikar.h names them, and answers packed into one number; a refusal goes by its question's
 // number, 1 to 18. That an answer's number tells the answer is in proofs/.
 use assignments::Checked;
-use clause_table::Written;
 use evaluator::Verdict;
 use nodes::Located;
 use refusal::Refusal;
-use search::Answer;
+use refusal::Written;
+use search_answer::Answer;
 ghost use mathlib.Core.Path.{_≡_};
 ghost use Rattle.answers.specs.Answers.{packed, packRefusal, packVerdict, packLocated, packWritten, packChecked, packAnswer};
 

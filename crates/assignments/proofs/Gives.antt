@@ -8,7 +8,7 @@ use lib.ListN.{length}
 use Rattle.refusal.specs.Asked.{Gives}
 use Rattle.refusal.specs.declared.Reply.the-variants.{No}
 use Rattle.refusal.proofs.Numbers.{question-gives}
-use Rattle.grammar.proofs.Bytes.{cond-elim}
+use Rattle.lists.proofs.Tests.{cond-elim}
 use Rattle.circuit.specs.Gates.{Assignment}
 use Rattle.clauses.specs.Clauses.{Clause, meetsClause}
 use Rattle.assignments.specs.Calls.{askAssignment, askClauses, askPlaces}

@@ -9,21 +9,20 @@ use native.Mathlib.Omega.{arith}
 use lib.Dec.{eqb}
 use lib.ListN.{length, getD}
 use lib.Seq.{ext-getD}
-use Rattle.interval.specs.Listing.{tab}
-use Rattle.interval.proofs.Listing.{length-tab, getD-tab}
+use Rattle.lists.specs.Listing.{tab}
+use Rattle.lists.proofs.Listing.{length-tab, getD-tab}
 use Rattle.grammar.specs.Trees.{Tree, Letters}
 use Rattle.grammar.specs.declared.Sort.the-variants.{Formula}
-use Rattle.formula.specs.Nodes.{Node, nodesOf}
-use Rattle.formula.proofs.Lists.{all-append}
+use Rattle.grammar.specs.Nodes.{Node, nodesOf}
+use Rattle.lists.proofs.Lists.{all-append, all-rows, all-at}
+use Rattle.grammar.proofs.EachNode.{each-node, LettersNode, letters-pass}
 use Rattle.meaning.specs.Meaning.{bit, channelAt, truth, holds}
-use Rattle.word.proofs.Words.{as-bit, bit-lt}
+use Rattle.meaning.proofs.Words.{as-bit, bit-lt}
 use Rattle.circuit.specs.Gates.{Assignment}
 use Rattle.circuit.specs.Circuit.{channelOf, variablesOf, truthOf, definitionsOf, rootOf}
-use Rattle.circuit.proofs.Lists.{all-rows, all-at}
-use Rattle.circuit.proofs.Blocks.{From}
+use Rattle.circuit.proofs.Blocks.{From, root-in-range}
 use Rattle.clauses.specs.Clauses.{clausesBy, clauseTable, meetsClause, meetsAll}
 use Rattle.clauses.proofs.Meets.{meets-append, meets-by}
-use Rattle.clause_table.proofs.Laws.{root-in-range}
 use Rattle.assignments.specs.Extension.{valueIn, channelValues, nodeValues, extensionOf, recordingBy, recordingOf, EachBelow, MeetsButLast, meetsLast}
 use Rattle.assignments.proofs.Values.{node-bits, channels-length, extension-length}
 use Rattle.assignments.proofs.Meets.{Spells, spells-append, spells-row, spelled, on-intervals, part-true, nodes-meet}
@@ -70,7 +69,7 @@ module _ (C k : ℕ) (f : Tree Formula) where
   extension-meets L recording =
       let l = nodesOf f 0 in
       meets-by (extension C k recording l) (definitionsOf C k l) .1
-      (nodes-meet (extension C k recording l) C k recording (extension-channels C k recording l) f (1 + k * C) L (both-spelled C k recording l .1))
+      (nodes-meet (extension C k recording l) C k recording (extension-channels C k recording l) l (1 + k * C) (each-node (LettersNode C) (letters-pass C) f 0 L) (both-spelled C k recording l .1))
 
   -- and the last exactly where the formula holds of the recording
   pub extension-last : (recording : List ℕ) → meetsLast C k f (valueIn (extensionOf C k recording (nodesOf f 0))) ≡ holds recording f (record { i = 0; j = k })

@@ -1,15 +1,15 @@
 -- An assignment that has a recording's channels and spells the values of a tree's nodes meets the nodes' definitions: by cases on the node,
 -- since its own block and its parts' truth stand where the gates look, and each gate does what the meaning says.
-use mathlib.Core.Path.{_≡_, sym, ap, ap₂, _∙_}
+use mathlib.Core.Path.{_≡_, sym, ap, ap₂, _∙_, subst}
 use mathlib.Core.Bool.{Bool, not, _&&_, _||_}
-use mathlib.Core.List.{List, [], _++_, append-nil, map}
+use mathlib.Core.List.{List, [], _∷_, _++_, append-nil, map, flatMap}
 use Prim.Native.Nat.{ℕ, zero, suc, _+_, _-_, _*_, _<_}
 use native.Mathlib.Omega.{arith}
 use lib.Dec.{eqb}
 use lib.ListN.{length, getD, length-append, List·getD-append}
 use lib.Seq.{getD-append-add}
 use borrow.Author.Tests.{le-leb, eqb-true, eqb-false}
-use Rattle.interval.specs.Listing.{rows, All}
+use Rattle.lists.specs.Listing.{rows, All}
 use Rattle.interval.specs.Places.{countOf, placeOf, triplePlaceOf, intervalsOf, triplesOf}
 use Rattle.interval.specs.Limits.{IntervalOf, TripleOf}
 use Rattle.interval.specs.declared.Interval.{Interval}
@@ -19,15 +19,15 @@ use Rattle.interval.proofs.Laws.{intervals-numbered, triples-numbered, triples-
 use Rattle.grammar.specs.Trees.{and, or, chop, Tree, constant, letter, negation, pair, duration, throughout, Letters}
 use Rattle.grammar.specs.declared.Sort.{Sort}
 use Rattle.grammar.specs.declared.Sort.the-variants.{Formula}
-use Rattle.grammar.proofs.Bytes.{cond-elim}
-use Rattle.formula.specs.Nodes.{nodesOf}
-use Rattle.formula.proofs.Lists.{all-append}
+use Rattle.lists.proofs.Tests.{cond-elim}
+use Rattle.grammar.specs.Nodes.{nodesOf, Node}
+use Rattle.lists.proofs.Lists.{all-append, all-rows, all-mapped}
+use Rattle.grammar.proofs.EachNode.{OnParts, Each, LettersNode}
 use Rattle.meaning.specs.Meaning.{bit, channelAt, highs, any, lasts, fills, chops, truth}
-use Rattle.word.proofs.Words.{high-bit}
+use Rattle.meaning.proofs.Words.{high-bit}
 use Rattle.circuit.specs.Gates.{Assignment, valueOf}
 use Rattle.circuit.specs.Circuit.{channelOf, pointsOf, widthOf, blocksOf, truthOf, Definition, shorter, throughoutGate, levelOf, levelGate, tripleGate, chopGate, Seats, seatsOf, ownBy, ownOf, definedFrom}
-use Rattle.circuit.proofs.Lists.{all-rows, all-mapped}
-use Rattle.circuit.proofs.Blocks.{partsOf, truth-lt, defined-append, defined-parts}
+use Rattle.circuit.proofs.Blocks.{partsOf, truth-lt}
 use Rattle.circuit.proofs.Inputs.{intervals-in, triples-in, row-lt}
 use Rattle.assignments.specs.Extension.{truthValues, cuts, cutValues, blockValues, nodeValues}
 use Rattle.assignments.proofs.Values.{mapped-length, mapped-at, alike-length, alike-at, pointAt, truth-length, truth-at, block-length, values-append, values-length, values-parts, truth-stands}
@@ -135,12 +135,7 @@ module _ (a : Assignment) (k : ℕ) (recording : List ℕ) where
 
   -- the parts' truth stands at their seats
   abbrev Parts : {s : Sort} → Tree s → Seats → Type 0
-  Parts (constant v) S = Unit
-  Parts (letter c) S = Unit
-  Parts (negation x) S = Truly x (S .left)
-  Parts (pair o x y) S = Truly x (S .left) × Truly y (S .right)
-  Parts (duration x n) S = Truly x (S .left)
-  Parts (throughout x) S = Truly x (S .left)
+  Parts x S = OnParts (λ u. Truly (u .part) (S .left)) (λ u w. Truly (w .part) (S .right)) x 0
 
   pub part-true : {s : Sort} (x : Tree s) (b : ℕ) → Spells a b (nodeValues k recording (nodesOf x 0)) → Truly x (b + truthOf k x)
   part-true {s} x b h e m =
@@ -148,17 +143,15 @@ module _ (a : Assignment) (k : ℕ) (recording : List ℕ) where
       ap a q ∙ h (truthOf k x + e) (omega (arith, truth-lt k x e m, values-length k recording (nodesOf x 0)))
       ∙ ap (λ z. eqb z 1) (rw append-nil at (truth-stands k recording x 0 [] e m)) ∙ high-bit (truth recording x (pointAt s k e))
 
-  two-spelled : {s t : Sort} (x : Tree s) (y : Tree t) (b : ℕ) → Spells a b (nodeValues k recording (nodesOf x 0 ++ nodesOf y 0))
-      → Spells a b (nodeValues k recording (nodesOf x 0)) × Spells a (b + blocksOf k (nodesOf x 0)) (nodeValues k recording (nodesOf y 0))
-  two-spelled x y b h =
-      spells-append a b (blocksOf k (nodesOf x 0)) (nodeValues k recording (nodesOf x 0)) (nodeValues k recording (nodesOf y 0)) (values-length k recording (nodesOf x 0))
-      (rw (values-append k recording (nodesOf x 0)) at h)
+  -- what the values of two lists of nodes spell, each spells
+  two-spelled : (l m : List Node) (b : ℕ) → Spells a b (nodeValues k recording (l ++ m)) → Spells a b (nodeValues k recording l) × Spells a (b + blocksOf k l) (nodeValues k recording m)
+  two-spelled l m b h = spells-append a b (blocksOf k l) (nodeValues k recording l) (nodeValues k recording m) (values-length k recording l) (rw (values-append k recording l m) at h)
 
   parts-true : {s : Sort} (x : Tree s) (b : ℕ) → Spells a b (nodeValues k recording (partsOf x)) → Parts x (seatsOf k b x)
   parts-true (constant v) b h = tt
   parts-true (letter c) b h = tt
   parts-true (negation x) b h = part-true x b h
-  parts-true (pair o x y) b h = let t = two-spelled x y b h in (part-true x b (t .0), part-true y (b + blocksOf k (nodesOf x 0)) (t .1))
+  parts-true (pair o x y) b h = let t = two-spelled (nodesOf x 0) (nodesOf y 0) b h in (part-true x b (t .0), part-true y (b + blocksOf k (nodesOf x 0)) (t .1))
   parts-true (duration x n) b h = part-true x b h
   parts-true (throughout x) b h = part-true x b h
 
@@ -191,29 +184,16 @@ module _ (a : Assignment) (C k : ℕ) (recording : List ℕ) (channels : (t c : 
   own-meets (throughout x) b S L h p =
       all-mapped (Defined a) (IntervalOf k) _ (intervalsOf k) (throughout-meets a k b (S .left) (truth recording x) p (own-true a k recording (throughout x) b h)) (intervals-in k)
 
-  -- a tree's own definitions are met, and with its parts' all of them
-  with-parts : {s : Sort} (x : Tree s) (b : ℕ) → Letters C x → Spells a b (nodeValues k recording (nodesOf x 0))
-      → (let p = b + widthOf k x in Spells a p (nodeValues k recording (partsOf x)) → All (Defined a) (definedFrom C k p (partsOf x)))
-      → All (Defined a) (definedFrom C k b (nodesOf x 0))
-  unfolding ownOf
-  with-parts x b L h g =
+  -- a node's parts are among the nodes from it on, so its own definitions are met, and then those of the nodes after it
+  pub nodes-meet : (l : List Node) (b : ℕ) → Each (LettersNode C) l → Spells a b (nodeValues k recording l) → All (Defined a) (definedFrom C k b l)
+  unfolding definedFrom ownOf nodeValues flatMap
+  nodes-meet [] b r h = tt
+  nodes-meet (w ∷ l) b r h =
+      let x = w .part in
       let p = b + widthOf k x in
-      let t = spells-append a b (widthOf k x) (blockValues k recording x) (nodeValues k recording (partsOf x)) (block-length k recording x)
-      (rw (values-parts k recording x 0) at h) in
-      let own = own-meets x b (seatsOf k p x) L (t .0) (parts-true a k recording x p (t .1)) in
-      rw (defined-parts C k b x 0) (all-append (Defined a) (ownOf C k b x) (definedFrom C k p (partsOf x)) own (g (t .1)))
-
-  pub nodes-meet : {s : Sort} (x : Tree s) (b : ℕ) → Letters C x → Spells a b (nodeValues k recording (nodesOf x 0)) → All (Defined a) (definedFrom C k b (nodesOf x 0))
-  unfolding definedFrom
-  nodes-meet {s} (constant v) b L h = with-parts {s = s} (constant v) b L h (λ t. tt)
-  nodes-meet (letter c) b L h = with-parts (letter c) b L h (λ t. tt)
-  nodes-meet (negation x) b L h = with-parts (negation x) b L h (nodes-meet x _ L)
-  nodes-meet (pair o x y) b L h =
-      with-parts (pair o x y) b L h (λ t.
-      let p = b + widthOf k (pair o x y) in
-      let q = p + blocksOf k (nodesOf x 0) in
-      let w = two-spelled a k recording x y p t in
-      rw (defined-append C k p (nodesOf x 0))
-      (all-append (Defined a) (definedFrom C k p (nodesOf x 0)) (definedFrom C k q (nodesOf y 0)) (nodes-meet x p (L .0) (w .0)) (nodes-meet y q (L .1) (w .1))))
-  nodes-meet (duration x n) b L h = with-parts (duration x n) b L h (nodes-meet x _ L)
-  nodes-meet (throughout x) b L h = with-parts (throughout x) b L h (nodes-meet x _ L)
+      let own = nodesOf x (w .first) in
+      let split = spells-append a b (widthOf k x) (blockValues k recording x) in
+      let rest = split (nodeValues k recording l) (block-length k recording x) h .1 in
+      let all = two-spelled a k recording own (r .1 .later) b (subst (λ (l : List Node). Spells a b (nodeValues k recording l)) (r .1 .is) h) .0 in
+      let t = split (nodeValues k recording (partsOf x)) (block-length k recording x) (subst (Spells a b) (values-parts k recording x (w .first)) all) in
+      all-append (Defined a) (ownOf C k b x) (definedFrom C k p l) (own-meets x b (seatsOf k p x) (r .0) (t .0) (parts-true a k recording x p (t .1))) (nodes-meet l p (r .2) rest)

@@ -4,17 +4,16 @@ use mathlib.Core.Path.{_≡_, sym, _∙_}
 use mathlib.Core.List.{List, [], _∷_}
 use Prim.Native.Nat.{ℕ, _-_, _*_, _<_}
 use native.Mathlib.Omega.{arith}
-use Rattle.interval.specs.Listing.{All}
-use Rattle.interval.proofs.Listing.{row-of}
+use Rattle.lists.specs.Listing.{All}
+use Rattle.lists.proofs.Listing.{row-of, sum-alike}
 use Rattle.grammar.specs.Trees.{Tree, Letters}
 use Rattle.grammar.specs.declared.Sort.the-variants.{Formula}
-use Rattle.formula.specs.Nodes.{nodesOf}
+use Rattle.grammar.specs.Nodes.{nodesOf}
 use Rattle.circuit.specs.Gates.{Assignment}
 use Rattle.circuit.specs.Circuit.{channelOf, variablesOf, Definition, definitionsOf}
 use Rattle.circuit.proofs.Blocks.{From}
 use Rattle.circuit.proofs.Values.{Same, value-same}
 use Rattle.circuit.proofs.Laws.{Passes, circuit-induction}
-use Rattle.assignments.proofs.Values.{sum-alike}
 use Rattle.assignments.proofs.Meets.{Defined}
 
 -- the variables from 1 to k·C are the channels' at the instants

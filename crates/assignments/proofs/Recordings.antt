@@ -10,14 +10,14 @@ use native.Mathlib.Omega.{arith}
 use lib.ListN.{length, getD}
 use lib.Pow.{pow-pos, mod-pow-add}
 use lib.Seq.{ext-getD}
-use Rattle.interval.specs.Listing.{sum}
-use Rattle.interval.proofs.Listing.{length-tab, getD-tab}
+use Rattle.lists.specs.Listing.{sum}
+use Rattle.lists.proofs.Listing.{length-tab, getD-tab}
 use Rattle.meaning.specs.Meaning.{bitAt, channelAt, bit}
-use Rattle.word.specs.Word.{WordOf}
-use Rattle.word.proofs.Words.{digit, Packed, packed-add}
+use Rattle.meaning.specs.Words.{WordOf}
+use Rattle.meaning.proofs.Words.{digit, Packed, packed-add}
 use Rattle.circuit.specs.Gates.{Assignment}
 use Rattle.circuit.specs.Circuit.{channelOf}
-use Rattle.circuit.proofs.Lists.{all-rows, all-at}
+use Rattle.lists.proofs.Lists.{all-rows, all-at}
 use Rattle.assignments.specs.Extension.{recordingBy, EachBelow}
 
 -- the number whose first n bits are f

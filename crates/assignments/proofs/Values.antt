@@ -8,21 +8,21 @@ use native.Mathlib.Nat.{zero-add}
 use native.Mathlib.Omega.{arith}
 use lib.ListN.{length, getD, length-append, length-map, List·getD-append}
 use lib.Seq.{ext-getD}
-use Rattle.interval.specs.Listing.{rows, tab, sum}
-use Rattle.interval.specs.Places.{countOf, intervalsOf, triplesOf}
+use Rattle.lists.specs.Listing.{rows, tab}
+use Rattle.interval.specs.Places.{countOf, intervalsOf, triplesOf, tripleCountOf}
 use Rattle.interval.specs.Limits.{IntervalOf, TripleOf}
-use Rattle.interval.proofs.Listing.{sum-ones, sum-times, length-rows, getD-rows, length-tab, getD-tab}
+use Rattle.lists.proofs.Listing.{length-rows, getD-rows, length-tab, getD-tab, sum-alike}
+use Rattle.interval.specs.declared.Interval.{Interval}
 use Rattle.interval.proofs.Shape.{Numbered}
 use Rattle.interval.proofs.Laws.{intervals-numbered, triples-numbered}
 use Rattle.grammar.specs.Trees.{and, or, chop, Tree, constant, letter, negation, pair, duration, throughout}
 use Rattle.grammar.specs.declared.Sort.{Sort}
 use Rattle.grammar.specs.declared.Sort.the-variants.{State, Formula}
-use Rattle.formula.specs.Nodes.{Node, nodesOf}
-use Rattle.formula.proofs.Lists.{all-append, flat-append}
+use Rattle.grammar.specs.Nodes.{Node, nodesOf}
+use Rattle.lists.proofs.Lists.{all-append, flat-append, all-rows, all-mapped}
 use Rattle.meaning.specs.Meaning.{bit, channelAt, Point, truth}
-use Rattle.word.proofs.Words.{bit-lt}
+use Rattle.meaning.proofs.Words.{bit-lt}
 use Rattle.circuit.specs.Circuit.{pointsOf, widthOf, blocksOf, variablesOf, truthOf}
-use Rattle.circuit.proofs.Lists.{all-rows, all-mapped}
 use Rattle.circuit.proofs.Blocks.{partsOf, bare, by-parts, truth-fits}
 use Rattle.circuit.proofs.Inputs.{intervals-in, triples-in}
 use Rattle.assignments.specs.Extension.{channelValues, truthValues, cuts, cutValues, blockValues, nodeValues, extensionOf, EachBelow}
@@ -43,9 +43,6 @@ module _ {A : Type 0} {In : A → Type 0} {placed : A → ℕ} {listed : List A}
       go [] e h = absurd (omega arith)
       go (a ∷ l) zero h = refl
       go (a ∷ l) (suc e) h = go l e (omega arith)
-
-pub sum-alike : (w n : ℕ) → sum (λ i. w) n ≡ n * w
-sum-alike w n = sum-times (λ i. w) (λ i. 1) w n (λ i l. omega arith) ∙ ap (λ m. m * w) (sum-ones n)
 
 module _ {A : Type 0} (w : ℕ) (f : ℕ → List A) (e : (i : ℕ) → length (f i) ≡ w) where
   pub alike-length : (n : ℕ) → length (rows n f) ≡ n * w
@@ -83,48 +80,42 @@ truth-bits Formula k f = all-mapped _ (IntervalOf k) _ (intervalsOf k) (λ v o. 
 -- ---- blocks
 
 module _ (k : ℕ) (recording : List ℕ) where
+  -- a block is its node's truth, alone; or a chop's triples follow it; or a duration's lower levels stand before it
+  module _ (Q : (s : Sort) → (Point s → Bool) → ℕ → ℕ → List ℕ → Type 0) (alone : (s : Sort) (g : Point s → Bool) → Q s g 0 (pointsOf s k) (truthValues s k g))
+      (triples : (g f h : Interval → Bool) → Q Formula g 0 (countOf k + tripleCountOf k) (truthValues Formula k g ++ cutValues k f h))
+      (levels : (f : ℕ → Interval → Bool) (n : ℕ) → Q Formula (f n) (n * countOf k) (suc n * countOf k) (rows (suc n) (λ c. truthValues Formula k (f c)))) where
+    by-block : {s : Sort} (x : Tree s) → Q s (truth recording x) (truthOf k x) (widthOf k x) (blockValues k recording x)
+    unfolding blockValues truthOf widthOf
+    by-block {s} (constant v) = alone s (truth {s = s} recording (constant v))
+    by-block (letter c) = alone State (truth recording (letter c))
+    by-block {s} (negation x) = alone s (truth recording (negation x))
+    by-block {s} (pair and x y) = alone s (truth recording (pair and x y))
+    by-block {s} (pair or x y) = alone s (truth recording (pair or x y))
+    by-block (pair chop x y) = triples (truth recording (pair chop x y)) (truth recording x) (truth recording y)
+    by-block (duration x n) = levels (λ c. truth recording (duration x c)) n
+    by-block (throughout x) = alone Formula (truth recording (throughout x))
+
   pub block-length : {s : Sort} (x : Tree s) → length (blockValues k recording x) ≡ widthOf k x
-  unfolding blockValues widthOf
-  block-length {s} (constant v) = truth-length s k (truth {s = s} recording (constant v))
-  block-length (letter c) = truth-length State k (truth recording (letter c))
-  block-length {s} (negation x) = truth-length s k (truth recording (negation x))
-  block-length {s} (pair and x y) = truth-length s k (truth recording (pair and x y))
-  block-length {s} (pair or x y) = truth-length s k (truth recording (pair or x y))
-  block-length (pair chop x y) =
-      length-append (truthValues Formula k (truth recording (pair chop x y))) (cutValues k (truth recording x) (truth recording y))
-      ∙ ap₂ _+_ (truth-length Formula k (truth recording (pair chop x y))) (mapped-length (triples-numbered k) (λ t. bit (cuts (truth recording x) (truth recording y) t)))
-  block-length (duration x n) = alike-length (countOf k) _ (λ c. truth-length Formula k (truth recording (duration x c))) (suc n)
-  block-length (throughout x) = truth-length Formula k (truth recording (throughout x))
+  block-length x =
+      by-block (λ s g t w B. length B ≡ w) (λ s g. truth-length s k g)
+      (λ g f h. length-append (truthValues Formula k g) (cutValues k f h) ∙ ap₂ _+_ (truth-length Formula k g) (mapped-length (triples-numbered k) (λ t. bit (cuts f h t))))
+      (λ f n. alike-length (countOf k) _ (λ c. truth-length Formula k (f c)) (suc n)) x
 
   -- "Level n is the node's truth"
   truth-in-block : {s : Sort} (x : Tree s) (e : ℕ) → e < pointsOf s k → getD (blockValues k recording x) (truthOf k x + e) 0 ≡ bit (truth recording x (pointAt s k e))
-  unfolding blockValues truthOf
-  truth-in-block {s} (constant v) e h = rw zero-add (truth-at s k (truth {s = s} recording (constant v)) e h)
-  truth-in-block (letter c) e h = rw zero-add (truth-at State k (truth recording (letter c)) e h)
-  truth-in-block {s} (negation x) e h = rw zero-add (truth-at s k (truth recording (negation x)) e h)
-  truth-in-block {s} (pair and x y) e h = rw zero-add (truth-at s k (truth recording (pair and x y)) e h)
-  truth-in-block {s} (pair or x y) e h = rw zero-add (truth-at s k (truth recording (pair or x y)) e h)
-  truth-in-block (pair chop x y) e h =
-      let f = truth recording (pair chop x y) in
-      rw zero-add (List·getD-append (truthValues Formula k f) _ 0 e (omega (arith, truth-length Formula k f)) ∙ truth-at Formula k f e h)
-  truth-in-block (duration x n) e h =
-      alike-at (countOf k) _ (λ c. truth-length Formula k (truth recording (duration x c))) (suc n) n e 0 (omega arith) h
-      ∙ truth-at Formula k (truth recording (duration x n)) e h
-  truth-in-block (throughout x) e h = rw zero-add (truth-at Formula k (truth recording (throughout x)) e h)
+  truth-in-block x =
+      by-block (λ s g t w B. (e : ℕ) → e < pointsOf s k → getD B (t + e) 0 ≡ bit (g (pointAt s k e)))
+      (λ s g e h. ap (λ (i : ℕ). getD (truthValues s k g) i 0) (zero-add e) ∙ truth-at s k g e h)
+      (λ g f h e l. ap (λ (i : ℕ). getD (truthValues Formula k g ++ cutValues k f h) i 0) (zero-add e)
+      ∙ List·getD-append (truthValues Formula k g) (cutValues k f h) 0 e (omega (arith, truth-length Formula k g)) ∙ truth-at Formula k g e l)
+      (λ f n e h. alike-at (countOf k) _ (λ c. truth-length Formula k (f c)) (suc n) n e 0 (omega arith) h ∙ truth-at Formula k (f n) e h) x
 
   block-bits : {s : Sort} (x : Tree s) → EachBelow 2 (blockValues k recording x)
-  unfolding blockValues
-  block-bits {s} (constant v) = truth-bits s k (truth {s = s} recording (constant v))
-  block-bits (letter c) = truth-bits State k (truth recording (letter c))
-  block-bits {s} (negation x) = truth-bits s k (truth recording (negation x))
-  block-bits {s} (pair and x y) = truth-bits s k (truth recording (pair and x y))
-  block-bits {s} (pair or x y) = truth-bits s k (truth recording (pair or x y))
-  block-bits (pair chop x y) =
-      all-append _ (truthValues Formula k (truth recording (pair chop x y))) (cutValues k (truth recording x) (truth recording y))
-      (truth-bits Formula k (truth recording (pair chop x y)))
-      (all-mapped _ (TripleOf k) _ (triplesOf k) (λ t o. bit-lt (cuts (truth recording x) (truth recording y) t)) (triples-in k))
-  block-bits (duration x n) = all-rows _ (suc n) _ (λ c h. truth-bits Formula k (truth recording (duration x c)))
-  block-bits (throughout x) = truth-bits Formula k (truth recording (throughout x))
+  block-bits x =
+      by-block (λ s g t w B. EachBelow 2 B) (λ s g. truth-bits s k g)
+      (λ g f h. all-append _ (truthValues Formula k g) (cutValues k f h) (truth-bits Formula k g)
+      (all-mapped _ (TripleOf k) _ (triplesOf k) (λ t o. bit-lt (cuts f h t)) (triples-in k)))
+      (λ f n. all-rows _ (suc n) _ (λ c h. truth-bits Formula k (f c))) x
 
   pub values-append : (l m : List Node) → nodeValues k recording (l ++ m) ≡ nodeValues k recording l ++ nodeValues k recording m
   unfolding nodeValues

@@ -9,16 +9,16 @@ use Rattle.refusal.specs.Asked.{question, asked}
 use Rattle.refusal.specs.declared.Refusal.{Refusal}
 use Rattle.refusal.specs.declared.Reply.{Reply}
 use Rattle.refusal.specs.declared.Reply.the-variants.{Yes, No}
-use Rattle.grammar.specs.Reader.{read}
-use Rattle.formula.specs.Nodes.{nodesIn}
-use Rattle.formula.specs.Questions.{formulaQuestions}
-use Rattle.evaluator.specs.Evaluation.{askRecording, askBytes, askBelow}
+use Rattle.grammar.specs.Reader.{read, onTree}
+use Rattle.grammar.specs.Nodes.{nodesIn}
+use Rattle.grammar.specs.Questions.{formulaQuestions}
+use Rattle.meaning.specs.Recording.{askRecording, askBytes, askBelow}
 use Rattle.circuit.specs.Gates.{Assignment}
 use Rattle.circuit.specs.Circuit.{variablesOf}
 use Rattle.clauses.specs.Clauses.{Clause, clauseTable, meetsClause}
-use Rattle.clause_table.specs.Table.{onTree, over}
-use Rattle.clause_table.specs.declared.Written.{Written}
-use Rattle.clause_table.specs.declared.Written.the-variants as written
+use Rattle.moments.specs.Moments.{over}
+use Rattle.refusal.specs.declared.Written.{Written}
+use Rattle.refusal.specs.declared.Written.the-variants as written
 use Rattle.assignments.specs.Extension.{valueIn, extensionOf, recordingOf}
 use Rattle.assignments.specs.declared.Checked.{Checked}
 use Rattle.assignments.specs.declared.Checked.the-variants.{Accepted, Refused}

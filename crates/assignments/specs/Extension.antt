@@ -5,14 +5,14 @@ use mathlib.Core.List.{List, [], _∷_, _++_, map, flatMap}
 use Prim.Native.Nat.{ℕ, suc, _-_, _*_, _^_, _<_}
 use lib.Dec.{eqb}
 use lib.ListN.{getD}
-use Rattle.interval.specs.Listing.{rows, tab, All, sum}
+use Rattle.lists.specs.Listing.{rows, tab, All, sum}
 use Rattle.interval.specs.Places.{intervalsOf, triplesOf}
 use Rattle.interval.specs.declared.Interval.{Interval}
 use Rattle.interval.specs.declared.Triple.{Triple}
 use Rattle.grammar.specs.Trees.{Tree, duration}
 use Rattle.grammar.specs.declared.Sort.{Sort}
 use Rattle.grammar.specs.declared.Sort.the-variants.{State, Formula}
-use Rattle.formula.specs.Nodes.{Node, nodesOf, aLetter, aDuration, aChop, another, viewOf}
+use Rattle.grammar.specs.Nodes.{Node, nodesOf, aLetter, aDuration, aChop, another, viewOf}
 use Rattle.meaning.specs.Meaning.{bit, channelAt, Point, truth}
 use Rattle.circuit.specs.Gates.{Assignment}
 use Rattle.circuit.specs.Circuit.{channelOf, definitionsOf, rootOf}

@@ -20,7 +20,8 @@ use Rattle.closing.specs.declared.Closed.{Closed}
 use Rattle.closing.proofs.Trail.{grown-length, grown-same, grown-more}
 use Rattle.attempts.specs.Attempts.{Holding, Ready, Undoable, Since, Tried}
 
-pub holding : {T : List Clause} {S : Literals} {v₀ t₀ values trail : List ℕ} {top : ℕ} {r : Closed} → heldIn v₀ ≡ S → ClosedTo T v₀ t₀ top values trail r → Holding T S values trail r
+pub holding : {T : List Clause} {S : Literals} {v₀ t₀ values trail : List ℕ} {top : ℕ} {r : Closed} → heldIn v₀ ≡ S →
+    ClosedTo T v₀ t₀ top values trail r → Holding T S values trail r
 holding {T} e c = record {
   trailing = c .grown .trailing;
   calm = λ f. c .calm f ∙ ap (closure T) e;

@@ -1,16 +1,16 @@
 -- A block that the code walks defines what document 01 lists: an interval is a start and a length, its place is the position's, and the
 -- interval one shorter stands in the place before.
 use mathlib.Core.Path.{_≡_, refl, sym, ap, ap₂, _∙_}
-use mathlib.Core.Bool.{false}
+use mathlib.Core.Bool.{false, false≢true}
 use mathlib.Core.List.{List, _++_, map}
 use Prim.Native.Nat.{ℕ, zero, suc, _+_, _-_, _*_, _≤_}
 use native.Mathlib.Nat.{suc-mul}
 use native.Mathlib.Omega.{arith}
 use lib.Dec.{eqb}
 use borrow.Author.Tests.{eq-eqb, ne-eqb}
-use Rattle.interval.specs.Listing.{rows, tab, sum}
+use Rattle.lists.specs.Listing.{rows, tab, sum}
 use Rattle.interval.specs.Places.{countOf, placeOf, triplePlaceOf, intervalsOf}
-use Rattle.interval.proofs.Listing.{sum-ones, sum-times, rows-same}
+use Rattle.lists.proofs.Listing.{rows-same, sum-alike}
 use Rattle.interval.proofs.Shape.{line, place, per, intervals, triples, per-same, map-per}
 use Rattle.interval.proofs.Counts.{intervals-count}
 use Rattle.interval.proofs.Laws.{interval, triple, intervals-listed, interval-entry, triples-listed, triple-entry}
@@ -21,9 +21,9 @@ use Rattle.grammar.specs.declared.Sort.the-variants.{Formula}
 use Rattle.circuit.specs.Circuit.{Definition, define, alike, channelOf, pointsOf, throughoutGate, levelOf, levelGate, tripleGate, chopGate, Seats, ownBy}
 use Rattle.circuit.specs.declared.Gate.{Gate}
 use Rattle.circuit.specs.declared.Gate.the-variants.{Constant, Copy, Inverse, Both, Either, AnyOf, Step}
-use Rattle.blocks.specs.Blocks.{throughoutBy, levelBy, chopBy, ruleOf, gateOf, definedBy, blockOf}
+use Rattle.blocks.specs.Blocks.{throughoutBy, levelBy, chopBy, ruleOf, isChop, gateOf, definedBy, blockOf}
 use Rattle.blocks.specs.declared.Block.{Block}
-use Rattle.blocks.specs.declared.Rule.the-variants.{Chop, Cut}
+use Rattle.blocks.specs.declared.Rule.the-variants.{Cut}
 
 -- ---- the gates on an interval of d steps from i on
 
@@ -79,7 +79,7 @@ module _ (k b l : ℕ) where
       on-intervals _ _
       (λ i d h p.
       let w = sum (λ i. suc k - i) (suc k) in
-      let e = sum-times (λ _. w) (λ _. 1) w c (λ i l. omega arith) ∙ ap₂ (λ (m n : ℕ). m * n) (sum-ones c) (intervals-count k) in
+      let e = sum-alike w c ∙ ap (λ (n : ℕ). c * n) (intervals-count k) in
       let v : levelOf k b c (record { i = i; j = i + d }) ≡ b + (below c + place (intervals k) (i, d)) = omega (arith, e, p) in
       ap₂ define v (level-same k b l c i d h ∙ ap (λ (n : ℕ). levelBy k b l (n + place (intervals k) (i, d)) c i d) (sym e)))
 
@@ -89,24 +89,27 @@ tripled k b l r = record { rule = Cut; points = countOf k; first = b + countOf k
 
 module _ (C k b : ℕ) (S : Seats) where
   -- the definitions of a node's own block, of a chop those of its triples and then of its intervals
-  pub own-defined : {s : Sort} (x : Tree s) → (ruleOf x ≡ Chop → ⊥) → ownBy C k b S x ≡ definedBy C k (blockOf k b (S .left) (S .right) x)
+  pub own-defined : {s : Sort} (x : Tree s) → isChop (ruleOf x) ≡ false → ownBy C k b S x ≡ definedBy C k (blockOf k b (S .left) (S .right) x)
   unfolding ownBy definedBy gateOf rows sum
   own-defined {s} (constant v) n = one-line b (pointsOf s k) (λ p. Constant v)
   own-defined (letter c) n = one-line b k (λ p. Copy (channelOf C p c))
   own-defined {s} (negation x) n = one-line b (pointsOf s k) (λ p. Inverse (S .left + p))
   own-defined {s} (pair and x y) n = one-line b (pointsOf s k) (λ p. Both (S .left + p) (S .right + p))
   own-defined {s} (pair or x y) n = one-line b (pointsOf s k) (λ p. Either (S .left + p) (S .right + p))
-  own-defined (pair chop x y) n = absurd (n refl)
+  own-defined (pair chop x y) n = absurd (false≢true (sym n))
   own-defined (duration x n) _ = rows-same (suc n) _ _ (λ c h. level-defined k b (S .left) c)
   own-defined (throughout x) n =
       on-intervals k b (S .left) _ _
       (λ i d h p. ap₂ define (omega (arith, p)) (throughout-same k b (S .left) i d h ∙ ap (λ (p : ℕ). throughoutBy b (S .left) p i d) (omega arith)))
 
-  pub chop-defined : (x y : Tree Formula) → ownBy C k b S (pair chop x y) ≡ definedBy C k (tripled k b (S .left) (S .right)) ++ definedBy C k (blockOf k b (b + countOf k) (S .right) (pair chop x y))
+  pub chop-defined : (x y : Tree Formula) → ownBy C k b S (pair chop x y) ≡ definedBy C k (tripled k b (S .left) (S .right)) ++
+      definedBy C k (blockOf k b (b + countOf k) (S .right) (pair chop x y))
   unfolding ownBy definedBy gateOf rows sum
   chop-defined x y =
       ap₂ (λ (m n : List Definition). m ++ n)
-      (ap (map _) (triples-listed k) ∙ map-per _ (triples k) (triple k) ∙ per-same (triples k) _ _ (λ t m. ap (λ (p : ℕ). define (b + countOf k + p) (tripleGate k (S .left) (S .right) (triple k t))) (triple-entry k t m .1)))
+      (ap (map _) (triples-listed k) ∙ map-per _ (triples k) (triple k) ∙
+      per-same (triples k) _ _ (λ t m. ap (λ (p : ℕ). define (b + countOf k + p) (tripleGate k (S .left) (S .right) (triple k t)))
+      (triple-entry k t m .1)))
       (on-intervals k b (S .left) _ _
       (λ i d h p.
       let v : b + placeOf k (record { i = i; j = i + d }) ≡ b + (0 + place (intervals k) (i, d)) = omega (arith, p) in

@@ -2,21 +2,23 @@
 -- places; the next position inside has the next place, since no line between is empty. The triples of intervals stand as the intervals do.
 use mathlib.Core.Path.{_≡_, refl, sym, ap, subst}
 use mathlib.Core.Logic.{⊎-elim}
-use mathlib.Core.Bool.{Bool, true, false, cond, false≢true}
+use mathlib.Core.Bool.{Bool, true, false, cond}
 use Prim.Native.Nat.{ℕ, zero, suc, _+_, _-_, _*_, _/_, _%_, _^_, _≤_, _<_}
 use native.Mathlib.Nat.{suc-mul, mul-le-mul, eq-or-lt-of-le}
-use native.Mathlib.Numerals.{add-one}
 use native.Mathlib.Omega.{arith}
 use lib.ListN.{getD, List·getD-eq-default}
 use lib.Dec.{ltb}
 use borrow.Author.Tests.{lt-ltb, le-ltb, ltb-true, ltb-false}
-use Rattle.interval.specs.Listing.{sum}
+use Rattle.lists.specs.Listing.{sum}
+use Rattle.blocks.proofs.Rules.{line-count}
 use Rattle.interval.specs.Places.{countOf, tripleCountOf, triplePlaceOf}
 use Rattle.interval.specs.Limits.{maxSteps, maxCount, TripleOf}
 use Rattle.interval.specs.declared.Triple.{Triple}
+use Rattle.lists.proofs.Listing.{sum-next}
 use Rattle.interval.proofs.Counts.{intervals-count, triple-count-le}
 use Rattle.interval.proofs.Shape.{Inside, count}
 use Rattle.interval.proofs.Laws.{triple-place, triples-numbered}
+use Rattle.lists.proofs.Lists.{all-or}
 use Rattle.blocks.specs.Blocks.{rulesFor, ruleBy, formOf, rowsOf, linesOf, cellsOf, nextOf, numberOf, shapeOf, Placed, Before, bound, gateBy, gateOf}
 use Rattle.blocks.specs.declared.Block.{Block}
 use Rattle.blocks.specs.declared.Form.{Form}
@@ -38,18 +40,10 @@ rule-beyond kind n h = sym (List·getD-eq-default (rulesFor n) Throughout h)
 -- a rule's number is the row's, or none
 pub rule-number : (kind n : ℕ) → n ≤ 255 → numberOf (ruleBy kind n) ≤ 255
 unfolding ruleBy
-rule-number kind n h = go (kind % 16)
+rule-number kind n h = all-or (λ (r : Rule). numberOf r ≤ 255) (rulesFor n) Throughout z (kind % 16) (z, (z, (z, (z, (z, (z, (h, (h, tt))))))))
   where
-    go : (j : ℕ) → numberOf (getD (rulesFor n) j Throughout) ≤ 255
-    go zero = omega arith
-    go (suc zero) = omega arith
-    go (suc (suc zero)) = omega arith
-    go (suc (suc (suc zero))) = omega arith
-    go (suc (suc (suc (suc zero)))) = omega arith
-    go (suc (suc (suc (suc (suc zero))))) = omega arith
-    go (suc (suc (suc (suc (suc (suc zero)))))) = h
-    go (suc (suc (suc (suc (suc (suc (suc zero))))))) = h
-    go (suc (suc (suc (suc (suc (suc (suc (suc j)))))))) = omega arith
+    z : 0 ≤ 255
+    z = omega arith
 
 -- ---- the tests of the code choose what the definition does
 
@@ -75,7 +69,7 @@ levels-before k zero f = absurd (omega arith)
 levels-before k (suc a) f = omega (arith, intervals-count k)
 
 module _ {points k x a i d : ℕ} {r : Rule} (p : Placed points k r x a i d) where
-  by-rule : {q : Rule} → r ≡ q → Placed points k q x a i d
+  pub by-rule : {q : Rule} → r ≡ q → Placed points k q x a i d
   by-rule e = subst (λ (q : Rule). Placed points k q x a i d) e p
 
   pub chop-position : r ≡ Chop → i + d ≤ k
@@ -143,29 +137,12 @@ row-some k (Duration n) = omega arith
 row-some k Throughout = omega arith
 row-some k Cut = omega arith
 
-sum-next : (w : ℕ → ℕ) (n : ℕ) → sum w (n + 1) ≡ sum w n + w n
-unfolding sum
-sum-next w n = rw (add-one n) refl
-
--- a block of one line that is not empty has points
-points-some : (points k : ℕ) (r : Rule) → 0 < count (shapeOf points k r) → formOf r ≡ Line → 0 < points
-unfolding sum
-points-some points k (Fixed v) h e = omega (arith, h)
-points-some points k (Letter c) h e = omega (arith, h)
-points-some points k Negation h e = omega (arith, h)
-points-some points k And h e = omega (arith, h)
-points-some points k Or h e = omega (arith, h)
-points-some points k Chop h e = absurd (false≢true cc)
-points-some points k (Duration n) h e = absurd (false≢true cc)
-points-some points k Throughout h e = absurd (false≢true cc)
-points-some points k Cut h e = absurd (false≢true cc)
-
 module _ (points k : ℕ) (r : Rule) where
   pub first-placed : 0 < count (shapeOf points k r) → Placed points k r 0 0 0 0
   unfolding sum
   first-placed h =
       let l = line-some k 0 r (row-some k r) in
-      record { inside = (row-some k r, (l, cell-some points k 0 0 (formOf r) (points-some points k r h) l)); at = omega arith }
+      record { inside = (row-some k r, (l, cell-some points k 0 0 (formOf r) (λ e. omega (arith, h, line-count points k r e)) l)); at = omega arith }
 
   abbrev PlacedAt : ℕ → Position → Type 0
   PlacedAt x p = Placed points k r x (p .row) (p .line) (p .cell)
@@ -190,7 +167,7 @@ module _ (points k : ℕ) (r : Rule) where
           omega (arith, q .at, q .inside .1 .1, sum-next row (p .row), sum-next cells (p .line), ap (sum cells) n)
 
       some : formOf r ≡ Line → 0 < points
-      some = points-some points k r (omega (arith, h))
+      some e = omega (arith, h, line-count points k r e)
 
       row-inside : x + 1 ≡ sum row (p .row + 1) → p .row + 1 < rowsOf k r
       row-inside n =
@@ -199,7 +176,13 @@ module _ (points k : ℕ) (r : Rule) where
 
       go : (c : Bool) → ltb (p .cell + 1) (cellsOf points k (p .line) (formOf r)) ≡ c → (d : Bool) → ltb (p .line + 1) lines ≡ d
           → PlacedAt (x + 1)
-          (cond c (record { row = p .row; line = p .line; cell = p .cell + 1; before = p .before + (p .cell + 1) }) (cond d (record { row = p .row; line = p .line + 1; cell = 0; before = p .before + (p .cell + 1) }) (record { row = p .row + 1; line = 0; cell = 0; before = 0 })))
+          (cond c (record { row = p .row; line = p .line; cell = p .cell + 1; before = p .before + (p .cell + 1) }) (cond d
+          (record { row = p .row; line = p .line + 1; cell = 0; before = p .before + (p .cell + 1) }) (record {
+            row = p .row + 1;
+            line = 0;
+            cell = 0;
+            before = 0;
+          })))
       go true e d f = record { inside = (q .inside .0, (q .inside .1 .0, ltb-true _ _ e)); at = omega (arith, q .at) }
       go false e true f =
           let l = ltb-true _ _ f in
@@ -214,7 +197,8 @@ module _ (points k : ℕ) (r : Rule) where
           record { inside = (i, (l, cell-some points k (p .row + 1) 0 (formOf r) some l)); at = omega (arith, n) }
 
 -- a position inside is small
-pub position-small : {points k x a i d : ℕ} {r : Rule} → Placed points k r x a i d → numberOf r ≤ 255 → k ≤ maxSteps → points ≤ maxCount → (a ≤ 255) × (i ≤ maxSteps) × (d < maxCount)
+pub position-small : {points k x a i d : ℕ} {r : Rule} → Placed points k r x a i d → numberOf r ≤ 255 → k ≤ maxSteps → points ≤ maxCount →
+    (a ≤ 255) × (i ≤ maxSteps) × (d < maxCount)
 position-small {points} {k} {x} {a} {i} {d} {r} p n h l = go r (p .inside) n
   where
     go : (r : Rule) → Inside (shapeOf points k r) (a, (i, d)) → numberOf r ≤ 255 → (a ≤ 255) × (i ≤ maxSteps) × (d < maxCount)
@@ -257,7 +241,8 @@ unfolding sum
 sum-at-most w b zero h = omega arith
 sum-at-most w b (suc n) h = omega (arith, sum-at-most w b n (λ i l. h i (omega arith)), h n (omega arith), suc-mul n b)
 
-pub before-small : {points k x : ℕ} {r : Rule} (p : Position) → Placed points k r x (p .row) (p .line) (p .cell) → Before points k r p → k ≤ maxSteps → points ≤ maxCount → p .before < bound
+pub before-small : {points k x : ℕ} {r : Rule} (p : Position) → Placed points k r x (p .row) (p .line) (p .cell) → Before points k r p →
+    k ≤ maxSteps → points ≤ maxCount → p .before < bound
 before-small {points} {k} {x} {r} p q b h l =
     let f = few (formOf r) in
     let c = f (p .line) (q .inside .1 .0) in

@@ -12,11 +12,11 @@ use borrow.Author.Tests.{ltb-true, ltb-false}
 use borrow.Rule.Slice.PartMut.{midOf, putMid, mid-len}
 use Rattle.interval.specs.Places.{countOf}
 use Rattle.interval.specs.declared.Interval.{Interval}
-use Rattle.grammar.proofs.Bytes.{both}
+use Rattle.lists.proofs.Tests.{both}
 use Rattle.meaning.specs.Meaning.{bit, any, chops}
 use Rattle.meaning.proofs.Laws.{some-one}
 use Rattle.table.specs.Table.{TableOf, RowOf, startOf}
-use Rattle.chop.specs.Rows.{NextRows, Within}
+use Rattle.truth_skips.specs.Rows.{NextRows, Within}
 use Rattle.table.proofs.Rows.{row-ends, row-entry, put-length, put-before, put-within, part-entry}
 
 or-bits : (a b : Bool) → bitOr (bit a) (bit b) ≡ bit (a || b)
@@ -101,7 +101,8 @@ module _ (f g : Interval → Bool) (i : ℕ) where
           let v : i + d + z ≡ i + (d + z) = omega arith in
           put-within d (length row - d) row tail (omega arith) l z h ∙ o z h
           ∙ ap₂ bitOr (w .at (d + z) (omega arith) ∙ ap (upto (d + z)) (before-it (d + z) d (omega arith)))
-          (row-entry k g q Q (i + d) z (omega arith) ∙ ap (λ (j : ℕ). bit (g (record { i = i + d; j = j }))) v ∙ sym (ap (λ (b : Bool). bit (b && g (record { i = i + d; j = i + (d + z) }))) t))
+          (row-entry k g q Q (i + d) z (omega arith) ∙ ap (λ (j : ℕ). bit (g (record { i = i + d; j = j }))) v ∙
+          sym (ap (λ (b : Bool). bit (b && g (record { i = i + d; j = i + (d + z) }))) t))
           ∙ or-bits (any (serves (d + z)) i d) (serves (d + z) (i + d)) ∙ one-more (d + z) d (omega arith)
 
       chop-yes : ChoppedTo (d + 1) after
@@ -176,10 +177,12 @@ module _ (k i start : ℕ) (p q nexts : List ℕ) where
             let yes = bit-nonzero _ (λ e. z (own-truth d f P (w .starts) inside ∙ e)) in
             chop-skip f g i k d q Q yes inside nexts W (putMid d (length row - d) row tail) whole _ _ c (omega arith)
             (chop-yes f g i k d q Q yes inside row tail (w .whole) (n ∙ m)
-            (λ y l. t y (omega arith) ∙ ap₂ bitOr (part-entry d (length row - d) row y l) (part-entry at (end - at) q y (omega arith) ∙ ap (λ (s : ℕ). getD q (s + y) 0) a)) (w .chopped f g P Q W));
+            (λ y l. t y (omega arith) ∙ ap₂ bitOr (part-entry d (length row - d) row y l)
+            (part-entry at (end - at) q y (omega arith) ∙ ap (λ (s : ℕ). getD q (s + y) 0) a)) (w .chopped f g P Q W));
       }
 
-  pub done : (d : ℕ) (row : List ℕ) → Chopping k i start p q nexts d row → suc k - i ≤ d → (f g : Interval → Bool) → TableOf k f p → TableOf k g q → Within k g nexts → RowOf i (chops f g) row
+  pub done : (d : ℕ) (row : List ℕ) → Chopping k i start p q nexts d row → suc k - i ≤ d → (f g : Interval → Bool) → TableOf k f p →
+      TableOf k g q → Within k g nexts → RowOf i (chops f g) row
   done d row w h f g P Q W = chop-done f g i d row (omega (arith, w .whole)) (w .chopped f g P Q W)
 
 -- fewer m's are left

@@ -1,16 +1,18 @@
--- The blocks follow each other without gap: the definitions of two lists of nodes are the first list's, then the second's from where the
--- first's blocks end. The place of first bytes plays no part in them, so a tree's nodes are as good as its own and then its parts'.
+-- The blocks follow each other without gap, so those of two lists of nodes come to the sum of both. The place of first bytes plays no part
+-- in them, so a tree's nodes are as good as its own and then its parts'.
 use mathlib.Core.Path.{_≡_, refl, sym, ap, _∙_}
-use mathlib.Core.List.{List, [], _∷_, _++_, append-assoc, map, map-append}
+use mathlib.Core.List.{List, [], _∷_, _++_, map, map-append}
 use Prim.Native.Nat.{ℕ, suc, _+_, _≤_, _<_}
-use native.Mathlib.Nat.{suc-mul, add-zero, add-assoc}
+use native.Mathlib.Nat.{suc-mul}
 use native.Mathlib.Omega.{arith}
 use lib.ListN.{length}
 use Rattle.interval.specs.Places.{countOf}
+use Rattle.interval.proofs.Laws.{intervals-numbered}
 use Rattle.grammar.specs.Trees.{and, or, chop, Tree, constant, letter, negation, pair, duration, throughout, textOf}
 use Rattle.grammar.specs.declared.Sort.{Sort}
-use Rattle.formula.specs.Nodes.{Node, node, nodesOf}
-use Rattle.circuit.specs.Circuit.{pointsOf, widthOf, blocksOf, truthOf, ownOf, definedFrom}
+use Rattle.grammar.specs.declared.Sort.the-variants.{Formula}
+use Rattle.grammar.specs.Nodes.{Node, node, nodesOf}
+use Rattle.circuit.specs.Circuit.{pointsOf, widthOf, blocksOf, variablesOf, truthOf, rootOf}
 
 -- v is one of the n variables from b on
 abbrev pub From : ℕ → ℕ → ℕ → Type 0
@@ -33,11 +35,6 @@ module _ (k : ℕ) where
   truth-fits (pair chop x y) = omega arith
   truth-fits (duration x n) = omega (arith, suc-mul n (countOf k))
   truth-fits (throughout x) = omega arith
-
-pub defined-append : (C k b : ℕ) (l m : List Node) → definedFrom C k b (l ++ m) ≡ definedFrom C k b l ++ definedFrom C k (b + blocksOf k l) m
-unfolding definedFrom blocksOf
-defined-append C k b [] m = simp add-zero
-defined-append C k b (w ∷ l) m = rw (defined-append C k (b + widthOf k (w .part)) l m, append-assoc, add-assoc)
 
 -- the nodes of a tree's parts: the first part's, then the second's
 abbrev pub partsOf : {s : Sort} → Tree s → List Node
@@ -76,22 +73,16 @@ unfolding blocksOf
 blocks-bare k [] = refl
 blocks-bare k (w ∷ l) = omega (arith, blocks-bare k l)
 
-defined-bare : (C k b : ℕ) (l : List Node) → definedFrom C k b (bare l) ≡ definedFrom C k b l
-unfolding definedFrom
-defined-bare C k b [] = refl
-defined-bare C k b (w ∷ l) = cc (defined-bare C k (b + widthOf k (w .part)) l)
-
 -- a node's own block, then its parts'
 pub blocks-parts : (k : ℕ) {s : Sort} (x : Tree s) (at : ℕ) → blocksOf k (nodesOf x at) ≡ widthOf k x + blocksOf k (partsOf x)
 unfolding blocksOf
 blocks-parts k x at = by-parts (blocksOf k) (blocks-bare k) x at
 
--- a node's own definitions, then its parts'
-pub defined-parts : (C k b : ℕ) {s : Sort} (x : Tree s) (at : ℕ)
-    → definedFrom C k b (nodesOf x at) ≡ ownOf C k b x ++ definedFrom C k (b + widthOf k x) (partsOf x)
-unfolding definedFrom
-defined-parts C k b x at = by-parts (definedFrom C k b) (defined-bare C k b) x at
-
 -- a part's truth lies in its blocks
 pub truth-lt : (k : ℕ) {s : Sort} (x : Tree s) (p : ℕ) → p < pointsOf s k → truthOf k x + p < blocksOf k (nodesOf x 0)
 truth-lt k x p h = omega (arith, truth-fits k x, blocks-parts k x 0)
+
+-- the root on [0, k] is one of the variables
+pub root-in-range : (C k : ℕ) (f : Tree Formula) → From 1 (variablesOf C k (nodesOf f 0)) (rootOf C k f)
+unfolding rootOf variablesOf
+root-in-range C k f = omega (arith, truth-lt k f _ (intervals-numbered k .below (record { i = 0; j = k }) (omega arith)))

@@ -5,11 +5,12 @@ use mathlib.Core.Logic.{_≢_}
 use mathlib.Core.Bool.{cond}
 use mathlib.Core.List.{List, [], _∷_, _++_, map}
 use Prim.Native.Nat.{ℕ, zero, suc, _+_, _-_, _*_, _<_}
-use native.Mathlib.Nat.{suc-mul, mul-le-mul-right}
+use native.Mathlib.Nat.{suc-mul}
 use native.Mathlib.Omega.{arith}
 use lib.Dec.{eqb}
+use lib.Arith.{digits-lt}
 use borrow.Author.Tests.{eqb-false}
-use Rattle.interval.specs.Listing.{rows, tab, All}
+use Rattle.lists.specs.Listing.{rows, tab, All}
 use Rattle.interval.specs.Places.{countOf, tripleCountOf, placeOf, triplePlaceOf, intervalsOf, triplesOf}
 use Rattle.interval.specs.Limits.{IntervalOf, TripleOf}
 use Rattle.interval.specs.declared.Interval.{Interval}
@@ -18,13 +19,12 @@ use Rattle.interval.proofs.Laws.{intervals-numbered, triples-numbered, triples-
 use Rattle.grammar.specs.Trees.{Link, and, or, chop, Tree, constant, letter, negation, pair, duration, throughout, Letters}
 use Rattle.grammar.specs.declared.Sort.{Sort}
 use Rattle.grammar.specs.declared.Sort.the-variants.{State, Formula}
-use Rattle.grammar.proofs.Bytes.{cond-elim}
-use Rattle.formula.specs.Nodes.{nodesOf}
-use Rattle.formula.proofs.Lists.{all-append}
+use Rattle.lists.proofs.Tests.{cond-elim}
+use Rattle.grammar.specs.Nodes.{nodesOf}
+use Rattle.lists.proofs.Lists.{all-append, all-rows, all-mapped}
 use Rattle.circuit.specs.Gates.{inputsOf}
 use Rattle.circuit.specs.Circuit.{Definition, define, pointsOf, shorter, levelOf, widthOf, blocksOf, truthOf, throughoutGate, levelGate, tripleGate, chopGate, ownBy, ownOf}
 use Rattle.circuit.specs.declared.Gate.{Gate}
-use Rattle.circuit.proofs.Lists.{all-rows, all-mapped}
 use Rattle.circuit.proofs.Blocks.{From, partsOf, blocks-append, truth-lt}
 
 -- no entry occurs twice
@@ -51,7 +51,7 @@ distinct-tab w (suc n) = distinct-snoc (tab n (λ e. w + e)) (w + n) (distinct-t
 
 -- place p of row c is among the places of n rows
 pub row-lt : (w n c p : ℕ) → c < n → p < w → c * w + p < n * w
-row-lt w n c p h g = omega (arith, suc-mul c w, mul-le-mul-right {m = suc c} w h)
+row-lt w n c p h g = digits-lt h g
 
 -- when a variable of a node's own block has its turn, the block ending at e: those of a chop go backwards, as its triples come first
 abbrev pub turnOf : {s : Sort} → Tree s → ℕ → ℕ → ℕ

@@ -1,47 +1,28 @@
 -- Circuit induction, and what the definitions mention: the blocks of a node's parts are among those that follow its own, so whatever is to
 -- be shown goes node by node, from the last one, and within a node by turns.
-use mathlib.Core.Path.{_≡_, ap, subst}
+use mathlib.Core.Path.{ap, subst}
 use mathlib.Core.Logic.{_≢_, by-cases}
-use mathlib.Core.List.{List, [], _∷_, _++_, append-assoc, append-nil}
+use mathlib.Core.List.{List, [], _∷_}
 use Prim.Native.Nat.{ℕ, zero, suc, _+_, _*_, _≤_, _<_}
 use native.Mathlib.Decide.{decLt}
 use native.Mathlib.Omega.{arith}
-use lib.ListN.{length}
-use Rattle.grammar.specs.Trees.{Tree, constant, letter, negation, pair, duration, throughout, Letters, textOf}
+use Rattle.grammar.specs.Trees.{Tree, Letters}
 use Rattle.grammar.specs.declared.Sort.{Sort}
 use Rattle.grammar.specs.declared.Sort.the-variants.{Formula}
-use Rattle.formula.specs.Nodes.{Node, node, nodesOf}
-use Rattle.interval.specs.Listing.{All}
-use Rattle.formula.proofs.Lists.{all-append, all-map}
+use Rattle.grammar.specs.Nodes.{Node, nodesOf}
+use Rattle.lists.specs.Listing.{All}
+use Rattle.lists.proofs.Lists.{all-append, all-map, all-split}
+use Rattle.grammar.proofs.EachNode.{Begins, Each, each-node, LettersNode, letters-pass}
 use Rattle.circuit.specs.Gates.{inputsOf}
 use Rattle.circuit.specs.Circuit.{Definition, widthOf, blocksOf, variablesOf, ownOf, definedFrom, definitionsOf}
-use Rattle.circuit.proofs.Lists.{all-split}
 use Rattle.circuit.proofs.Blocks.{From, partsOf, blocks-append, blocks-parts}
 use Rattle.circuit.proofs.Once.{own-once, definition-of}
 use Rattle.circuit.proofs.Inputs.{Distinct, turnOf, Input, channel, part, own, Stands, own-stands}
 
--- each node's letters are channels, and its parts' blocks are among those that follow its own
-abbrev Closed : ℕ → ℕ → List Node → Type 0
-Closed C k [] = Unit
-Closed C k (w ∷ l) = Letters C (w .part) × (blocksOf k (partsOf (w .part)) ≤ blocksOf k l) × Closed C k l
-
-module _ (C k : ℕ) where
-  closed-node : {s : Sort} (x : Tree s) (at : ℕ) (r l : List Node) → blocksOf k (node x at ∷ r) ≡ widthOf k x + blocksOf k (partsOf x) → Letters C x
-      → Closed C k (r ++ l) → Closed C k (node x at ∷ r ++ l)
-  unfolding blocksOf
-  closed-node x at r l e L c = (L, omega (arith, blocks-append k r l), c)
-
-  closed : {s : Sort} (x : Tree s) (at : ℕ) (l : List Node) → Letters C x → Closed C k l → Closed C k (nodesOf x at ++ l)
-  unfolding nodesOf
-  closed {s} (constant v) at l L c = closed-node {s = s} (constant v) at [] l (blocks-parts k {s = s} (constant v) at) L c
-  closed (letter a) at l L c = closed-node (letter a) at [] l (blocks-parts k (letter a) at) L c
-  closed (negation x) at l L c = closed-node (negation x) at (nodesOf x (suc at)) l (blocks-parts k (negation x) at) L (closed x (suc at) l L c)
-  closed (pair o x y) at l L c =
-      let q = suc (suc at + length (textOf x)) in
-      let d : Closed C k ((nodesOf x (suc at) ++ nodesOf y q) ++ l) = rw append-assoc (closed x (suc at) (nodesOf y q ++ l) (L .0) (closed y q l (L .1) c)) in
-      closed-node (pair o x y) at (nodesOf x (suc at) ++ nodesOf y q) l (blocks-parts k (pair o x y) at) L d
-  closed (duration x n) at l L c = closed-node (duration x n) at (nodesOf x (suc at)) l (blocks-parts k (duration x n) at) L (closed x (suc at) l L c)
-  closed (throughout x) at l L c = closed-node (throughout x) at (nodesOf x (suc at)) l (blocks-parts k (throughout x) at) L (closed x (suc at) l L c)
+-- the blocks of a node's parts are among those that follow its own
+parts-within : (k : ℕ) (w : Node) (l : List Node) → Begins (w ∷ l) w → blocksOf k (partsOf (w .part)) ≤ blocksOf k l
+unfolding blocksOf
+parts-within k w l b = omega (arith, ap (blocksOf k) (b .is), blocks-append k (nodesOf (w .part) (w .first)) (b .later), blocks-parts k (w .part) (w .first))
 
 -- the variable is one from 1 + k·C to V, the inputs are from 1 to V, and no two of them all are the same
 pub record Mentions (C k : ℕ) (l : List Node) (d : Definition) : Type 0 where
@@ -66,13 +47,13 @@ module _ (C k : ℕ) (m : List Node) where
           apart = (all-map _ _ (λ u p. i u p .1) (inputsOf (d .gate)) (o .inputs), o .apart);
         }
 
-  nodes-mention : (l : List Node) (b : ℕ) → Closed C k l → 1 + k * C ≤ b → b + blocksOf k l ≤ 1 + k * C + blocksOf k m → All (Mentions C k m) (definedFrom C k b l)
+  nodes-mention : (l : List Node) (b : ℕ) → Each (LettersNode C) l → 1 + k * C ≤ b → b + blocksOf k l ≤ 1 + k * C + blocksOf k m → All (Mentions C k m) (definedFrom C k b l)
   unfolding definedFrom blocksOf
   nodes-mention [] b c h g = tt
   nodes-mention (w ∷ l) b c h g =
       let p = b + widthOf k (w .part) in
       all-append (Mentions C k m) (ownOf C k b (w .part)) (definedFrom C k p l)
-      (all-map _ _ (own-mentions (w .part) b h (omega (arith, c .1))) (ownOf C k b (w .part)) (own-stands C k b (w .part) (c .0)))
+      (all-map _ _ (own-mentions (w .part) b h (omega (arith, parts-within k w l (c .1)))) (ownOf C k b (w .part)) (own-stands C k b (w .part) (c .0)))
       (nodes-mention l p (c .2) (omega arith) (omega arith))
 
 -- X passes from the inputs of a definition to its variable
@@ -93,7 +74,7 @@ module _ (C k : ℕ) (X : ℕ → Type 0) (channels : (v : ℕ) → From 1 (k * 
         elim i [ channel p ↦ channels u p | part p ↦ parts u p | own p ↦ own-passes n u (p .0) (omega (arith, ap turn e)) ] in
         subst X e (f (all-map _ _ go (inputsOf (d .gate)) (o .inputs)))
 
-  nodes-pass : (l : List Node) (b : ℕ) → Closed C k l → All (Passes X) (definedFrom C k b l) → (v : ℕ) → From b (blocksOf k l) v → X v
+  nodes-pass : (l : List Node) (b : ℕ) → Each (LettersNode C) l → All (Passes X) (definedFrom C k b l) → (v : ℕ) → From b (blocksOf k l) v → X v
   unfolding definedFrom blocksOf
   nodes-pass [] b c a v h = absurd (omega arith)
   nodes-pass (w ∷ l) b c a v h =
@@ -101,20 +82,20 @@ module _ (C k : ℕ) (X : ℕ → Type 0) (channels : (v : ℕ) → From 1 (k * 
       let s = all-split (Passes X) (ownOf C k b (w .part)) (definedFrom C k p l) a in
       let rest = nodes-pass l p (c .2) (s .1) in
       by-cases (decLt v p)
-      (λ q. own-passes (w .part) b (c .0) (s .0) (λ v i. rest v (omega (arith, c .1))) (suc (turnOf (w .part) p v)) v (omega arith) (omega arith))
+      (λ q. own-passes (w .part) b (c .0) (s .0) (λ v i. rest v (omega (arith, parts-within k w l (c .1)))) (suc (turnOf (w .part) p v)) v (omega arith) (omega arith))
       (λ q. rest v (omega arith))
 
 module _ (C k : ℕ) (f : Tree Formula) (L : Letters C f) where
-  all-closed : Closed C k (nodesOf f 0)
-  all-closed = rw append-nil at (closed C k f 0 [] L tt)
+  lettered : Each (LettersNode C) (nodesOf f 0)
+  lettered = each-node (LettersNode C) (letters-pass C) f 0 L
 
   pub definitions-mention : All (Mentions C k (nodesOf f 0)) (definitionsOf C k (nodesOf f 0))
   unfolding definitionsOf
-  definitions-mention = nodes-mention C k (nodesOf f 0) (nodesOf f 0) (1 + k * C) all-closed (omega arith) (omega arith)
+  definitions-mention = nodes-mention C k (nodesOf f 0) (nodesOf f 0) (1 + k * C) lettered (omega arith) (omega arith)
 
   -- what holds of the channels, and passes from the inputs of every definition to its variable, holds of every variable
   pub circuit-induction : (X : ℕ → Type 0) → ((v : ℕ) → From 1 (k * C) v → X v) → All (Passes X) (definitionsOf C k (nodesOf f 0))
       → (v : ℕ) → From 1 (variablesOf C k (nodesOf f 0)) v → X v
   unfolding definitionsOf variablesOf
   circuit-induction X channels a v h =
-      by-cases (decLt (k * C) v) (λ q. nodes-pass C k X channels (nodesOf f 0) (1 + k * C) all-closed a v (omega arith)) (λ q. channels v (omega arith))
+      by-cases (decLt (k * C) v) (λ q. nodes-pass C k X channels (nodesOf f 0) (1 + k * C) lettered a v (omega arith)) (λ q. channels v (omega arith))

@@ -8,15 +8,15 @@ use native.Mathlib.Nat.{add-assoc, suc-mul, zero-mul}
 use native.Mathlib.Omega.{arith}
 use lib.Dec.{eqb}
 use borrow.Author.Tests.{eqb-true, eqb-false}
-use Rattle.interval.specs.Listing.{rows, tab, All}
+use Rattle.lists.specs.Listing.{rows, tab, All}
 use Rattle.interval.specs.Places.{countOf, tripleCountOf}
-use Rattle.interval.proofs.Listing.{map-rows}
+use Rattle.lists.proofs.Listing.{map-rows}
 use Rattle.interval.proofs.Shape.{Numbered}
 use Rattle.interval.proofs.Laws.{intervals-numbered, triples-numbered}
 use Rattle.grammar.specs.Trees.{and, or, chop, Tree, constant, letter, negation, pair, duration, throughout}
 use Rattle.grammar.specs.declared.Sort.{Sort}
-use Rattle.grammar.proofs.Bytes.{cond-elim}
-use Rattle.formula.specs.Nodes.{Node}
+use Rattle.lists.proofs.Tests.{cond-elim}
+use Rattle.grammar.specs.Nodes.{Node}
 use Rattle.circuit.specs.Circuit.{Definition, define, alike, pointsOf, widthOf, blocksOf, variablesOf, levelGate, tripleGate, chopGate, throughoutGate, Seats, ownBy, ownOf, definedFrom, definitionsOf}
 use Rattle.circuit.specs.declared.Gate.{Gate}
 use Rattle.circuit.proofs.Blocks.{From}
@@ -88,7 +88,12 @@ module _ (v : ℕ) where
   own-fills C k b S (pair chop x y) =
       let w = b + countOf k in
       rw (map-append, occurs-append)
-      (omega (arith, fills-numbered (intervals-numbered k) b (chopGate k w), fills-numbered (triples-numbered k) w (tripleGate k (S .left) (S .right)), ap (below v) (add-assoc b (countOf k) (tripleCountOf k))))
+      (omega (
+        arith,
+        fills-numbered (intervals-numbered k) b (chopGate k w),
+        fills-numbered (triples-numbered k) w (tripleGate k (S .left) (S .right)),
+        ap (below v) (add-assoc b (countOf k) (tripleCountOf k)),
+      ))
   own-fills C k b S (duration x n) =
       simp map-rows (fills-rows b (countOf k) (suc n) _ (λ c. fills-numbered (intervals-numbered k) (b + c * countOf k) (levelGate k b (S .left) c)))
   own-fills C k b S (throughout x) = fills-numbered (intervals-numbered k) b (throughoutGate k b (S .left))

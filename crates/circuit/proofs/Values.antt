@@ -4,12 +4,12 @@ use mathlib.Core.Path.{_≡_, refl, ap, ap₂}
 use mathlib.Core.Bool.{not, _&&_, _||_}
 use mathlib.Core.List.{[], _∷_}
 use Prim.Native.Nat.{ℕ, zero, suc, _+_}
-use Rattle.interval.specs.Listing.{rows, tab, All}
+use Rattle.lists.specs.Listing.{rows, tab, All}
 use Rattle.meaning.specs.Meaning.{any}
 use Rattle.circuit.specs.Gates.{Assignment, valueOf, inputsOf}
 use Rattle.circuit.specs.declared.Gate.{Gate}
 use Rattle.circuit.specs.declared.Gate.the-variants.{Constant, Copy, Inverse, Both, Either, AnyOf, Step}
-use Rattle.circuit.proofs.Lists.{all-split}
+use Rattle.lists.proofs.Lists.{all-split}
 
 module _ (a b : Assignment) where
   abbrev pub Same : ℕ → Type 0

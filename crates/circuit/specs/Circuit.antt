@@ -4,14 +4,14 @@ use mathlib.Core.Bool.{true, false, cond}
 use mathlib.Core.List.{List, [], _∷_, _++_, map}
 use Prim.Native.Nat.{ℕ, zero, suc, _+_, _-_, _*_}
 use lib.Dec.{eqb}
-use Rattle.interval.specs.Listing.{rows, tab}
+use Rattle.lists.specs.Listing.{rows, tab}
 use Rattle.interval.specs.Places.{countOf, tripleCountOf, placeOf, triplePlaceOf, intervalsOf, triplesOf}
 use Rattle.interval.specs.declared.Interval.{Interval}
 use Rattle.interval.specs.declared.Triple.{Triple}
 use Rattle.grammar.specs.Trees.{and, or, chop, Tree, constant, letter, negation, pair, duration, throughout}
 use Rattle.grammar.specs.declared.Sort.{Sort}
 use Rattle.grammar.specs.declared.Sort.the-variants.{State, Formula}
-use Rattle.formula.specs.Nodes.{Node, aLetter, aDuration, aChop, another, viewOf, nodesOf}
+use Rattle.grammar.specs.Nodes.{Node, aLetter, aDuration, aChop, another, viewOf, nodesOf}
 use Rattle.circuit.specs.declared.Gate.{Gate}
 use Rattle.circuit.specs.declared.Gate.the-variants.{Constant, Copy, Inverse, Both, Either, AnyOf, Step}
 

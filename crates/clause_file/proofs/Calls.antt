@@ -11,16 +11,17 @@ use Rattle.refusal.specs.declared.Refusal.{Refusal}
 use Rattle.refusal.specs.declared.Reply.{Reply}
 use Rattle.refusal.specs.declared.Reply.the-variants.{Yes, No}
 use Rattle.refusal.proofs.Laws.{earlier-no, last-no, last-yes}
-use Rattle.clause_table.specs.Table.{After, fiveOf, over, askRoom, refused, written}
-use Rattle.clause_table.specs.declared.Sizes.{Sizes}
-use Rattle.clause_table.specs.declared.Written.the-variants.{Done}
+use Rattle.clause_table.specs.Table.{After, fiveOf, askRoom, refused, written}
+use Rattle.moments.specs.Moments.{over}
+use Rattle.table_layout.specs.declared.Sizes.{Sizes}
+use Rattle.refusal.specs.declared.Written.the-variants.{Done}
 use Rattle.clause_table.proofs.Call.{room-enough}
-use Rattle.clause_table.proofs.Measure.{stored-over}
+use Rattle.clause_table.proofs.Stored.{stored-over}
 use Rattle.file_numbers.specs.File.{fileOf, sizesAt, variablesAt, marksAt}
-use Rattle.clause_file.specs.Questions.{askFileRoom}
-use Rattle.clause_file.specs.Calls.{FileAfter, fileRefused, arrayQuestions, fileWritten, fileQuestions, fileRead}
+use Rattle.file_questions.specs.Questions.{askFileRoom, arrayQuestions, fileQuestions}
+use Rattle.clause_file.specs.Calls.{FileAfter, fileRefused, fileWritten, fileRead}
 use Rattle.file_numbers.proofs.Stored.{variables-count, marks-count}
-use Rattle.clause_file.proofs.Asking.{file-held, asked-file, room-written}
+use Rattle.file_questions.proofs.Asking.{file-held, asked-file, room-written}
 
 -- ---- the writer
 

@@ -11,16 +11,17 @@ use Rattle.refusal.specs.Asked.{asked}
 use Rattle.refusal.specs.declared.Reply.{Reply}
 use Rattle.refusal.specs.declared.Reply.the-variants.{Yes, No}
 use Rattle.refusal.proofs.Laws.{asked-append, replied-yes}
-use Rattle.interval.specs.Listing.{rows}
-use Rattle.clause_table.specs.Table.{fiveOf, over, askRoom, refused, written}
-use Rattle.clause_table.specs.declared.Sizes.{Sizes}
-use Rattle.clause_table.specs.declared.Written.the-variants.{Done}
+use Rattle.lists.specs.Listing.{rows}
+use Rattle.clause_table.specs.Table.{fiveOf, askRoom, refused, written}
+use Rattle.moments.specs.Moments.{over}
+use Rattle.table_layout.specs.declared.Sizes.{Sizes}
+use Rattle.refusal.specs.declared.Written.the-variants.{Done}
 use Rattle.file_numbers.specs.File.{bytesOf, fileOf, fileLength, numberAt, sizesAt, variablesAt, marksAt, Words, Octets}
 use Rattle.file_numbers.specs.Held.{Held}
-use Rattle.clause_file.specs.Questions.{askFile, askArrays, askFileRoom, entryQuestions}
-use Rattle.clause_file.specs.Calls.{fileRefused, arrayQuestions, fileWritten, fileQuestions, fileRead}
+use Rattle.file_questions.specs.Questions.{askFile, askArrays, askFileRoom, entryQuestions, arrayQuestions, fileQuestions}
+use Rattle.clause_file.specs.Calls.{fileRefused, fileWritten, fileRead}
 use Rattle.file_numbers.proofs.Stored.{length-bytes, variables-count, marks-count, variable-at}
-use Rattle.clause_file.proofs.Asking.{rest-yes, file-held, asked-file, length-written, arrays-long}
+use Rattle.file_questions.proofs.Asking.{rest-yes, file-held, asked-file, length-written, arrays-long}
 use Rattle.file_numbers.proofs.Bytes.{number-after, numbers-back, all-bytes-back}
 
 -- ---- what was written is read
@@ -59,7 +60,8 @@ module _ (s : Sizes) (variables marks : List ℕ) (w : Words (fiveOf s)) (v : Wo
   variables-back : variablesAt written-file ≡ variables
   variables-back =
       let n = arrays-long s variables marks e .0 in
-      ext-getD 0 (variablesAt written-file) variables (sym (variables-count held) ∙ sym n) (λ i h. let l : i < s .literals = omega (arith, variables-count held) in sym (variable-at held i l (sym (variable-back i (omega (arith, n))))))
+      ext-getD 0 (variablesAt written-file) variables (sym (variables-count held) ∙ sym n)
+      (λ i h. let l : i < s .literals = omega (arith, variables-count held) in sym (variable-at held i l (sym (variable-back i (omega (arith, n))))))
     where
       variable-back : (i : ℕ) → i < length variables → numberAt written-file (20 + 4 * i) ≡ getD variables i 0
       variable-back i h =
@@ -75,12 +77,16 @@ module _ (s : Sizes) (variables marks : List ℕ) (w : Words (fiveOf s)) (v : Wo
   unfolding askFile
   file-yes =
       let n = length-written s variables marks e in
-      rw (le-leb 20 (length written-file) (omega (arith, n)), eq-eqb (length written-file) (fileLength (sizesAt written-file .literals)) (n ∙ ap (λ (t : Sizes). fileLength (t .literals)) (sym sizes-back)))
+      rw (
+        le-leb 20 (length written-file) (omega (arith, n)),
+        eq-eqb (length written-file) (fileLength (sizesAt written-file .literals)) (n ∙ ap (λ (t : Sizes). fileLength (t .literals)) (sym sizes-back)),
+      )
 
   questions-back : asked (fileQuestions written-file) No Yes ≡ Yes
   questions-back =
       ap (λ (q : Reply). asked (q ∷ entryQuestions (sizesAt written-file) (variablesAt written-file) (marksAt written-file)) No Yes) file-yes
-      ∙ (λ i. asked (entryQuestions (sizes-back i) (variables-back i) (marks-back i)) No Yes) ∙ rest-yes (askArrays (s .literals) (length variables) (length marks)) (entryQuestions s variables marks) e
+      ∙ (λ i. asked (entryQuestions (sizes-back i) (variables-back i) (marks-back i)) No Yes) ∙
+      rest-yes (askArrays (s .literals) (length variables) (length marks)) (entryQuestions s variables marks) e
 
   -- reading what was written gives back the sizes and the arrays
   pub read-written : (sizes′ variables′ marks′ : List ℕ)
@@ -92,7 +98,8 @@ module _ (s : Sizes) (variables marks : List ℕ) (w : Words (fiveOf s)) (v : Wo
       let no = refused sizes′ variables′ marks′ in
       asked-append no _ (fileQuestions written-file) (askRoom (sizesAt written-file .literals) (length sizes′) (length variables′) (length marks′) ∷ [])
       ∙ replied-yes no _ (fileQuestions written-file) questions-back
-      ∙ (λ i. asked (askRoom (sizes-back i .literals) (length sizes′) (length variables′) (length marks′) ∷ []) no (written (fiveOf (sizes-back i)) (variables-back i) (marks-back i) sizes′ variables′ marks′))
+      ∙ (λ i. asked (askRoom (sizes-back i .literals) (length sizes′) (length variables′) (length marks′) ∷ []) no
+      (written (fiveOf (sizes-back i)) (variables-back i) (marks-back i) sizes′ variables′ marks′))
 
 -- ---- what was read is written
 

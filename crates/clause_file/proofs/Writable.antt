@@ -2,7 +2,7 @@
 -- and the root's place closes the table. Hence the file's writer takes every table of an accepted text.
 use mathlib.Core.Path.{_≡_, refl, sym, ap, _∙_, subst}
 use mathlib.Core.Bool.{Bool, true, false, _||_}
-use mathlib.Core.List.{List, [], _∷_, _++_, map, flatMap}
+use mathlib.Core.List.{List, [], _∷_, _++_, flatMap}
 use Prim.Native.Nat.{ℕ, zero, suc, _+_, _-_, _≤_, _<_}
 use native.Mathlib.Nat.{zero-add}
 use native.Mathlib.Omega.{arith}
@@ -15,27 +15,28 @@ use Rattle.refusal.specs.declared.Reply.the-variants.{Yes, No}
 use Rattle.refusal.proofs.Laws.{last-yes}
 use Rattle.interval.specs.Limits.{askSteps}
 use Rattle.grammar.specs.Trees.{Tree, Letters}
-use Rattle.grammar.specs.Reader.{Read}
+use Rattle.grammar.specs.Reader.{Read, onTree}
 use Rattle.grammar.specs.declared.Sort.the-variants.{Formula}
-use Rattle.formula.specs.Nodes.{nodesOf}
-use Rattle.formula.specs.Questions.{askChannels, formulaQuestions, acceptOf}
-use Rattle.interval.specs.Listing.{All}
-use Rattle.formula.proofs.Lists.{all-map}
+use Rattle.grammar.specs.Nodes.{nodesOf}
+use Rattle.grammar.specs.Questions.{askChannels, formulaQuestions, acceptOf}
+use Rattle.lists.specs.Listing.{All}
+use Rattle.lists.proofs.Lists.{all-map, all-at, all-mapped}
 use Rattle.formula.proofs.Laws.{all-yes, accepted}
 use Rattle.meaning.specs.Meaning.{bit, every, highs}
+use Rattle.meaning.proofs.Laws.{bit-le}
 use Rattle.circuit.specs.Circuit.{variablesOf}
-use Rattle.circuit.proofs.Lists.{all-at}
 use Rattle.circuit.proofs.Blocks.{From}
 use Rattle.clauses.specs.Clauses.{Literal, Clause, clauseTable}
-use Rattle.clauses.specs.Entries.{Entry, entriesOf, flat, variablesIn, marksIn}
+use Rattle.clauses.specs.Entries.{Entry, entriesOf, flat, variablesIn, marksIn, placesIn}
 use Rattle.clauses.proofs.Good.{Full, full-table}
-use Rattle.clause_table.specs.Table.{fiveOf, sizesOf, onTree, sizesIn, placesIn, over}
-use Rattle.clause_table.specs.declared.Sizes.{Sizes}
-use Rattle.clause_table.specs.declared.Written.the-variants.{Done}
-use Rattle.clause_table.proofs.Laws.{table-all, places-named, last-mark}
-use Rattle.clause_file.specs.Questions.{allPass, howMany, askArrays, inLimits, isVariable, isMark, askEntries, closes, endsClosed, askClosed, askFileRoom}
+use Rattle.clause_table.specs.Table.{fiveOf, sizesOf, sizesIn}
+use Rattle.moments.specs.Moments.{over}
+use Rattle.table_layout.specs.declared.Sizes.{Sizes}
+use Rattle.refusal.specs.declared.Written.the-variants.{Done}
+use Rattle.clauses.proofs.Named.{table-all, places-named, last-mark}
+use Rattle.file_questions.specs.Questions.{allPass, howMany, askArrays, inLimits, isVariable, isMark, askEntries, closes, endsClosed, askClosed, askFileRoom, arrayQuestions}
 use Rattle.file_numbers.specs.File.{fileOf, sizesBy, fileLength}
-use Rattle.clause_file.specs.Calls.{FileAfter, fileRefused, arrayQuestions, fileWritten}
+use Rattle.clause_file.specs.Calls.{FileAfter, fileRefused, fileWritten}
 
 -- ---- lists that are tested
 
@@ -57,19 +58,11 @@ count-first test v l = highs-first (λ e. test (getD (v ∷ l) e 0)) (length l)
 
 -- ---- the places of clauses
 
-mapped : (P : ℕ → Type 0) (g : Entry → ℕ) (F : List Entry) → All (λ e. P (g e)) F → All P (map g F)
-mapped P g [] a = tt
-mapped P g (e ∷ F) a = (a .0, mapped P g F (a .1))
-
-low : (b : Bool) → bit b ≤ 1
-low true = omega arith
-low false = omega arith
-
 clause-marks : (c : Clause) → All (λ (e : Entry). e .mark ≤ 3) (entriesOf c)
 unfolding entriesOf
 clause-marks [] = tt
-clause-marks (l ∷ []) = (omega (arith, low (l .sign)), tt)
-clause-marks (l ∷ m ∷ c) = (omega (arith, low (l .sign)), clause-marks (m ∷ c))
+clause-marks (l ∷ []) = (omega (arith, bit-le (l .sign)), tt)
+clause-marks (l ∷ m ∷ c) = (omega (arith, bit-le (l .sign)), clause-marks (m ∷ c))
 
 closed-last : (b : Bool) → bit (closes (bit b + 2)) ≡ 1
 closed-last true = refl
@@ -113,14 +106,17 @@ module _ (C k : ℕ) (f : Tree Formula) where
 
   variables-pass : Letters C f → allPass (isVariable most) (variablesIn F) ≡ true
   variables-pass L =
-      all-pass (isVariable most) (variablesIn F) (mapped InRange (λ (e : Entry). e .variable) F (all-map _ _ (λ (e : Entry) w. within (e .variable) w) F (places-named C k f L)))
+      all-pass (isVariable most) (variablesIn F) (all-mapped InRange (λ (e : Entry). InRange (e .variable)) (λ (e : Entry). e .variable) F (λ e w. w)
+      (all-map _ _ (λ (e : Entry) w. within (e .variable) w) F (places-named C k f L)))
     where
       within : (v : ℕ) → From 1 most v → InRange v
       within v w = rw (le-leb 1 v (w .0), le-leb v most (omega (arith, w .1)))
 
   marks-pass : allPass isMark (marksIn F) ≡ true
   marks-pass =
-      all-pass isMark (marksIn F) (mapped (λ m. isMark m ≡ true) (λ (e : Entry). e .mark) F (table-all _ (clauseTable C k f) (all-map Full _ (λ c w. all-map _ _ (λ (e : Entry) h. le-leb (e .mark) 3 h) (entriesOf c) (clause-marks c)) (clauseTable C k f) (full-table C k f))))
+      all-pass isMark (marksIn F) (all-mapped (λ m. isMark m ≡ true) (λ (e : Entry). isMark (e .mark) ≡ true) (λ (e : Entry). e .mark) F (λ e w. w)
+      (table-all _ (clauseTable C k f) (all-map Full _ (λ c w. all-map _ _ (λ (e : Entry) h. le-leb (e .mark) 3 h) (entriesOf c) (clause-marks c))
+      (clauseTable C k f) (full-table C k f))))
 
   ends : endsClosed (marksIn F) ≡ true
   ends = let w = last-mark C k f in ends-closed (marksIn F) (w .0) (w .1)
@@ -153,7 +149,8 @@ module _ (C k : ℕ) (f : Tree Formula) where
     tree-writable = rw (arrays-yes, entries-yes, closed-yes)
 
 -- the writer answers its 15, 16 and 17 with yes
-writable : (C k : ℕ) (t : List ℕ) (s : Sizes) → acceptOf C k t ≡ Yes → fiveOf s ≡ sizesIn C k t → asked (arrayQuestions s (variablesIn (placesIn C k t)) (marksIn (placesIn C k t))) No Yes ≡ Yes
+writable : (C k : ℕ) (t : List ℕ) (s : Sizes) → acceptOf C k t ≡ Yes → fiveOf s ≡ sizesIn C k t →
+    asked (arrayQuestions s (variablesIn (placesIn C k t)) (marksIn (placesIn C k t))) No Yes ≡ Yes
 unfolding sizesIn placesIn acceptOf
 writable C k t s y e =
     let a = accepted C k t y in
@@ -181,5 +178,6 @@ module _ (C k : ℕ) (t : List ℕ) (y : acceptOf C k t ≡ Yes) where
   table-written file h =
       let s = sizesBy (sizesIn C k t) in
       let done : List ℕ → FileAfter = λ (five : List ℕ). record { answer = Done; file = over (fileOf five (variablesIn places) (marksIn places)) file } in
-      sym (last-yes (fileRefused file) (done (fiveOf s)) (arrayQuestions s (variablesIn places) (marksIn places)) (askFileRoom (s .literals) (length file)) (writable C k t s y (five-sizes .1)) (rw (le-leb (fileLength (s .literals)) (length file) (omega (arith, five-sizes .2)))))
+      sym (last-yes (fileRefused file) (done (fiveOf s)) (arrayQuestions s (variablesIn places) (marksIn places)) (askFileRoom (s .literals) (length file))
+      (writable C k t s y (five-sizes .1)) (rw (le-leb (fileLength (s .literals)) (length file) (omega (arith, five-sizes .2)))))
       ∙ ap done (five-sizes .1)

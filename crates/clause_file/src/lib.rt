@@ -1,9 +1,7 @@
 // The clause file: a table in memory to bytes, and bytes to a table in memory.
-mod questions;
-
-use clause_table::Sizes;
-use clause_table::Written;
 use refusal::Reply;
+use refusal::Written;
+use table_layout::Sizes;
 ghost use mathlib.Core.Path.{_≡_};
 ghost use Prim.Native.Nat.{_≤_};
 ghost use lib.ListN.{length};
@@ -29,10 +27,10 @@ fn put_file(file: &mut [u8], s: Sizes, variables: &[u32], marks: &[u8])
 pub fn write(s: Sizes, variables: &[u32], marks: &[u8], file: &mut [u8]) -> Written
     ensures { λ r. ⌜ record { answer = r; file = new file } ≡ fileWritten s (old variables) (old marks) (old file) ⌝ }
 {
-    if let Reply::No(r) = questions::ask_arrays(s, variables, marks) {
+    if let Reply::No(r) = file_questions::ask_arrays(s, variables, marks) {
         return Written::Refused(r);
     }
-    if let Reply::No(r) = questions::ask_bytes(s.literals, file.len()) {
+    if let Reply::No(r) = file_questions::ask_bytes(s.literals, file.len()) {
         return Written::Refused(r);
     }
     put_file(file, s, variables, marks);
@@ -43,7 +41,7 @@ pub fn write(s: Sizes, variables: &[u32], marks: &[u8], file: &mut [u8]) -> Writ
 pub fn read(file: &[u8], sizes: &mut [u32], variables: &mut [u32], marks: &mut [u8]) -> Written
     ensures { λ r. ⌜ left r sizes variables marks ≡ fileRead (old file) (old sizes) (old variables) (old marks) ⌝ }
 {
-    if let Reply::No(r) = questions::ask_file(file) {
+    if let Reply::No(r) = file_questions::ask_file(file) {
         return Written::Refused(r);
     }
     let s = file_numbers::sizes_at(file);

@@ -1,8 +1,8 @@
--- A clause names a definition's variable and inputs, which are from 1 to V and no two the same, or the root alone, which lies in its block.
--- No node's definitions weigh more than 2^24, in variables, clauses or literals, so those of 64 nodes come to 2^30 at the most.
-use mathlib.Core.Path.{_≡_, refl, sym, ap, _∙_, subst}
-use mathlib.Core.List.{List, [], _∷_, _++_, map-append, flatMap}
-use Prim.Native.Nat.{ℕ, suc, _+_, _*_, _^_, _≤_, _<_}
+-- No node's definitions weigh more than 2^24, in variables, clauses or literals, so those of 64 nodes come to 2^30 at the most:
+-- the sizes are numbers of 32 bits.
+use mathlib.Core.Path.{_≡_, refl, sym, subst}
+use mathlib.Core.List.{List, [], _∷_}
+use Prim.Native.Nat.{ℕ, _+_, _*_, _^_, _≤_, _<_}
 use native.Mathlib.Omega.{arith}
 use lib.Dec.{ltb}
 use lib.ListN.{length}
@@ -10,104 +10,48 @@ use Rattle.refusal.specs.declared.Reply.the-variants.{Yes}
 use Rattle.interval.specs.Places.{countOf}
 use Rattle.interval.specs.Limits.{maxSteps, maxCount}
 use Rattle.interval.proofs.Counts.{count-le}
-use Rattle.interval.proofs.Laws.{intervals-numbered}
 use Rattle.grammar.specs.Limits.{maxNumber, maxChannels}
-use Rattle.grammar.specs.Trees.{Tree, constant, letter, negation, pair, duration, throughout, Letters, Numbers, textOf}
-use Rattle.grammar.specs.Reader.{Read}
+use Rattle.grammar.specs.Trees.{Tree, constant, letter, negation, pair, duration, throughout, Letters, Numbers}
+use Rattle.grammar.specs.Reader.{Read, onTree}
 use Rattle.grammar.specs.declared.Sort.{Sort}
 use Rattle.grammar.specs.declared.Sort.the-variants.{Formula}
-use Rattle.grammar.proofs.Bytes.{cond-elim}
-use Rattle.formula.specs.Nodes.{Node, nodesOf}
-use Rattle.formula.specs.Questions.{acceptOf}
-use Rattle.interval.specs.Listing.{All}
-use Rattle.formula.proofs.Lists.{all-append, all-map}
+use Rattle.lists.proofs.Tests.{cond-elim}
+use Rattle.grammar.specs.Nodes.{Node, nodesOf}
+use Rattle.grammar.specs.Questions.{acceptOf}
+use Rattle.lists.specs.Listing.{All}
+use Rattle.grammar.proofs.EachNode.{each-node, each-all, both-pass, LettersNode, letters-pass, NumbersNode, numbers-pass}
 use Rattle.formula.proofs.Laws.{accepted}
 use Rattle.rows.specs.Table.{headOf}
-use Rattle.rows.proofs.Found.{state-numbers}
-use Rattle.circuit.specs.Gates.{inputsOf}
-use Rattle.circuit.specs.Circuit.{Definition, widthOf, variablesOf, seatsOf, ownOf, definedFrom, definitionsOf, rootOf}
-use Rattle.circuit.proofs.Blocks.{From, truth-lt}
-use Rattle.circuit.proofs.Laws.{Mentions, definitions-mention}
+use Rattle.circuit.specs.Circuit.{widthOf, seatsOf, ownOf, definedFrom}
 use Rattle.blocks.specs.Blocks.{ruleBy, isChop}
 use Rattle.blocks.specs.declared.Rule.the-variants.{Cut}
 use Rattle.weights.specs.Weights.{weightAll, variableWeight, clauseWeight, literalWeight, maxWeight, Light, Small, pointsBy, rowWeight}
 use Rattle.weights.specs.declared.Weight.{Weight}
 use Rattle.weights.proofs.Weights.{weight-append, weighed}
 use Rattle.weights.proofs.Rows.{weightBefore, row-weight, all-weight, row-light}
-use Rattle.clauses.specs.Clauses.{Clause, plain, clausesBy, clauseTable}
-use Rattle.clauses.specs.Entries.{Entry, entriesOf, flat, marksIn, readBack}
-use Rattle.clauses.proofs.Good.{namesOf, Sound, Fit, full-table, sound-table}
-use Rattle.clauses.proofs.Sizes.{flat-join}
-use Rattle.clauses.proofs.ReadBack.{reads-back}
-use Rattle.clause_table.specs.Table.{sizesOf, onTree, sizesIn}
-use Rattle.clause_table.proofs.Measure.{channels-few}
-use Rattle.clause_table.proofs.Call.{literals-are, clauses-are, variables-are}
-
--- ---- the places of clauses
-
-clause-names : (X : ℕ → Type 0) (c : Clause) → All X (namesOf c) → All (λ (e : Entry). X (e .variable)) (entriesOf c)
-unfolding entriesOf
-clause-names X [] a = tt
-clause-names X (l ∷ []) a = (a .0, tt)
-clause-names X (l ∷ m ∷ c) a = (a .0, clause-names X (m ∷ c) (a .1))
-
-pub table-all : (P : Entry → Type 0) (T : List Clause) → All (λ c. All P (entriesOf c)) T → All P (flat T)
-unfolding flat flatMap
-table-all P [] a = tt
-table-all P (c ∷ T) a = all-append P (entriesOf c) (flat T) (a .0) (table-all P T (a .1))
-
--- ---- what the clauses name
-
-module _ (C k : ℕ) (f : Tree Formula) where
-  abbrev inRange : ℕ → Type 0
-  inRange = From 1 (variablesOf C k (nodesOf f 0))
-
-  mentioned-fit : (d : Definition) → Mentions C k (nodesOf f 0) d → Fit inRange (d .variable ∷ inputsOf (d .gate))
-  unfolding variablesOf
-  mentioned-fit d m = ((omega (arith, m .defines), m .inputs), m .apart)
-
-  pub root-in-range : From 1 (variablesOf C k (nodesOf f 0)) (rootOf C k f)
-  unfolding rootOf variablesOf
-  root-in-range = omega (arith, truth-lt k f _ (intervals-numbered k .below (record { i = 0; j = k }) (omega arith)))
-
-  -- no clause is empty, none names a variable twice, and every variable is from 1 to V
-  pub table-sound : Letters C f → All (Sound (From 1 (variablesOf C k (nodesOf f 0)))) (clauseTable C k f)
-  table-sound L =
-      sound-table C k f inRange (all-map (Mentions C k (nodesOf f 0)) _ mentioned-fit (definitionsOf C k (nodesOf f 0)) (definitions-mention C k f L)) root-in-range
-
-  -- so is the variable of every place
-  pub places-named : Letters C f → All (λ (e : Entry). From 1 (variablesOf C k (nodesOf f 0)) (e .variable)) (flat (clauseTable C k f))
-  places-named L = table-all _ (clauseTable C k f) (all-map (Sound inRange) _ (λ c s. clause-names inRange c (s .named)) (clauseTable C k f) (table-sound L))
-
-  -- the root's place closes the table
-  pub last-mark : (m : List ℕ) × (marksIn (flat (clauseTable C k f)) ≡ m ++ 3 ∷ [])
-  unfolding clauseTable flat flatMap entriesOf
-  last-mark =
-      let S = clausesBy (definitionsOf C k (nodesOf f 0)) in
-      let root : List Clause = (plain (rootOf C k f) ∷ []) ∷ [] in
-      (marksIn (flat S), ap marksIn (flat-join S root) ∙ map-append (λ (e : Entry). e .mark) (flat S) (flat root))
-
-  -- the places of the table tell its clauses
-  pub table-reads-back : readBack (flat (clauseTable C k f)) ≡ clauseTable C k f
-  table-reads-back = reads-back (clauseTable C k f) (full-table C k f)
-
--- ---- the sizes
+use Rattle.clause_table.specs.Table.{sizesOf, sizesIn}
+use Rattle.table_layout.proofs.Measure.{channels-few}
+use Rattle.table_layout.proofs.Known.{literals-are, clauses-are, variables-are}
 
 -- a number in the node table is a byte
 abbrev LowNumber : Node → Type 0
 LowNumber w = headOf (w .part) .number ≤ 255
 
 module _ (C : ℕ) (h : C ≤ maxChannels) where
+  low-number : {s : Sort} (x : Tree s) → Letters C x → Numbers maxNumber x → headOf x .number ≤ 255
+  low-number (constant v) L N = omega arith
+  low-number (letter c) L N = omega arith
+  low-number (negation x) L N = omega arith
+  low-number (pair l x y) L N = omega arith
+  low-number (duration x n) L N = omega arith
+  low-number (throughout x) L N = omega arith
+
+  abbrev Limited : Node → Type 0
+  Limited w = LettersNode C w × NumbersNode maxNumber w
+
   low-numbers : {s : Sort} (x : Tree s) (at : ℕ) → Letters C x → Numbers maxNumber x → All LowNumber (nodesOf x at)
-  unfolding nodesOf
-  low-numbers (constant v) at L N = (omega arith, tt)
-  low-numbers (letter c) at L N = (omega arith, tt)
-  low-numbers (negation x) at L N = (omega arith, low-numbers x (suc at) L N)
-  low-numbers (pair l x y) at L N =
-      let q = suc (suc at + length (textOf x)) in
-      (omega arith, all-append LowNumber (nodesOf x (suc at)) (nodesOf y q) (low-numbers x (suc at) (L .0) (N .0)) (low-numbers y q (L .1) (N .1)))
-  low-numbers (duration x n) at L N = (omega arith, low-numbers x (suc at) L (state-numbers x))
-  low-numbers (throughout x) at L N = (omega arith, low-numbers x (suc at) L (state-numbers x))
+  low-numbers x at L N =
+      each-all Limited LowNumber (λ w p. low-number (w .part) (p .0) (p .1)) (nodesOf x at) (each-node Limited (both-pass (letters-pass C) (numbers-pass maxNumber)) x at (L, N))
 
 module _ (w : Weight) (k : ℕ) (h : Small w k) where
   few-points : (kind : ℕ) → pointsBy k kind ≤ maxCount

@@ -1,7 +1,6 @@
-pub mod Rows
-pub mod Measure
-pub mod Places
+-- The laws that others go by, with the file of each.
+-- sizes-fit (Laws): the five sizes of an accepted text are numbers of 32 bits.
+pub mod Stored
 pub mod Call
 pub mod Laws
-pub mod Mentioned
 pub mod Gives

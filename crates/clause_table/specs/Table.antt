@@ -3,21 +3,22 @@ use mathlib.Core.Bool.{_&&_}
 use mathlib.Core.List.{List, [], _∷_, _++_}
 use Prim.Native.Nat.{ℕ}
 use lib.Dec.{leb}
-use lib.ListN.{length, drop}
+use lib.ListN.{length}
+use Rattle.moments.specs.Moments.{over}
 use Rattle.refusal.specs.Asked.{question, asked}
 use Rattle.refusal.specs.declared.Refusal.{Refusal}
 use Rattle.refusal.specs.declared.Reply.{Reply}
 use Rattle.grammar.specs.Trees.{Tree}
-use Rattle.grammar.specs.Reader.{Read, parsed, stopped, read}
+use Rattle.grammar.specs.Reader.{read, onTree}
 use Rattle.grammar.specs.declared.Sort.the-variants.{Formula}
-use Rattle.formula.specs.Nodes.{nodesOf}
-use Rattle.formula.specs.Questions.{formulaQuestions}
+use Rattle.grammar.specs.Nodes.{nodesOf}
+use Rattle.grammar.specs.Questions.{formulaQuestions}
 use Rattle.circuit.specs.Circuit.{variablesOf}
 use Rattle.clauses.specs.Clauses.{clauseTable}
-use Rattle.clauses.specs.Entries.{Entry, flat, variablesIn, marksIn}
-use Rattle.clause_table.specs.declared.Sizes.{Sizes}
-use Rattle.clause_table.specs.declared.Written.{Written}
-use Rattle.clause_table.specs.declared.Written.the-variants.{Done, Refused}
+use Rattle.clauses.specs.Entries.{Entry, flat, placesIn, variablesIn, marksIn}
+use Rattle.table_layout.specs.declared.Sizes.{Sizes}
+use Rattle.refusal.specs.declared.Written.{Written}
+use Rattle.refusal.specs.declared.Written.the-variants.{Done, Refused}
 
 -- "five 32-bit unsigned numbers [..]: C, k, variables V, clauses M, literals L"
 unfoldable pub sizesOf : ℕ → ℕ → Tree Formula → List ℕ
@@ -27,17 +28,9 @@ sizesOf C k f = C ∷ k ∷ variablesOf C k (nodesOf f 0) ∷ length (clauseTabl
 abbrev pub fiveOf : Sizes → List ℕ
 fiveOf s = s .channels ∷ s .steps ∷ s .variables ∷ s .clauses ∷ s .literals ∷ []
 
--- of the tree that a text reads as; a text that does not read is refused before
-abbrev pub onTree : {A : Type 0} → (Tree Formula → List A) → Read Formula → List A
-onTree g (parsed f) = g f
-onTree g (stopped p) = []
-
--- the sizes and the places of a text's table
+-- the sizes of a text's table
 unfoldable pub sizesIn : ℕ → ℕ → List ℕ → List ℕ
 sizesIn C k t = onTree (sizesOf C k) (read t)
-
-unfoldable pub placesIn : ℕ → ℕ → List ℕ → List Entry
-placesIn C k t = onTree (λ f. flat (clauseTable C k f)) (read t)
 
 -- question 18: is every lent output array long enough? Five sizes, and L places of either array.
 unfoldable pub askRoom : ℕ → ℕ → ℕ → ℕ → Reply
@@ -46,10 +39,6 @@ askRoom L sizes variables marks = question 18 0 (leb 5 sizes && leb L variables 
 -- "the table [asks] 1 to 7 and 18"
 abbrev pub tableQuestions : ℕ → ℕ → List ℕ → List ℕ → List ℕ → List ℕ → List Reply
 tableQuestions C k t sizes variables marks = formulaQuestions C k t ++ askRoom (length (placesIn C k t)) (length sizes) (length variables) (length marks) ∷ []
-
--- "In every lent output, places beyond those written are untouched."
-abbrev pub over : List ℕ → List ℕ → List ℕ
-over new old = new ++ drop (length new) old
 
 -- the answer, and the arrays after it
 pub record After : Type 0 where

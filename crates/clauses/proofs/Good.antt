@@ -5,11 +5,11 @@ use mathlib.Core.Path.{_≡_, refl}
 use mathlib.Core.Bool.{Bool}
 use mathlib.Core.List.{List, [], _∷_, map, flatMap}
 use Prim.Native.Nat.{ℕ, _+_}
-use Rattle.interval.specs.Listing.{tab, All}
+use Rattle.lists.specs.Listing.{tab, All}
 use Rattle.grammar.specs.Trees.{Tree}
 use Rattle.grammar.specs.declared.Sort.the-variants.{Formula}
-use Rattle.formula.specs.Nodes.{nodesOf}
-use Rattle.formula.proofs.Lists.{all-append, all-map}
+use Rattle.grammar.specs.Nodes.{nodesOf}
+use Rattle.lists.proofs.Lists.{all-append, all-map}
 use Rattle.circuit.specs.Gates.{inputsOf}
 use Rattle.circuit.specs.Circuit.{Definition, definitionsOf, rootOf}
 use Rattle.circuit.specs.declared.Gate.{Gate}

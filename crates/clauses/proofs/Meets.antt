@@ -5,8 +5,8 @@ use mathlib.Core.Logic.{_↔_, Iff·trans, Iff·and}
 use mathlib.Core.Bool.{Bool, true, false, not, cond, _&&_, _||_, Bool·beq, false≢true, true≢false, and-eq-true-iff}
 use mathlib.Core.List.{List, [], _∷_, _++_, map, map-append, flatMap}
 use Prim.Native.Nat.{ℕ, zero, suc, _+_}
-use Rattle.interval.specs.Listing.{rows, tab, All}
-use Rattle.grammar.proofs.Bytes.{both}
+use Rattle.lists.specs.Listing.{rows, tab, All}
+use Rattle.lists.proofs.Tests.{both}
 use Rattle.meaning.specs.Meaning.{any}
 use Rattle.circuit.specs.Gates.{Assignment, valueOf}
 use Rattle.circuit.specs.Circuit.{Definition}

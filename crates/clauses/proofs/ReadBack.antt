@@ -4,7 +4,7 @@ use mathlib.Core.Path.{_≡_, refl, ap, _∙_}
 use mathlib.Core.Bool.{Bool, true, false}
 use mathlib.Core.List.{List, [], _∷_, _++_, append-assoc, append-nil, flatMap}
 use Prim.Native.Nat.{ℕ, _+_}
-use Rattle.interval.specs.Listing.{All}
+use Rattle.lists.specs.Listing.{All}
 use Rattle.meaning.specs.Meaning.{bit}
 use Rattle.clauses.specs.Clauses.{Literal, literal, Clause}
 use Rattle.clauses.specs.Entries.{Entry, entry, entriesOf, flat, closed, begun, readBack}

@@ -3,10 +3,10 @@
 use mathlib.Core.Bool.{Bool, true, false, not, cond, _&&_, _||_}
 use mathlib.Core.List.{List, [], _∷_, _++_, map, flatMap}
 use Prim.Native.Nat.{ℕ, _+_}
-use Rattle.interval.specs.Listing.{tab}
+use Rattle.lists.specs.Listing.{tab}
 use Rattle.grammar.specs.Trees.{Tree}
 use Rattle.grammar.specs.declared.Sort.the-variants.{Formula}
-use Rattle.formula.specs.Nodes.{nodesOf}
+use Rattle.grammar.specs.Nodes.{nodesOf}
 use Rattle.circuit.specs.Gates.{Assignment}
 use Rattle.circuit.specs.Circuit.{Definition, definitionsOf, rootOf}
 use Rattle.circuit.specs.declared.Gate.{Gate}

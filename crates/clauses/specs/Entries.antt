@@ -3,8 +3,9 @@ use mathlib.Core.Bool.{cond}
 use mathlib.Core.List.{List, [], _∷_, map, flatMap}
 use Prim.Native.Nat.{ℕ, _+_, _%_}
 use lib.Dec.{eqb, leb}
+use Rattle.grammar.specs.Reader.{read, onTree}
 use Rattle.meaning.specs.Meaning.{bit}
-use Rattle.clauses.specs.Clauses.{Literal, Clause, literal}
+use Rattle.clauses.specs.Clauses.{Literal, Clause, literal, clauseTable}
 
 -- a place of both arrays
 pub record Entry : Type 0 where
@@ -23,6 +24,10 @@ entriesOf (l ∷ m ∷ c) = entry (l .variable) (bit (l .sign)) ∷ entriesOf (m
 -- the table's places, clause after clause
 unfoldable pub flat : List Clause → List Entry
 flat T = flatMap entriesOf T
+
+-- those of a text's table
+unfoldable pub placesIn : ℕ → ℕ → List ℕ → List Entry
+placesIn C k t = onTree (λ f. flat (clauseTable C k f)) (read t)
 
 abbrev pub variablesIn : List Entry → List ℕ
 variablesIn F = map (λ (e : Entry). e .variable) F

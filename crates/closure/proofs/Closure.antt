@@ -8,15 +8,16 @@ use mathlib.Core.Option.{Option, none, some}
 use Prim.Native.Nat.{ℕ, zero, suc, _+_, _≤_, _<_}
 use native.Mathlib.Omega.{arith}
 use lib.ListN.{length}
-use Rattle.grammar.proofs.Bytes.{both}
-use Rattle.interval.specs.Listing.{All}
-use Rattle.formula.proofs.Lists.{all-append, all-map}
-use Rattle.circuit.proofs.Lists.{all-split}
+use Rattle.lists.proofs.Tests.{both}
+use Rattle.lists.specs.Listing.{All}
+use Rattle.lists.proofs.Lists.{all-append, all-map, all-split}
+use borrow.Author.Tests.{not-true}
 use Rattle.meaning.specs.Meaning.{bit}
+use Rattle.meaning.proofs.Laws.{bit-le}
 use Rattle.clauses.specs.Clauses.{Literal, Clause}
 use Rattle.closure.specs.Closure.{Literals, add, allOpposed, Member, membersOf, membersIn, ClosedUnder, ClosureOf}
 use Rattle.closure.specs.Tree.{firstForced, forced, closure}
-use Rattle.closure.proofs.Sets.{either-way, not-true, all-in, In, Below, same-set, added, kept, add-below, Opposed, opposed-all, all-opposed}
+use Rattle.closure.proofs.Sets.{either-way, all-in, In, Below, same-set, added, kept, add-below, Opposed, opposed-all, all-opposed}
 
 -- "each literal of a clause whose fellows in that clause are all opposed in the set" is in it
 abbrev pub Keeps : (Literal → Type 0) → Member → Type 0
@@ -88,10 +89,6 @@ some-outside ms S {l} e = go (next ms S) e
 abbrev outside : List Member → Literals → ℕ
 outside [] S = 0
 outside (m ∷ ms) S = bit (not (S (m .self))) + outside ms S
-
-bit-le : (b : Bool) → bit b ≤ 1
-bit-le true = omega arith
-bit-le false = omega arith
 
 outside-le : (ms : List Member) (S : Literals) → outside ms S ≤ length ms
 outside-le [] S = omega arith

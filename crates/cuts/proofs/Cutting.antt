@@ -30,7 +30,14 @@ module _ {k i d e at : ℕ} (s : i + d ≤ k) (w : Cutting k i d e at) where
   next-cut h o = record {
     right = λ l.
         let m : i + (e + 1) ≡ i + e + 1 = omega arith in
-        omega (arith, w .right (omega arith), row-next k (i + e), ap (startOf k) m, place-in-row k (record { i = i + e; j = i + d }) (omega arith), place-in-row k (record { i = i + (e + 1); j = i + d }) (omega arith));
+        omega (
+          arith,
+          w .right (omega arith),
+          row-next k (i + e),
+          ap (startOf k) m,
+          place-in-row k (record { i = i + e; j = i + d }) (omega arith),
+          place-in-row k (record { i = i + (e + 1); j = i + d }) (omega arith),
+        );
   }
 
   pub last-cut : {to : ℕ} → d ≤ e → Cutting k i d (e + 1) to

@@ -6,12 +6,12 @@ use mathlib.Core.List.{map}
 use Prim.Native.Nat.{ℕ, suc, _-_, _≤_}
 use native.Mathlib.Omega.{arith}
 use lib.ListN.{length}
-use Rattle.interval.specs.Listing.{rows, sum}
+use Rattle.lists.specs.Listing.{rows, sum}
 use Rattle.interval.specs.Places.{countOf, tripleCountOf}
 use Rattle.interval.specs.declared.Triple.{Triple}
 use Rattle.interval.proofs.Counts.{triangle-count, triples-count}
 use Rattle.interval.proofs.Laws.{triple, triples-listed}
-use Rattle.interval.proofs.Listing.{length-tab}
+use Rattle.lists.proofs.Listing.{length-tab}
 use Rattle.interval.proofs.Shape.{line, stack, triples, length-per, map-per}
 use Rattle.meaning.specs.Meaning.{bit}
 use Rattle.assignments.specs.Extension.{cuts, cutValues}

@@ -8,8 +8,8 @@ use native.Mathlib.Omega.{arith}
 use lib.ListN.{length, take, length-append}
 use lib.Seq.{take-all, take-at, length-take-le}
 use borrow.Rule.Slice.PartMut.{midOf, putMid, same-len-mid, mid-len}
-use Rattle.interval.specs.Listing.{rows}
-use Rattle.interval.proofs.Listing.{rows-le, sum-ones, sum-times, length-rows}
+use Rattle.lists.specs.Listing.{rows}
+use Rattle.lists.proofs.Listing.{rows-le, sum-ones, sum-times, length-rows}
 
 -- part x has w x entries
 pub record Parts (f : ℕ → List ℕ) (w : ℕ → ℕ) (n : ℕ) (l₀ : List ℕ) (at : ℕ) (l : List ℕ) (i : ℕ) : Type 0 where

@@ -2,7 +2,7 @@
 use mathlib.Core.Bool.{Bool}
 use mathlib.Core.List.{List}
 use Prim.Native.Nat.{ℕ, suc, _+_}
-use Rattle.interval.specs.Listing.{tab}
+use Rattle.lists.specs.Listing.{tab}
 use Rattle.interval.specs.Places.{placeOf}
 use Rattle.interval.specs.declared.Interval.{Interval}
 use Rattle.meaning.specs.Meaning.{bit}

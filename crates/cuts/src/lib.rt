@@ -4,7 +4,7 @@ ghost use mathlib.Core.Path.{_≡_};
 ghost use Prim.Native.Nat.{suc, _+_, _-_, _≤_};
 ghost use lib.ListN.{length};
 ghost use Rattle.moments.specs.Moments.{old, new};
-ghost use Rattle.interval.specs.Listing.{rows};
+ghost use Rattle.lists.specs.Listing.{rows};
 ghost use Rattle.interval.specs.Limits.{maxSteps};
 ghost use Rattle.interval.specs.Places.{countOf, tripleCountOf};
 ghost use Rattle.table.specs.Table.{highAt, Binary};

@@ -9,13 +9,14 @@ use native.Mathlib.Nat.{zero-mul}
 use native.Mathlib.Omega.{arith}
 use lib.ListN.{length, getD, set}
 use lib.Seq.{getD-set-same, getD-set-other}
-use Rattle.interval.specs.Listing.{sum}
+use Rattle.lists.specs.Listing.{sum}
 use Rattle.interval.specs.Places.{countOf, tripleCountOf, placeOf}
 use Rattle.interval.proofs.Shape.{intervals}
 use Rattle.interval.specs.Limits.{maxSteps, IntervalOf, TripleOf}
 use Rattle.interval.specs.declared.Interval.{Interval}
 use Rattle.interval.proofs.Counts.{triangle-count, intervals-count, triples-count, interval-place}
 use Rattle.interval.proofs.Laws.{triple-place, triples-numbered, counts-at-32}
+use Rattle.lists.proofs.Listing.{sum-le}
 use Rattle.decode.specs.Decode.{InPlace, TripleIn, unpacked, IntervalsTo, tripleStart, StartsTo, Tables, LastFrom}
 
 module _ (k : ℕ) where
@@ -29,7 +30,8 @@ module _ (k : ℕ) where
       let e = interval-place k v o in
       let n : v .i + 1 ≡ suc (v .i) = omega arith in
       let s : sum (λ i. suc k - i) (v .i + 1) ≡ sum (λ i. suc k - i) (v .i) + (suc k - v .i) = ap (sum (λ i. suc k - i)) n in
-      let m : v .i < k = by-cases (decLt (v .i) k) (λ m. m) (λ m. let q : suc k ≡ suc (v .i) = omega (arith, o) in absurd (omega (arith, l, e, o, intervals-count k, ap (sum (λ i. suc k - i)) q))) in
+      let m : v .i < k = by-cases (decLt (v .i) k) (λ m. m)
+      (λ m. let q : suc k ≡ suc (v .i) = omega (arith, o) in absurd (omega (arith, l, e, o, intervals-count k, ap (sum (λ i. suc k - i)) q))) in
       let i : IntervalOf k (record { i = v .i + 1; j = v .i + 1 }) = record { starts = omega arith; ends = omega arith } in
       (i, omega (arith, interval-place k (record { i = v .i + 1; j = v .i + 1 }) i, e, s, o, h))
 
@@ -40,7 +42,8 @@ module _ (k : ℕ) where
   one-more {table} {x} v s t h o = record {
     each = λ p l. by-cases (decLt p x)
         (λ m. subst (λ z. InPlace k p (unpacked z)) (sym (getD-set-other table x p (v .i * 128 + v .j) 0 (λ e. omega arith))) (t .each p m))
-        (λ m. let e : p ≡ x = omega arith in subst (λ p. InPlace k p (unpacked (getD (set table x (v .i * 128 + v .j)) p 0))) (sym e) (subst (λ z. InPlace k x (unpacked z)) (sym (getD-set-same table x (v .i * 128 + v .j) 0 h)) back));
+        (λ m. let e : p ≡ x = omega arith in subst (λ p. InPlace k p (unpacked (getD (set table x (v .i * 128 + v .j)) p 0))) (sym e)
+        (subst (λ z. InPlace k x (unpacked z)) (sym (getD-set-same table x (v .i * 128 + v .j) 0 h)) back));
   }
     where
       small : v .j < 128
@@ -59,11 +62,6 @@ module _ (k : ℕ) where
 
   -- ---- a triple by its place: i by where the triples of each start begin, then its length and cut, which stand as the intervals do from
   -- the last to the first
-
-  sum-up : (a b : ℕ) → a ≤ b → sum suc a ≤ sum suc b
-  unfolding sum
-  sum-up a zero h = let e : a ≡ 0 = omega arith in omega (arith, ap (sum suc) e)
-  sum-up a (suc b) h = by-cases (decLt b a) (λ l. let e : a ≡ suc b = omega arith in omega (arith, ap (sum suc) e)) (λ l. omega (arith, sum-up a b (omega arith)))
 
   -- how many triples start at a
   abbrev pub row : ℕ → ℕ
@@ -111,7 +109,7 @@ module _ (k : ℕ) where
 
     pub after-lt : x - tripleStart k i < countOf k
     unfolding sum
-    after-lt = omega (arith, below-next, a, starts-are i h, sum-up (suc k - i) (suc k) (omega arith), triangle-count k)
+    after-lt = omega (arith, below-next, a, starts-are i h, sum-le suc (suc k) (suc k - i) (omega arith), triangle-count k)
 
     found : (d e : ℕ) → e ≤ d → sum suc d + e ≡ x - tripleStart k i → TripleIn k x (record { i = i; m = i + e; j = i + d })
     unfolding sum
@@ -119,7 +117,7 @@ module _ (k : ℕ) where
         let p : i + d - i ≡ d = omega arith in
         let q : i + e - i ≡ e = omega arith in
         let s = starts-are i h in
-        let short : d < suc k - i = by-cases (decLt d (suc k - i)) (λ m. m) (λ m. absurd (omega (arith, sum-up (suc k - i) d (omega arith), f, below-next, a, s))) in
+        let short : d < suc k - i = by-cases (decLt d (suc k - i)) (λ m. m) (λ m. absurd (omega (arith, sum-le suc d (suc k - i) (omega arith), f, below-next, a, s))) in
         let o : TripleOf k (record { i = i; m = i + e; j = i + d }) = record { starts = omega arith; cut = omega arith; ends = omega arith } in
         (o, omega (arith, f, a, s, q, ap (sum suc) p, triple-place k (record { i = i; m = i + e; j = i + d }) o))
 
@@ -147,7 +145,9 @@ module _ {k x i : ℕ} {intervals starts : List ℕ} (t : Tables k intervals sta
   after-in = rw start-is (after-lt k x i (omega (arith, w .below)) l (omega (arith, start-is, w .from)) (λ m. omega (arith, w .next (omega arith), t .starts-to .each (i + 1) (omega arith))))
 
   pub triple-in : {v : Interval} → InPlace k (countOf k - 1 - (x - getD starts i 0)) v → TripleIn k x (record { i = i; m = i + (k - v .j); j = i + (k - v .i) })
-  triple-in {v} o = triple-found k x i (omega (arith, w .below)) l (omega (arith, start-is, w .from)) (λ m. omega (arith, w .next (omega arith), t .starts-to .each (i + 1) (omega arith))) v (rw start-is at o)
+  triple-in {v} o =
+      triple-found k x i (omega (arith, w .below)) l (omega (arith, start-is, w .from))
+      (λ m. omega (arith, w .next (omega arith), t .starts-to .each (i + 1) (omega arith))) v (rw start-is at o)
 
 pub start-small : (k i : ℕ) → k ≤ maxSteps → i ≤ k → tripleStart k i < 6545
 start-small k i h l = omega (arith, triples-numbered k .below (record { i = i; m = i; j = i }) (record { starts = omega arith; cut = omega arith; ends = l }), counts-at-32 k h)

@@ -11,9 +11,9 @@ use Rattle.refusal.specs.declared.Reply.{Reply}
 use Rattle.refusal.specs.declared.Reply.the-variants.{Yes, No}
 use Rattle.refusal.proofs.Laws.{all-yes-answers}
 use Rattle.grammar.specs.Trees.{Tree}
-use Rattle.grammar.specs.Reader.{Read}
+use Rattle.grammar.specs.Reader.{Read, onTree}
 use Rattle.grammar.specs.declared.Sort.the-variants.{Formula}
-use Rattle.formula.specs.Nodes.{Node, nodesOf, nodesIn}
+use Rattle.grammar.specs.Nodes.{Node, nodesOf, nodesIn}
 use Rattle.formula.proofs.Standing.{text-is}
 use Rattle.formula.proofs.Laws.{nodes-read}
 use Rattle.nodes.specs.Calls.{askNode, nodeRefusalOf, partPlace, nodePlaceOf}
@@ -21,10 +21,12 @@ use Rattle.nodes.specs.declared.Located.{Located}
 use Rattle.nodes.proofs.Laws.{chosen}
 use Rattle.circuit.specs.Circuit.{variablesOf}
 use Rattle.clauses.specs.Clauses.{clauseTable}
-use Rattle.clauses.specs.Entries.{flat}
-use Rattle.clause_table.specs.Table.{onTree, sizesOf, sizesIn, placesIn, askRoom, over, After, writtenTable, tabled}
-use Rattle.clause_table.specs.declared.Written.the-variants.{Done}
-use Rattle.evaluator.specs.Evaluation.{askRecording, askBytes, recordingQuestions, readHolds, verdictOf, evaluated}
+use Rattle.clauses.specs.Entries.{flat, placesIn}
+use Rattle.clause_table.specs.Table.{sizesOf, sizesIn, askRoom, After, writtenTable, tabled}
+use Rattle.moments.specs.Moments.{over}
+use Rattle.refusal.specs.declared.Written.the-variants.{Done}
+use Rattle.meaning.specs.Recording.{askRecording, askBytes}
+use Rattle.evaluator.specs.Evaluation.{recordingQuestions, readHolds, verdictOf, evaluated}
 use Rattle.evaluator.specs.declared.Verdict.{Verdict}
 use Rattle.assignments.specs.Extension.{valueIn, extensionOf, recordingOf}
 use Rattle.assignments.specs.Calls.{askPlaces, askAssignment, askValues, askClauses, clausesIn, Extended, extended, Proposed, proposed}
@@ -60,7 +62,7 @@ module _ (C k x : ℕ) (t : List ℕ) where
         rest = _;
         numbered = ap (drop (x - 1)) (sym n) ∙ c .back;
         part = ap partPlace (c .back);
-        prints = text-is t (c .chosen .part) (c .chosen .first) (c .own .stands);
+        prints = text-is t (c .chosen .part) (c .chosen .first) (c .holds .0);
       }
 
   one-text : (f : Tree Formula) (l m : Located) → NodeText t x f l → NodeText t x f m → l ≡ m
@@ -121,7 +123,8 @@ module _ (C k : ℕ) (t recording assignment : List ℕ) where
   pub extended-only : (x : Extended) → Extends C k t recording assignment x → x ≡ extended C k t recording assignment
   extended-only x p =
       obeys-same C k t _ _ _ (λ f w y a b. let g = yes-both (formulaReplies C k t f) _ y .0 in
-      a .2 ∙ ap (λ (A : List ℕ). record { answer = Done; assignment = over A assignment }) (one-extension f w g (a .0) (a .1) ∙ sym (one-extension f w g (b .0) (b .1))) ∙ sym (b .2)) p extended-obeys
+      a .2 ∙ ap (λ (A : List ℕ). record { answer = Done; assignment = over A assignment }) (one-extension f w g (a .0) (a .1) ∙
+      sym (one-extension f w g (b .0) (b .1))) ∙ sym (b .2)) p extended-obeys
 
 -- ---- the check
 
@@ -140,9 +143,12 @@ module _ (C k : ℕ) (t A recording : List ℕ) where
   unfolding proposed clausesIn
   proposed-obeys =
       asked-obeys C k t _ _ _ (askAssignment (variablesOf C k (nodesIn t)) A ∷ askValues A ∷ askClauses (valueIn A) 0 (clausesIn C k t) ∷ askPlaces k (length recording) ∷ []) _
-      (λ f w. ap₂ (λ (l : List Node) (o : Read Formula). askAssignment (variablesOf C k l) A ∷ askValues A ∷ askClauses (valueIn A) 0 (onTree (clauseTable C k) o) ∷ askPlaces k (length recording) ∷ []) (nodes-read t f (reads-as t f w)) (reads-as t f w))
+      (λ f w. ap₂ (λ (l : List Node) (o : Read Formula). askAssignment (variablesOf C k l) A ∷ askValues A ∷
+      askClauses (valueIn A) 0 (onTree (clauseTable C k) o) ∷ askPlaces k (length recording) ∷ []) (nodes-read t f (reads-as t f w)) (reads-as t f w))
       (λ f w y. (recordingOf C k A, recording-is, refl))
 
   pub proposed-only : (x : Proposed) → Checks C k t A recording x → x ≡ proposed C k t A recording
   proposed-only x p =
-      obeys-same C k t _ _ _ (λ f w y a b. a .2 ∙ ap (λ (r : List ℕ). record { answer = checked.Accepted; recording = over r recording }) (one-recording (a .0) (a .1) ∙ sym (one-recording (b .0) (b .1))) ∙ sym (b .2)) p proposed-obeys
+      obeys-same C k t _ _ _ (λ f w y a b. a .2 ∙
+      ap (λ (r : List ℕ). record { answer = checked.Accepted; recording = over r recording }) (one-recording (a .0) (a .1) ∙
+      sym (one-recording (b .0) (b .1))) ∙ sym (b .2)) p proposed-obeys

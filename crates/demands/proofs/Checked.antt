@@ -13,19 +13,18 @@ use Rattle.refusal.specs.Asked.{AllYes, none-left, yes-then, FirstNo, here, lat
 use Rattle.refusal.specs.declared.Refusal.{Refusal}
 use Rattle.refusal.specs.declared.Reply.{Reply}
 use Rattle.refusal.specs.declared.Reply.the-variants.{Yes, No}
-use Rattle.refusal.proofs.Laws.{all-yes-or-first-no}
+use Rattle.refusal.proofs.Laws.{all-yes-or-first-no, test-yes}
 use Rattle.grammar.specs.Trees.{Tree, Letters}
 use Rattle.grammar.specs.declared.Sort.the-variants.{Formula}
-use Rattle.grammar.proofs.Bytes.{both}
-use Rattle.formula.specs.Nodes.{nodesOf}
-use Rattle.formula.specs.Questions.{atFirst}
-use Rattle.formula.proofs.Asked.{test-yes}
+use Rattle.lists.proofs.Tests.{both}
+use Rattle.grammar.specs.Nodes.{nodesOf}
+use Rattle.grammar.specs.Questions.{atFirst}
 use Rattle.meaning.specs.Meaning.{holds}
 use Rattle.circuit.specs.Gates.{Assignment}
 use Rattle.circuit.specs.Circuit.{variablesOf, definitionsOf, rootOf}
 use Rattle.clauses.specs.Clauses.{Clause, plain, clausesBy, clauseTable, meetsClause, meetsAll}
-use Rattle.clause_table.specs.Table.{over}
-use Rattle.evaluator.specs.Evaluation.{notBelow, askBelow}
+use Rattle.moments.specs.Moments.{over}
+use Rattle.meaning.specs.Recording.{notBelow, askBelow}
 use Rattle.assignments.specs.Extension.{valueIn, extensionOf, recordingOf, EachBelow, meetsLast}
 use Rattle.assignments.specs.Calls.{askAssignment, askValues, askClauses, askPlaces, Proposed, notAccepted, proposed}
 use Rattle.assignments.specs.declared.Checked.the-variants.{Accepted}
@@ -67,7 +66,8 @@ module _ (number n : ℕ) where
   each-below t [] e = tt
   each-below t (b ∷ A) e = go (ltb b n) refl e (each-below (suc t) A)
     where
-      go : (u : Bool) → ltb b n ≡ u → atFirst number (cond u [] (t ∷ []) ++ notBelow n (suc t) A) ≡ Yes → (atFirst number (notBelow n (suc t) A) ≡ Yes → EachBelow n A) → EachBelow n (b ∷ A)
+      go : (u : Bool) → ltb b n ≡ u → atFirst number (cond u [] (t ∷ []) ++ notBelow n (suc t) A) ≡ Yes →
+          (atFirst number (notBelow n (suc t) A) ≡ Yes → EachBelow n A) → EachBelow n (b ∷ A)
       go true u e ih = (ltb-true b n u, ih e)
       go false u e ih = absurd (false≢true cc)
 
@@ -131,7 +131,9 @@ module _ (C k : ℕ) (t : List ℕ) (f : Tree Formula) (w : IsText t f) (y : All
     pub extension-accepted : (out : List ℕ) → length recording ≡ k → EachBelow (2 ^ C) recording → holds recording f (record { i = 0; j = k }) ≡ true → k ≤ length out
         → proposed C k t A out ≡ record { answer = Accepted; recording = over recording out }
     extension-accepted out b u h l =
-        let q = yes-next (length-yes A (e .bytes)) (yes-next (below-yes 13 2 A .1 (e .bits)) (yes-next (clauses-yes (valueIn A) 0 (clauseTable C k f) .1 (all-met h)) (yes-next (places-yes out l) none-left))) in
+        let q = yes-next (length-yes A (e .bytes))
+        (yes-next (below-yes 13 2 A .1 (e .bits))
+        (yes-next (clauses-yes (valueIn A) 0 (clauseTable C k f) .1 (all-met h)) (yes-next (places-yes out l) none-left))) in
         let p = proposed-obeys C k t A out .of-formula f w .all-yes (yes-append y q) in
         let r = one-recording C k t A out recording (record { bytes = b; below = u; channels = e .channels }) in
         p .2 ∙ ap (λ (r : List ℕ). record { answer = Accepted; recording = over r out }) (one-recording C k t A out (p .0) (p .1) ∙ sym r)
@@ -150,14 +152,16 @@ module _ (C k : ℕ) (t : List ℕ) (f : Tree Formula) (w : IsText t f) (y : All
 
   -- an accepted assignment is the extension of the recording handed out, which satisfies the formula
   pub accepted-extends : (A out : List ℕ) → proposed C k t A out .answer ≡ Accepted
-      → (A ≡ extensionOf C k (recordingOf C k A) (nodesOf f 0)) × (holds (recordingOf C k A) f (record { i = 0; j = k }) ≡ true) × (proposed C k t A out .recording ≡ over (recordingOf C k A) out)
+      → (A ≡ extensionOf C k (recordingOf C k A) (nodesOf f 0)) × (holds (recordingOf C k A) f (record { i = 0; j = k }) ≡ true) ×
+      (proposed C k t A out .recording ≡ over (recordingOf C k A) out)
   accepted-extends A out a = ⊎-elim all (λ n. absurd (refused (n .0) (n .1))) (all-yes-or-first-no (formulaReplies C k t f ++ questions A out))
     where
       refused : (r : Refusal) → FirstNo (formulaReplies C k t f ++ questions A out) r → ⊥
       refused r n = let p = ap (λ (x : Proposed). x .answer) (proposed-obeys C k t A out .of-formula f w .first-no r n) in let z : _≡_ {A = ℕ} 0 1 = cc (p, a) in omega arith
 
       all : AllYes (formulaReplies C k t f ++ questions A out)
-          → (A ≡ extensionOf C k (recordingOf C k A) (nodesOf f 0)) × (holds (recordingOf C k A) f (record { i = 0; j = k }) ≡ true) × (proposed C k t A out .recording ≡ over (recordingOf C k A) out)
+          → (A ≡ extensionOf C k (recordingOf C k A) (nodesOf f 0)) × (holds (recordingOf C k A) f (record { i = 0; j = k }) ≡ true) ×
+          (proposed C k t A out .recording ≡ over (recordingOf C k A) out)
       all g =
           let q = yes-both (formulaReplies C k t f) (questions A out) g .1 in
           let (e, q₁) = one-yes q in

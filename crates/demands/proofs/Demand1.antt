@@ -8,24 +8,26 @@ use Prim.Native.Nat.{ℕ}
 use lib.ListN.{length}
 use Rattle.refusal.specs.declared.Refusal.{Refusal}
 use Rattle.refusal.specs.declared.Reply.the-variants.{No}
-use Rattle.formula.specs.Nodes.{nodesIn}
-use Rattle.formula.specs.Questions.{formulaQuestions}
+use Rattle.grammar.specs.Nodes.{nodesIn}
+use Rattle.grammar.specs.Questions.{formulaQuestions}
 use Rattle.nodes.specs.Calls.{nodeQuestions, nodePlaceOf, nodeTextOf, nodeRefusalOf}
 use Rattle.nodes.specs.declared.Located.the-variants as located
 use Rattle.circuit.specs.Circuit.{variablesOf}
-use Rattle.clause_table.specs.Table.{placesIn, askRoom, tableQuestions, After, refused, tabled}
-use Rattle.clause_table.specs.declared.Sizes.{Sizes}
-use Rattle.clause_table.specs.declared.Written.the-variants as written
+use Rattle.clauses.specs.Entries.{placesIn}
+use Rattle.clause_table.specs.Table.{askRoom, tableQuestions, After, refused, tabled}
+use Rattle.table_layout.specs.declared.Sizes.{Sizes}
+use Rattle.refusal.specs.declared.Written.the-variants as written
+use Rattle.refusal.specs.declared.Written.the-variants as written
 use Rattle.evaluator.specs.Evaluation.{recordingQuestions, evaluated}
 use Rattle.evaluator.specs.declared.Verdict.the-variants as verdict
 use Rattle.assignments.specs.Calls.{extensionQuestions, Extended, notExtended, extended, proposalQuestions, Proposed, notAccepted, proposed}
 use Rattle.assignments.specs.declared.Checked.the-variants as checked
-use Rattle.search.specs.Search.{Searched, unwritten, lentOf, searchQuestions, searched}
-use Rattle.search.specs.declared.Answer.the-variants as answer
-use Rattle.search.specs.declared.Lent.{Lent}
+use Rattle.search_answer.specs.Search.{Searched, unwritten, lentOf, searchQuestions, searched}
+use Rattle.search_answer.specs.declared.Answer.the-variants as answer
+use Rattle.search_answer.specs.declared.Lent.{Lent}
 use Rattle.file_numbers.specs.File.{fileLength, sizesAt}
-use Rattle.clause_file.specs.Questions.{askFileRoom}
-use Rattle.clause_file.specs.Calls.{FileAfter, fileRefused, arrayQuestions, fileWritten, fileQuestions, fileRead}
+use Rattle.file_questions.specs.Questions.{askFileRoom, arrayQuestions, fileQuestions}
+use Rattle.clause_file.specs.Calls.{FileAfter, fileRefused, fileWritten, fileRead}
 use Rattle.answers.specs.Answers.{Told, packVerdict, verdictBy, packWritten, writtenBy, packChecked, checkedBy, packAnswer, answerBy, packLocated, locatedBy}
 use Rattle.answers.specs.Numbers.{nodeNumbers, evaluationNumbers, tableNumbers, searchNumbers, extensionNumbers, proposalNumbers, fileNumbers}
 use Rattle.answers.proofs.Calls.{evaluated-told, located-told, tabled-told, extended-told, proposed-told, searched-told, file-written-told, file-read-told}

@@ -12,23 +12,25 @@ use Rattle.refusal.specs.declared.Reply.the-variants.{Yes, No}
 use Rattle.interval.specs.Limits.{askInterval}
 use Rattle.grammar.specs.Trees.{Tree}
 use Rattle.grammar.specs.declared.Sort.the-variants.{Formula}
-use Rattle.formula.specs.Nodes.{nodesOf}
-use Rattle.formula.specs.Questions.{acceptOf}
+use Rattle.grammar.specs.Nodes.{nodesOf}
+use Rattle.grammar.specs.Questions.{acceptOf}
 use Rattle.nodes.specs.Calls.{nodePlaceOf}
 use Rattle.meaning.specs.Meaning.{holds}
 use Rattle.circuit.specs.Circuit.{variablesOf}
 use Rattle.clauses.specs.Clauses.{clauseTable}
-use Rattle.clauses.specs.Entries.{flat, variablesIn, marksIn}
-use Rattle.clause_table.specs.Table.{sizesOf, sizesIn, placesIn, fiveOf, askRoom, over, refused, written, writtenTable, tabled}
-use Rattle.clause_table.specs.declared.Sizes.{Sizes}
-use Rattle.clause_table.specs.declared.Written.the-variants.{Done}
-use Rattle.evaluator.specs.Evaluation.{askRecording, askBytes, verdictOf, evaluated}
+use Rattle.clauses.specs.Entries.{flat, variablesIn, marksIn, placesIn}
+use Rattle.clause_table.specs.Table.{sizesOf, sizesIn, fiveOf, askRoom, refused, written, writtenTable, tabled}
+use Rattle.moments.specs.Moments.{over}
+use Rattle.table_layout.specs.declared.Sizes.{Sizes}
+use Rattle.refusal.specs.declared.Written.the-variants.{Done}
+use Rattle.meaning.specs.Recording.{askRecording, askBytes}
+use Rattle.evaluator.specs.Evaluation.{verdictOf, evaluated}
 use Rattle.assignments.specs.Extension.{valueIn, extensionOf, recordingOf, EachBelow, meetsLast}
 use Rattle.assignments.specs.Calls.{askPlaces, extended, notAccepted, proposed}
 use Rattle.assignments.specs.declared.Checked.the-variants.{Accepted}
 use Rattle.file_numbers.specs.File.{fileOf, fileLength, sizesBy, sizesAt, variablesAt, marksAt, Words, Octets}
-use Rattle.clause_file.specs.Questions.{askFileRoom}
-use Rattle.clause_file.specs.Calls.{fileRefused, arrayQuestions, fileWritten, fileQuestions, fileRead}
+use Rattle.file_questions.specs.Questions.{askFileRoom, arrayQuestions, fileQuestions}
+use Rattle.clause_file.specs.Calls.{fileRefused, fileWritten, fileRead}
 use Rattle.clause_file.proofs.Laws.{read-written, write-read}
 use Rattle.clause_file.proofs.Writable.{table-written}
 use Rattle.file_line.specs.Line.{lineOf}
@@ -96,7 +98,8 @@ module _ (C k : ℕ) (t : List ℕ) (f : Tree Formula) (is : IsText t f) where
 -- a file written is read back equal, wherever there is room,
 pub written-read-back : (s : Sizes) (variables marks : List ℕ) → Words (fiveOf s) → Words variables → asked (arrayQuestions s variables marks) No Yes ≡ Yes
     → (sizes′ variables′ marks′ : List ℕ) → fileRead (fileOf (fiveOf s) variables marks) sizes′ variables′ marks′
-    ≡ asked (askRoom (s .literals) (length sizes′) (length variables′) (length marks′) ∷ []) (refused sizes′ variables′ marks′) (written (fiveOf s) variables marks sizes′ variables′ marks′)
+    ≡ asked (askRoom (s .literals) (length sizes′) (length variables′) (length marks′) ∷ []) (refused sizes′ variables′ marks′)
+    (written (fiveOf s) variables marks sizes′ variables′ marks′)
 written-read-back = read-written
 
 -- and a file that is read is written back equal

@@ -12,10 +12,10 @@ use Rattle.refusal.specs.Asked.{AllYes, FirstNo}
 use Rattle.refusal.specs.declared.Refusal.{Refusal}
 use Rattle.grammar.specs.Trees.{Tree}
 use Rattle.grammar.specs.declared.Sort.the-variants.{Formula}
-use Rattle.search.specs.Search.{Arrays, earlier, treeOf, unwritten, searched}
-use Rattle.search.specs.declared.Answer.the-variants.{Refused}
-use Rattle.search.proofs.Order.{order-one-way, order-either}
-use Rattle.search.proofs.Outcome.{trials-bound}
+use Rattle.search_answer.specs.Search.{Arrays, earlier, treeOf, unwritten, searched}
+use Rattle.search_answer.specs.declared.Answer.the-variants.{Refused}
+use Rattle.search_answer.proofs.Order.{order-one-way, order-either}
+use Rattle.search_answer.proofs.Outcome.{trials-bound}
 use Rattle.demands.specs.Calls.{IsText, Ungrammatical, formulaReplies}
 use Rattle.demands.specs.Demand3.{Trials, Draws}
 use Rattle.demands.proofs.Obeyed.{otherReplies}

@@ -12,21 +12,21 @@ use Rattle.refusal.specs.Asked.{asked, AllYes, yes-then}
 use Rattle.refusal.specs.declared.Reply.{Reply}
 use Rattle.refusal.specs.declared.Reply.the-variants.{Yes, No}
 use Rattle.refusal.proofs.Laws.{all-yes-answers}
-use Rattle.interval.specs.Listing.{rows}
-use Rattle.grammar.specs.Reader.{Read}
+use Rattle.lists.specs.Listing.{rows}
+use Rattle.grammar.specs.Reader.{Read, onTree}
 use Rattle.grammar.specs.declared.Sort.the-variants.{Formula}
-use Rattle.circuit.proofs.Lists.{all-rows}
+use Rattle.lists.proofs.Lists.{all-rows}
 use Rattle.clauses.specs.Clauses.{clauseTable}
-use Rattle.clauses.specs.Entries.{flat, variablesIn, marksIn}
-use Rattle.clause_table.specs.Table.{onTree, sizesOf, sizesIn, placesIn, fiveOf, askRoom, After, refused, written}
-use Rattle.clause_table.specs.declared.Sizes.{Sizes}
-use Rattle.clause_table.specs.declared.Written.the-variants.{Done, Refused}
+use Rattle.clauses.specs.Entries.{flat, variablesIn, marksIn, placesIn}
+use Rattle.clause_table.specs.Table.{sizesOf, sizesIn, fiveOf, askRoom, After, refused, written}
+use Rattle.table_layout.specs.declared.Sizes.{Sizes}
+use Rattle.refusal.specs.declared.Written.the-variants.{Done, Refused}
 use Rattle.file_numbers.specs.File.{bytesOf, fileOf, numberAt, sizesAt, variablesAt, marksAt, Words, Octets}
-use Rattle.clause_file.specs.Questions.{askArrays, entryQuestions}
+use Rattle.file_questions.specs.Questions.{askArrays, entryQuestions, fileQuestions}
 use Rattle.file_numbers.specs.Held.{Held}
-use Rattle.clause_file.specs.Calls.{FileAfter, fileWritten, fileQuestions, fileRead}
+use Rattle.clause_file.specs.Calls.{FileAfter, fileWritten, fileRead}
 use Rattle.file_numbers.proofs.Stored.{variables-count, marks-count}
-use Rattle.clause_file.proofs.Asking.{file-held}
+use Rattle.file_questions.proofs.Asking.{file-held}
 use Rattle.file_numbers.proofs.Bytes.{all-bytes-back}
 use Rattle.clause_file.proofs.Laws.{read-written}
 use Rattle.demands.specs.Calls.{Obeys}
@@ -100,7 +100,8 @@ module _ (file sizes variables marks : List ℕ) (o : Octets file) where
   one-table : fileRead file sizes variables marks .answer ≡ Done → (s : Sizes) (v m : List ℕ) → FileOf file s v m
       → written (fiveOf s) v m sizes variables marks ≡ fileRead file sizes variables marks
   one-table d s v m h =
-      go (room (s .literals)) (subst (λ (f : List ℕ). fileRead f sizes variables marks ≡ asked (room (s .literals) ∷ []) (refused sizes variables marks) (written (fiveOf s) v m sizes variables marks)) (h .is)
+      go (room (s .literals)) (subst (λ (f : List ℕ). fileRead f sizes variables marks ≡ asked (room (s .literals) ∷ []) (refused sizes variables marks)
+      (written (fiveOf s) v m sizes variables marks)) (h .is)
       (read-written s v m (h .sizes) (h .numbers) (all-yes-answers No Yes (h .taken)) sizes variables marks))
     where
       go : (q : Reply) → fileRead file sizes variables marks ≡ asked (q ∷ []) (refused sizes variables marks) (written (fiveOf s) v m sizes variables marks)
@@ -122,7 +123,8 @@ module _ (input : List ℕ) where
   fileBy C k o = let F = onTree (λ f. flat (clauseTable C k f)) o in fileOf (onTree (sizesOf C k) o) (variablesIn F) (marksIn F)
 
   line-obeys : (C k : ℕ) (t : List ℕ)
-      → Obeys C k t (λ f. askLiterals (length (flat (clauseTable C k f))) ∷ []) (λ r. []) (λ f x. x ≡ (let F = flat (clauseTable C k f) in fileOf (sizesOf C k f) (variablesIn F) (marksIn F))) (outputFor (line C k t))
+      → Obeys C k t (λ f. askLiterals (length (flat (clauseTable C k f))) ∷
+      []) (λ r. []) (λ f x. x ≡ (let F = flat (clauseTable C k f) in fileOf (sizesOf C k f) (variablesIn F) (marksIn F))) (outputFor (line C k t))
   unfolding outputFor sizesIn placesIn
   line-obeys C k t =
       asked-obeys C k t _ _ _ (askLiterals (length (placesIn C k t)) ∷ []) _
@@ -137,7 +139,9 @@ module _ (input : List ℕ) where
   unfolding outputOf outputFor
   line-or-none = go (readLine input) refl
     where
-      go : (l : Line) → readLine input ≡ l → ((C : ℕ) × (k : ℕ) × (t : List ℕ) × (lineOf C k t ≡ input)) ⊎ (((C k : ℕ) (t : List ℕ) → lineOf C k t ≡ input → ⊥) × (outputFor (readLine input) ≡ []))
+      go : (l : Line) → readLine input ≡ l →
+          ((C : ℕ) × (k : ℕ) × (t : List ℕ) × (lineOf C k t ≡ input)) ⊎ (((C k : ℕ) (t : List ℕ) → lineOf C k t ≡ input → ⊥) ×
+          (outputFor (readLine input) ≡ []))
       go (line C k t) e = inl (C, k, t, sym (line-is input C k t e))
       go other e = inr (λ C k t q. line≢other (sym (line-reads-back C k t) ∙ ap readLine q ∙ e), ap outputFor e)
 

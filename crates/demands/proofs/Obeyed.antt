@@ -17,8 +17,8 @@ use Rattle.grammar.specs.Reader.{Read, parsed, stopped, read}
 use Rattle.grammar.specs.declared.Sort.the-variants.{Formula}
 use Rattle.grammar.proofs.Printed.{reads-back}
 use Rattle.grammar.proofs.Laws.{prints-as-text, stops-at-place}
-use Rattle.formula.specs.Nodes.{Node, nodesIn}
-use Rattle.formula.specs.Questions.{askChannels, askLength, askGrammar, askLetters, askNumbers, askNodes, formulaQuestions, acceptOf, onRead}
+use Rattle.grammar.specs.Nodes.{Node, nodesIn}
+use Rattle.grammar.specs.Questions.{askChannels, askLength, askGrammar, askLetters, askNumbers, askNodes, formulaQuestions, acceptOf, onRead}
 use Rattle.formula.proofs.Laws.{Accepted, accepted, nodes-read}
 use Rattle.demands.specs.Calls.{IsText, Ungrammatical, Follows, formulaReplies, Obeys}
 
@@ -107,7 +107,9 @@ module _ (C k : ℕ) (t : List ℕ) where
 
   other-asked : (p : ℕ) → Ungrammatical t p → formulaQuestions C k t ≡ otherReplies C k t p ++ (askLetters C (nodesIn t) ∷ askNumbers (nodesIn t) ∷ askNodes (nodesIn t) ∷ [])
   unfolding askGrammar
-  other-asked p u = ap (λ (o : Read Formula). askChannels C ∷ askSteps k ∷ askLength t ∷ onRead o ∷ askLetters C (nodesIn t) ∷ askNumbers (nodesIn t) ∷ askNodes (nodesIn t) ∷ []) (stops-there t p u)
+  other-asked p u =
+      ap (λ (o : Read Formula). askChannels C ∷ askSteps k ∷ askLength t ∷ onRead o ∷ askLetters C (nodesIn t) ∷ askNumbers (nodesIn t) ∷
+      askNodes (nodesIn t) ∷ []) (stops-there t p u)
 
   never-all : (p : ℕ) → AllYes (otherReplies C k t p) → ⊥
   never-all p h = never-no (yes-both (askChannels C ∷ askSteps k ∷ askLength t ∷ []) _ h .1)
@@ -134,7 +136,10 @@ module _ (C k : ℕ) (t : List ℕ) where
           (ap (λ (P : List Reply). P ++ own f) (sym e) ∙ ap (λ (Q : List Reply). formulaQuestions C k t ++ Q) (sym d))
           (asked-follows (formulaReplies C k t f ++ own f) (Right f) answer (right f w));
       of-other = λ p u. record {
-        first-no = λ r n. first-no-answers refused answer (first-front then (subst (λ (Q : List Reply). FirstNo Q r) (sym (other-asked p u)) (first-front (askLetters C (nodesIn t) ∷ askNumbers (nodesIn t) ∷ askNodes (nodesIn t) ∷ []) n)));
+        first-no =
+            λ r n. first-no-answers refused answer
+            (first-front then (subst (λ (Q : List Reply). FirstNo Q r) (sym (other-asked p u))
+            (first-front (askLetters C (nodesIn t) ∷ askNumbers (nodesIn t) ∷ askNodes (nodesIn t) ∷ []) n)));
         all-yes = λ h. never-all p h;
       };
     }

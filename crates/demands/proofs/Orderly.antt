@@ -11,40 +11,40 @@ use lib.ListN.{length, drop, length-append, length-drop, length-map}
 use lib.Seq.{drop-append-seam}
 use borrow.Author.Tests.{leb-true}
 use Rattle.assignments.specs.declared.Checked.the-variants as checked
-use Rattle.clause_table.specs.declared.Written.the-variants as written
+use Rattle.refusal.specs.declared.Written.the-variants as written
 use Rattle.evaluator.specs.declared.Verdict.the-variants as verdict
 use Rattle.nodes.specs.declared.Located.the-variants as located
-use Rattle.search.specs.declared.Answer.the-variants as answer
+use Rattle.search_answer.specs.declared.Answer.the-variants as answer
 use Rattle.refusal.specs.Asked.{asked, AllYes, FirstNo, here, later, Asks}
 use Rattle.refusal.specs.declared.Refusal.{Refusal}
 use Rattle.refusal.specs.declared.Reply.{Reply}
 use Rattle.refusal.specs.declared.Reply.the-variants.{Yes, No}
-use Rattle.refusal.proofs.Laws.{all-yes-or-first-no, first-no-answers, all-yes-answers}
+use Rattle.refusal.proofs.Laws.{all-yes-or-first-no, first-no-answers, all-yes-answers, test-yes}
 use Rattle.refusal.proofs.Numbers.{first-no-number}
-use Rattle.grammar.proofs.Bytes.{both}
-use Rattle.formula.proofs.Asked.{test-yes}
-use Rattle.clause_table.specs.Table.{askRoom, over, sizesIn, placesIn, fiveOf, tableQuestions, After, refused, tabled}
+use Rattle.lists.proofs.Tests.{both}
+use Rattle.clause_table.specs.Table.{askRoom, sizesIn, fiveOf, tableQuestions, After, refused, tabled}
+use Rattle.clauses.specs.Entries.{placesIn, Entry, variablesIn, marksIn}
+use Rattle.moments.specs.Moments.{over}
 use Rattle.assignments.specs.Calls.{askPlaces, extensionQuestions, Extended, notExtended, extended, proposalQuestions, Proposed, notAccepted, proposed}
 use Rattle.assignments.specs.Extension.{recordingBy, valueIn, extensionOf, recordingOf}
 use Rattle.assignments.proofs.Recordings.{recording-length}
 use Rattle.closure.specs.Runs.{highIn}
 use Rattle.closure.specs.Tree.{Trial}
-use Rattle.search.specs.Search.{askLent, Searched, treeIn, unwritten, lentOf, searchQuestions, searched}
-use Rattle.search.specs.declared.Lent.{Lent}
-use Rattle.search.proofs.Ends.{End, finds, lacks, spends, end}
+use Rattle.search_answer.specs.Search.{askLent, Searched, treeIn, unwritten, lentOf, searchQuestions, searched}
+use Rattle.search_answer.specs.declared.Lent.{Lent}
+use Rattle.search_answer.proofs.Ends.{End, finds, lacks, spends, end}
 use Rattle.grammar.specs.Reader.{read}
-use Rattle.formula.specs.Nodes.{Node, nodesIn}
-use Rattle.formula.specs.Questions.{formulaQuestions, acceptOf}
+use Rattle.grammar.specs.Nodes.{Node, nodesIn}
+use Rattle.grammar.specs.Questions.{formulaQuestions, acceptOf}
 use Rattle.nodes.specs.Calls.{nodeQuestions, partPlace, partOf, nodePlaceOf, nodeTextOf, nodeRefusalOf}
 use Rattle.circuit.specs.Circuit.{variablesOf}
-use Rattle.clauses.specs.Entries.{Entry, variablesIn, marksIn}
-use Rattle.clause_table.specs.declared.Sizes.{Sizes}
+use Rattle.table_layout.specs.declared.Sizes.{Sizes}
 use Rattle.evaluator.specs.Evaluation.{recordingQuestions, readHolds, verdictOf, evaluated}
 use Rattle.assignments.proofs.Values.{extension-length}
 use Rattle.file_numbers.specs.File.{fileOf, fileLength, sizesAt, variablesAt, marksAt}
-use Rattle.clause_file.specs.Questions.{askFileRoom}
-use Rattle.clause_file.specs.Calls.{FileAfter, fileRefused, arrayQuestions, fileWritten, fileQuestions, fileRead}
-use Rattle.clause_file.proofs.Asking.{length-written, room-written, file-held}
+use Rattle.file_questions.specs.Questions.{askFileRoom, arrayQuestions, fileQuestions}
+use Rattle.clause_file.specs.Calls.{FileAfter, fileRefused, fileWritten, fileRead}
+use Rattle.file_questions.proofs.Asking.{length-written, room-written, file-held}
 use Rattle.file_numbers.proofs.Stored.{variables-count, marks-count}
 use Rattle.clause_file.proofs.Writable.{five-sizes}
 use Rattle.answers.specs.Numbers.{nodeNumbers, evaluationNumbers, tableNumbers, searchNumbers, extensionNumbers, proposalNumbers, fileNumbers}
@@ -114,7 +114,8 @@ module _ (C k : ℕ) (t : List ℕ) where
       → Orderly (λ v. v) verdict.Refused evaluationNumbers (formulaQuestions C k t ++ recordingQuestions C k i j recording) verdict.Refused (λ v. Unit) (evaluated C k i j t recording)
   unfolding evaluated
   evaluation-orderly i j recording =
-      orderly (λ v. v) verdict.Refused (λ s r q. cc) _ (λ r. refl) (never (readHolds recording (read t) (record { i = i; j = j }))) evaluationNumbers _ _ (evaluation-asks C k t i j recording) (λ y. tt)
+      orderly (λ v. v) verdict.Refused (λ s r q. cc) _ (λ r. refl) (never (readHolds recording (read t) (record { i = i; j = j }))) evaluationNumbers _ _
+      (evaluation-asks C k t i j recording) (λ y. tt)
     where
       never : (b : Bool) (r : Refusal) → verdictOf b ≢ verdict.Refused r
       never true r q = absurd (false≢true cc)
@@ -139,7 +140,8 @@ module _ (C k : ℕ) (t : List ℕ) where
   unfolding tabled acceptOf
   table-orderly sizes variables marks =
       let F = placesIn C k t in
-      orderly (λ (x : After). x .answer) written.Refused (λ s r q. cc) _ (λ r. refl) (λ r q. absurd (false≢true cc)) tableNumbers (tableQuestions C k t sizes variables marks) _ (table-asks C k t sizes variables marks)
+      orderly (λ (x : After). x .answer) written.Refused (λ s r q. cc) _ (λ r. refl) (λ r q. absurd (false≢true cc)) tableNumbers
+      (tableQuestions C k t sizes variables marks) _ (table-asks C k t sizes variables marks)
       (λ y. let w = yes-both (formulaQuestions C k t) _ y in
       let h = room-yes (length F) (length sizes) (length variables) (length marks) (one-yes (w .1) .0) in (
         over-keeps 5 (sizesIn C k t) sizes (five-sizes C k t (all-yes-answers No Yes (w .0)) .0) (h .0),
@@ -152,7 +154,8 @@ module _ (C k : ℕ) (t : List ℕ) where
       (λ x. Kept (variablesOf C k (nodesIn t)) assignment (x .assignment)) (extended C k t recording assignment)
   unfolding extended
   extension-orderly recording assignment =
-      orderly (λ (x : Extended). x .answer) written.Refused (λ s r q. cc) _ (λ r. refl) (λ r q. absurd (false≢true cc)) extensionNumbers (extensionQuestions C k t recording assignment) _ (extension-asks C k t recording assignment)
+      orderly (λ (x : Extended). x .answer) written.Refused (λ s r q. cc) _ (λ r. refl) (λ r q. absurd (false≢true cc)) extensionNumbers
+      (extensionQuestions C k t recording assignment) _ (extension-asks C k t recording assignment)
       (λ y. over-keeps _ (extensionOf C k recording (nodesIn t)) assignment (extension-length C k recording (nodesIn t))
       (places-yes _ _ (one-yes (one-yes (one-yes (yes-both (formulaQuestions C k t) _ y .1) .1) .1) .0)))
 
@@ -161,7 +164,8 @@ module _ (C k : ℕ) (t : List ℕ) where
       (λ x. Kept k recording (x .recording)) (proposed C k t A recording)
   unfolding proposed
   check-orderly A recording =
-      orderly (λ (x : Proposed). x .answer) checked.Refused (λ s r q. cc) _ (λ r. refl) (λ r q. absurd (false≢true cc)) proposalNumbers (proposalQuestions C k t A recording) _ (proposal-asks C k t A recording)
+      orderly (λ (x : Proposed). x .answer) checked.Refused (λ s r q. cc) _ (λ r. refl) (λ r q. absurd (false≢true cc)) proposalNumbers
+      (proposalQuestions C k t A recording) _ (proposal-asks C k t A recording)
       (λ y. over-keeps k (recordingOf C k A) recording (recording-length C k (valueIn A))
       (places-yes _ _ (one-yes (one-yes (one-yes (one-yes (yes-both (formulaQuestions C k t) _ y .1) .1) .1) .1) .0)))
 
@@ -187,7 +191,8 @@ writer-orderly s variables marks file =
     over-keeps _ (fileOf (fiveOf s) variables marks) file l (omega (arith, l, room-written s variables marks a file (one-yes (w .1) .0))))
 
 pub reader-orderly : (file sizes variables marks : List ℕ)
-    → Orderly (λ (x : After). x .answer) written.Refused fileNumbers (fileQuestions file ++ askRoom (sizesAt file .literals) (length sizes) (length variables) (length marks) ∷ []) (refused sizes variables marks)
+    → Orderly (λ (x : After). x .answer) written.Refused fileNumbers
+    (fileQuestions file ++ askRoom (sizesAt file .literals) (length sizes) (length variables) (length marks) ∷ []) (refused sizes variables marks)
     (λ x. Kept 5 sizes (x .sizes) × Kept (sizesAt file .literals) variables (x .variables) × Kept (sizesAt file .literals) marks (x .marks)) (fileRead file sizes variables marks)
 unfolding fileRead
 reader-orderly file sizes variables marks =

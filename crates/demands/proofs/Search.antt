@@ -11,27 +11,27 @@ use lib.ListN.{length}
 use Rattle.refusal.specs.declared.Refusal.{Refusal}
 use Rattle.refusal.specs.declared.Reply.{Reply}
 use Rattle.grammar.specs.Trees.{Tree, Letters}
-use Rattle.grammar.specs.Reader.{Read, parsed, stopped, read}
+use Rattle.grammar.specs.Reader.{Read, parsed, stopped, read, onTree}
 use Rattle.grammar.specs.declared.Sort.the-variants.{Formula}
-use Rattle.formula.specs.Nodes.{Node, nodesOf, nodesIn}
+use Rattle.grammar.specs.Nodes.{Node, nodesOf, nodesIn}
 use Rattle.formula.proofs.Laws.{nodes-read}
 use Rattle.circuit.specs.Circuit.{variablesOf}
 use Rattle.clauses.specs.Clauses.{clauseTable}
-use Rattle.clauses.specs.Entries.{flat}
-use Rattle.clause_table.specs.Table.{onTree, placesIn, over}
+use Rattle.clauses.specs.Entries.{flat, placesIn}
+use Rattle.moments.specs.Moments.{over}
 use Rattle.assignments.specs.Extension.{recordingBy}
 use Rattle.closure.specs.Closure.{Literals, nothing}
 use Rattle.closure.specs.Runs.{dead, Run, highIn}
 use Rattle.closure.specs.Tree.{closure, Trial, trial}
 use Rattle.closure.proofs.Closure.{closure-is, closure-one}
 use Rattle.closure.proofs.Runs.{tree-runs, tree-run}
-use Rattle.search.specs.Search.{Arrays, lentOf, askLent, treeOf, treeIn, Searched, unwritten, limited, searched, Unchanged, Earliest, countIn}
-use Rattle.search.specs.declared.Lent.{Lent}
-use Rattle.search.specs.declared.Answer.{Answer}
-use Rattle.search.specs.declared.Answer.the-variants.{Found, None, Spent, Refused}
-use Rattle.search.proofs.Order.{order-one-way}
-use Rattle.search.proofs.Outcome.{dead-none, found-satisfies, found-earliest}
-use Rattle.search.proofs.Ends.{End, finds, lacks, spends, end, found-first, found-within, none-within, spent-beyond, count-least, only-found-writes}
+use Rattle.search_answer.specs.Search.{Arrays, lentOf, askLent, treeOf, treeIn, Searched, unwritten, limited, searched, Unchanged, Earliest, countIn}
+use Rattle.search_answer.specs.declared.Lent.{Lent}
+use Rattle.search_answer.specs.declared.Answer.{Answer}
+use Rattle.search_answer.specs.declared.Answer.the-variants.{Found, None, Spent, Refused}
+use Rattle.search_answer.proofs.Order.{order-one-way}
+use Rattle.search_answer.proofs.Outcome.{dead-none, found-satisfies, found-earliest}
+use Rattle.search_answer.proofs.Ends.{End, finds, lacks, spends, end, found-first, found-within, none-within, spent-beyond, count-least, only-found-writes}
 use Rattle.demands.specs.Calls.{IsText, formulaReplies, Obeys}
 use Rattle.demands.specs.Demand3.{Trials, Draws, Search, Searches}
 use Rattle.demands.proofs.Obeyed.{yes-both, reads-as, letters-in, asked-obeys, obeys-two, obeys-through}
@@ -144,7 +144,8 @@ module _ (C k : ℕ) (t : List ℕ) (B : ℕ) (before : Arrays) where
   unfolding searched treeIn placesIn
   ours-obeys =
       asked-obeys C k t _ _ _ (askLent (length (placesIn C k t)) (variablesOf C k (nodesIn t)) k (lengths before) ∷ []) _
-      (λ f w. ap₂ (λ (o : Read Formula) (l : List Node). askLent (length (onTree (λ f. flat (clauseTable C k f)) o)) (variablesOf C k l) k (lengths before) ∷ []) (reads-as t f w) (nodes-read t f (reads-as t f w)))
+      (λ f w. ap₂ (λ (o : Read Formula) (l : List Node). askLent (length (onTree (λ f. flat (clauseTable C k f)) o)) (variablesOf C k l) k
+      (lengths before) ∷ []) (reads-as t f w) (nodes-read t f (reads-as t f w)))
       (λ f w y N n. drawn f (letters-in C k t f w (yes-both (formulaReplies C k t f) (own f) y .0)) (read t) (reads-as t f w) N n)
     where
       drawn : (f : Tree Formula) → Letters C f → (o : Read Formula) → o ≡ parsed f → (N : ℕ) → Trials C k f N

@@ -9,14 +9,15 @@ use native.Mathlib.Omega.{arith}
 use lib.ListN.{length, getD, replicate, length-replicate}
 use Rattle.refusal.specs.declared.Refusal.{Refusal}
 use Rattle.grammar.specs.Ascii.{ascii}
-use Rattle.formula.specs.Nodes.{nodesIn}
+use Rattle.grammar.specs.Nodes.{nodesIn}
 use Rattle.circuit.specs.Circuit.{variablesOf}
-use Rattle.clause_table.specs.Table.{placesIn, After}
+use Rattle.clauses.specs.Entries.{placesIn}
+use Rattle.clause_table.specs.Table.{After}
 use Rattle.evaluator.specs.declared.Verdict.{Verdict}
-use Rattle.search.specs.Search.{Arrays, Searched, searched}
-use Rattle.search.specs.declared.Answer.{Answer}
-use Rattle.search.specs.declared.Answer.the-variants.{Found, None, Spent, Refused}
-use Rattle.search.specs.declared.Lent.{Lent}
+use Rattle.search_answer.specs.Search.{Arrays, Searched, searched}
+use Rattle.search_answer.specs.declared.Answer.{Answer}
+use Rattle.search_answer.specs.declared.Answer.the-variants.{Found, None, Spent, Refused}
+use Rattle.search_answer.specs.declared.Lent.{Lent}
 use Rattle.starred.specs.Edges.{most, lent, edges}
 use Rattle.starred.proofs.Edges.{edges-hold}
 use Rattle.demands.specs.Demand2.{Evaluates, Tables}

@@ -10,8 +10,8 @@ use Rattle.refusal.specs.declared.Reply.the-variants.{Yes, No}
 use Rattle.interval.specs.Limits.{askSteps}
 use Rattle.grammar.specs.Trees.{Tree, Letters, textOf, Place}
 use Rattle.grammar.specs.declared.Sort.the-variants.{Formula}
-use Rattle.formula.specs.Nodes.{nodesOf}
-use Rattle.formula.specs.Questions.{askChannels, askLength, askLetters, askNumbers, askNodes}
+use Rattle.grammar.specs.Nodes.{nodesOf}
+use Rattle.grammar.specs.Questions.{askChannels, askLength, askLetters, askNumbers, askNodes}
 
 -- the text is this formula's: it "reads by the grammar, channels a to h, length, n and nodes unbounded"
 abbrev pub IsText : List ℕ → Tree Formula → Type 0

@@ -6,16 +6,16 @@ use Prim.Native.Nat.{ℕ, _*_, _≤_, _<_, min}
 use lib.ListN.{length}
 use Rattle.grammar.specs.Trees.{Tree}
 use Rattle.grammar.specs.declared.Sort.the-variants.{Formula}
-use Rattle.formula.specs.Nodes.{nodesOf}
+use Rattle.grammar.specs.Nodes.{nodesOf}
 use Rattle.circuit.specs.Circuit.{variablesOf}
 use Rattle.clauses.specs.Clauses.{clauseTable}
 use Rattle.clauses.specs.Entries.{flat}
-use Rattle.clause_table.specs.Table.{over}
+use Rattle.moments.specs.Moments.{over}
 use Rattle.closure.specs.Closure.{Literals, nothing, ClosureOf}
 use Rattle.closure.specs.Runs.{Outcome, Run}
-use Rattle.search.specs.Search.{Arrays, lentOf, askLent, Satisfies, Earliest, countIn}
-use Rattle.search.specs.declared.Answer.{Answer}
-use Rattle.search.specs.declared.Answer.the-variants.{Found, None, Spent, Refused}
+use Rattle.search_answer.specs.Search.{Arrays, lentOf, askLent, Satisfies, Earliest, countIn}
+use Rattle.search_answer.specs.declared.Answer.{Answer}
+use Rattle.search_answer.specs.declared.Answer.the-variants.{Found, None, Spent, Refused}
 use Rattle.demands.specs.Calls.{Obeys}
 
 -- N, "the number of tries until found, or until the whole tree is dead": "start from the closure of nothing"

@@ -3,7 +3,7 @@
 // how many bytes it writes, and whether the rest of its array is as it was. Then searches, in arrays of 255 before.
 use file_line::FILE_BYTES;
 use refusal::Reply;
-use search::Answer;
+use search_answer::Answer;
 
 fn put(bytes: &[u8]) {
     io::write_all(1, bytes);

@@ -1,35 +1,18 @@
 -- Document 01, "Meaning" and "Questions in order", 9 to 11: what evaluation answers for any [i, j] of a recording.
-use mathlib.Core.Bool.{Bool, true, false, cond}
+use mathlib.Core.Bool.{Bool, true, false}
 use mathlib.Core.List.{List, [], _∷_, _++_}
-use Prim.Native.Nat.{ℕ, suc, _^_}
-use lib.Dec.{eqb, ltb}
-use lib.ListN.{length}
-use Rattle.refusal.specs.Asked.{question, asked}
+use Prim.Native.Nat.{ℕ}
+use Rattle.refusal.specs.Asked.{asked}
 use Rattle.refusal.specs.declared.Reply.{Reply}
 use Rattle.interval.specs.Limits.{askInterval}
 use Rattle.interval.specs.declared.Interval.{Interval}
 use Rattle.grammar.specs.Reader.{Read, parsed, stopped, read}
 use Rattle.grammar.specs.declared.Sort.the-variants.{Formula}
-use Rattle.formula.specs.Questions.{atFirst, formulaQuestions}
+use Rattle.grammar.specs.Questions.{formulaQuestions}
 use Rattle.meaning.specs.Meaning.{holds}
+use Rattle.meaning.specs.Recording.{askRecording, askBytes}
 use Rattle.evaluator.specs.declared.Verdict.{Verdict}
 use Rattle.evaluator.specs.declared.Verdict.the-variants.{No, Yes, Refused}
-
--- question 10: has the recording k bytes?
-unfoldable pub askRecording : ℕ → List ℕ → Reply
-askRecording k recording = question 10 0 (eqb (length recording) k)
-
--- is each byte below a number? Its place: first that isn't, the bytes being those from place t on.
-unfoldable pub notBelow : ℕ → ℕ → List ℕ → List ℕ
-notBelow most t [] = []
-notBelow most t (b ∷ r) = cond (ltb b most) [] (t ∷ []) ++ notBelow most (suc t) r
-
-unfoldable pub askBelow : ℕ → ℕ → List ℕ → Reply
-askBelow number most bytes = atFirst number (notBelow most 0 bytes)
-
--- question 11: is each below 2^C?
-abbrev pub askBytes : ℕ → List ℕ → Reply
-askBytes C recording = askBelow 11 (2 ^ C) recording
 
 -- "evaluation [asks] 1 to 7 and 9 to 11"
 abbrev pub recordingQuestions : ℕ → ℕ → ℕ → ℕ → List ℕ → List Reply

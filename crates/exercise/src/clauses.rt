@@ -2,8 +2,8 @@
 use crate::print::put;
 use crate::print::put_number;
 use crate::words;
-use clause_table::Written;
 use file_line::MAX_LITERALS;
+use refusal::Written;
 ghost use Prim.Native.Nat.{_≤_};
 ghost use lib.ListN.{length, getD};
 

@@ -5,7 +5,7 @@ use crate::print::put_number;
 use crate::words;
 use interval::Interval;
 use refusal::Refusal;
-use search::Answer;
+use search_answer::Answer;
 
 // Room for a clause table of so many literals, and for so many variables: a formula whose table has no more literals has no more of these.
 const LITERALS: usize = 524288;

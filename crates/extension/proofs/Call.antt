@@ -1,7 +1,7 @@
 -- The sizes are the sums along the node table, so question 18 is asked of the true V; then the channels' values and the nodes' are
 -- written over the lent assignment. A call ends as its questions say, in their order.
-use mathlib.Core.Path.{_≡_, refl, sym, ap, _∙_}
-use mathlib.Core.List.{List, [], _∷_, _++_, map}
+use mathlib.Core.Path.{_≡_, refl, sym, ap, ap₂, _∙_}
+use mathlib.Core.List.{List, [], _∷_, _++_}
 use Prim.Native.Nat.{ℕ, _+_, _*_, _≤_}
 use native.Mathlib.Omega.{arith}
 use lib.Dec.{leb}
@@ -12,32 +12,30 @@ use Rattle.refusal.specs.Asked.{question, asked}
 use Rattle.refusal.specs.declared.Refusal.{Refusal}
 use Rattle.refusal.specs.declared.Reply.{Reply}
 use Rattle.refusal.specs.declared.Reply.the-variants.{Yes, No}
-use Rattle.refusal.proofs.Laws.{asked-append, replied-yes, replied-no}
+use Rattle.refusal.proofs.Laws.{test-yes}
+use Rattle.grammar.specs.Limits.{maxChannels}
 use Rattle.grammar.specs.Trees.{Tree}
+use Rattle.grammar.specs.Reader.{Read, parsed, read}
 use Rattle.grammar.specs.declared.Sort.the-variants.{Formula}
-use Rattle.grammar.proofs.Laws.{prints-as-text}
-use Rattle.formula.specs.Nodes.{Node, nodesOf, nodesIn}
-use Rattle.formula.specs.Questions.{formulaQuestions, acceptOf}
-use Rattle.formula.proofs.Asked.{test-yes}
-use Rattle.formula.proofs.Laws.{accepted, nodes-read}
-use Rattle.rows.specs.Table.{rowOf, tableOf}
+use Rattle.grammar.specs.Nodes.{nodesOf, nodesIn, nodesRead}
 use Rattle.rows.specs.declared.NodeTable.{NodeTable}
 use Rattle.nodes.specs.Calls.{tabledOf}
+use Rattle.nodes.specs.Rows.{TableFor}
 use Rattle.nodes.specs.declared.Tabled.{Tabled}
-use Rattle.nodes.proofs.Laws.{accepts, table-is}
-use Rattle.evaluator.specs.Evaluation.{askRecording, askBytes}
+use Rattle.meaning.specs.Recording.{askRecording, askBytes}
+use Rattle.nodes.proofs.Called as first
 use Rattle.circuit.specs.Circuit.{variablesOf}
 use Rattle.literals.proofs.Written.{sets-append}
-use Rattle.clause_table.specs.Table.{over}
-use Rattle.clause_table.specs.Rows.{Measured}
-use Rattle.clause_table.specs.declared.Sizes.{Sizes}
-use Rattle.clause_table.specs.declared.Written.the-variants.{Done}
-use Rattle.clause_table.proofs.Measure.{stored-over}
-use Rattle.clause_table.proofs.Call.{variables-known}
+use Rattle.moments.specs.Moments.{over}
+use Rattle.table_layout.specs.declared.Sizes.{Sizes}
+use Rattle.refusal.specs.declared.Written.the-variants.{Done}
+use Rattle.table_layout.specs.Rows.{Measured}
+use Rattle.clause_table.proofs.Stored.{stored-over}
+use Rattle.table_layout.proofs.Known.{variables-known}
 use Rattle.assignments.specs.Extension.{channelValues, nodeValues, extensionOf}
 use Rattle.assignments.specs.Calls.{askPlaces, Extended, notExtended, extended}
 use Rattle.assignments.proofs.Values.{channels-length, extension-length}
-use Rattle.extension.specs.Rows.{Seated, NodesIn, NodesPut, extendedBy, Extends}
+use Rattle.extension.specs.Rows.{Seated, NodesPut, extendedBy, Extends}
 
 -- question 18, answered with yes
 pub places-enough : (n places : ℕ) → question 18 0 (leb n places) ≡ Yes → n ≤ places
@@ -48,17 +46,19 @@ pub seated : {C k : ℕ} {T : NodeTable} {F : List ℕ} {s : Sizes} → Measured
 seated w = record { first = w .first; ends = w .variables }
 
 -- the channels' variables are among all
-pub channels-fit : {C k : ℕ} {kinds numbers : List ℕ} {n : ℕ} {F : List ℕ} {s : Sizes} → Measured C k kinds numbers n F s → (A : List ℕ) → question 18 0 (leb (s .variables) (length A)) ≡ Yes → k * C ≤ length A
+pub channels-fit : {C k : ℕ} {kinds numbers : List ℕ} {n : ℕ} {F : List ℕ} {s : Sizes} → Measured C k kinds numbers n F s → (A : List ℕ) →
+    question 18 0 (leb (s .variables) (length A)) ≡ Yes → k * C ≤ length A
 channels-fit {s = s} w A q = omega (arith, w .variables, places-enough (s .variables) (length A) q)
 
 -- with the channels' values back in their place it is as long as it was
-pub channels-back : (C k : ℕ) (recording A : List ℕ) {out : List ℕ} → out ≡ channelValues C (length recording) recording → length recording ≡ k → k * C ≤ length A → length (out ++ drop (k * C) A) ≡ length A
+pub channels-back : (C k : ℕ) (recording A : List ℕ) {out : List ℕ} → out ≡ channelValues C (length recording) recording →
+    length recording ≡ k → k * C ≤ length A → length (out ++ drop (k * C) A) ≡ length A
 channels-back C k recording A {out} o l h =
     length-append out (drop (k * C) A) ∙ omega (arith, length-drop (k * C) A, ap length o, channels-length C (length recording) recording, ap (λ (k : ℕ). k * C) l)
 
 -- ---- an accepted formula's node table
 
-module _ (C k : ℕ) (f : Tree Formula) {T : NodeTable} (t : NodesIn f T) {F : List ℕ} {s : Sizes} (w : Measured C k (T .kinds) (T .numbers) (T .count) F s)
+module _ (C k : ℕ) (f : Tree Formula) {T : NodeTable} (t : TableFor maxChannels f T) {F : List ℕ} {s : Sizes} (w : Measured C k (T .kinds) (T .numbers) (T .count) F s)
     (recording A : List ℕ) where
   question-known : question 18 0 (leb (s .variables) (length A)) ≡ askPlaces (variablesOf C k (nodesOf f 0)) (length A)
   unfolding askPlaces
@@ -71,7 +71,8 @@ module _ (C k : ℕ) (f : Tree Formula) {T : NodeTable} (t : NodesIn f T) {F : L
   unfolding extendedBy
   refused-known r q = ap (λ (a : Reply). asked (a ∷ []) (notExtended A) done) (sym q ∙ question-known)
 
-  pub written-known : question 18 0 (leb (s .variables) (length A)) ≡ Yes → {out A′ A″ : List ℕ} → length recording ≡ k → out ≡ channelValues C (length recording) recording → A′ ≡ out ++ drop (k * C) A
+  pub written-known : question 18 0 (leb (s .variables) (length A)) ≡ Yes → {out A′ A″ : List ℕ} → length recording ≡ k →
+      out ≡ channelValues C (length recording) recording → A′ ≡ out ++ drop (k * C) A
       → NodesPut k recording T F (s .variables) A′ A″ → record { answer = Done; assignment = A″ } ≡ extendedBy C k f recording A
   unfolding extendedBy extensionOf
   written-known q {out} {A′} {A″} l o p c =
@@ -80,55 +81,44 @@ module _ (C k : ℕ) (f : Tree Formula) {T : NodeTable} (t : NodesIn f T) {F : L
       let n = channels-length C k recording in
       let enough = places-enough (s .variables) (length A) q in
       let many = extension-length C k recording (nodesOf f 0) in
-      let first : A′ ≡ sets A 0 channels =
+      let begun : A′ ≡ sets A 0 channels =
       p ∙ ap (λ (B : List ℕ). B ++ drop (k * C) A) (o ∙ ap (λ (k : ℕ). channelValues C k recording) l)
       ∙ sym (stored-over channels A refl (omega (arith, n, enough, w .variables)) ∙ ap (λ (i : ℕ). channels ++ drop i A) n) in
       let next : 0 + length channels ≡ k * C = omega (arith, n) in
       let all : A″ ≡ sets A 0 (channels ++ nodes) =
-      c C f (seated w) t ∙ ap (λ (B : List ℕ). sets B (k * C) nodes) first ∙ sym (sets-append A 0 channels nodes ∙ ap (λ (i : ℕ). sets (sets A 0 channels) i nodes) next) in
+      c C f (seated w) t ∙ ap (λ (B : List ℕ). sets B (k * C) nodes) begun ∙ sym (sets-append A 0 channels nodes ∙ ap (λ (i : ℕ). sets (sets A 0 channels) i nodes) next) in
       ap (λ (B : List ℕ). record { answer = Done; assignment = B }) (stored-over (channels ++ nodes) A all (omega (arith, many, enough, variables-known C k f (t .is) w)))
       ∙ ap (λ (a : Reply). asked (a ∷ []) (notExtended A) done) (sym q ∙ question-known)
 
 -- ---- the whole call
 
-module _ (C k : ℕ) (t recording A : List ℕ) where
-  abbrev answer : Extended
-  answer = record { answer = Done; assignment = over (extensionOf C k recording (nodesIn t)) A }
+module _ (C k : ℕ) (t : List ℕ) (T : Tabled) (e : T ≡ tabledOf C k t) (recording A : List ℕ) where
+  abbrev answer : Read Formula → Extended
+  answer f = record { answer = Done; assignment = over (extensionOf C k recording (nodesRead f)) A }
 
-  abbrev later : List Reply
-  later = askRecording k recording ∷ askBytes C recording ∷ askPlaces (variablesOf C k (nodesIn t)) (length A) ∷ []
+  abbrev laterBy : Reply → Reply → Read Formula → List Reply
+  laterBy p q f = p ∷ q ∷ askPlaces (variablesOf C k (nodesRead f)) (length A) ∷ []
 
-  extended-is : extended C k t recording A ≡ asked (formulaQuestions C k t) (notExtended A) (asked later (notExtended A) answer)
-  unfolding extended
-  extended-is = asked-append (notExtended A) answer (formulaQuestions C k t) later
-
-  pub refused-first : (r : Refusal) → acceptOf C k t ≡ No r → notExtended A r ≡ extended C k t recording A
-  unfolding acceptOf
-  refused-first r e = sym (extended-is ∙ replied-no (notExtended A) _ (formulaQuestions C k t) r e)
+  pub refused-first : (r : Refusal) → T .reply ≡ No r → notExtended A r ≡ extended C k t recording A
+  unfolding extended nodesIn
+  refused-first r n = first.refused-first C k t T e (notExtended A) (answer (read t)) (laterBy (askRecording k recording) (askBytes C recording) (read t)) n
 
   -- once the formula is accepted
-  module _ (T : Tabled) (e : T ≡ tabledOf C k t) (y : T .reply ≡ Yes) where
-    extended-later : extended C k t recording A ≡ asked later (notExtended A) answer
-    unfolding acceptOf
-    extended-later = extended-is ∙ replied-yes (notExtended A) _ (formulaQuestions C k t) (accepts C k t T e y)
+  module _ (y : T .reply ≡ Yes) where
+    recording-asked : {p q : Reply} → askRecording k recording ≡ p → askBytes C recording ≡ q → {a : Extended}
+        → ((f : Tree Formula) → TableFor maxChannels f (T .table) → a ≡ asked (laterBy p q (parsed f)) (notExtended A) (answer (parsed f))) → a ≡ extended C k t recording A
+    unfolding extended nodesIn
+    recording-asked u v g =
+        first.called C k t T e y (notExtended A) answer (laterBy (askRecording k recording) (askBytes C recording))
+        (λ f n. g f n ∙ ap₂ (λ (p q : Reply). asked (laterBy p q (parsed f)) (notExtended A) (answer (parsed f))) (sym u) (sym v))
 
     pub refused-recording : (r : Refusal) → askRecording k recording ≡ No r → notExtended A r ≡ extended C k t recording A
-    refused-recording r q = sym (extended-later ∙ ap (λ (a : Reply). asked (a ∷ askBytes C recording ∷ askPlaces (variablesOf C k (nodesIn t)) (length A) ∷ []) (notExtended A) answer) q)
+    refused-recording r p = recording-asked p refl (λ f n. refl)
 
     module _ (p : askRecording k recording ≡ Yes) where
-      extended-bytes : (b : Reply) → askBytes C recording ≡ b → extended C k t recording A ≡ asked (b ∷ askPlaces (variablesOf C k (nodesIn t)) (length A) ∷ []) (notExtended A) answer
-      extended-bytes b q =
-          extended-later
-          ∙ ap (λ (a : Reply). asked (a ∷ askBytes C recording ∷ askPlaces (variablesOf C k (nodesIn t)) (length A) ∷ []) (notExtended A) answer) p
-          ∙ ap (λ (b : Reply). asked (b ∷ askPlaces (variablesOf C k (nodesIn t)) (length A) ∷ []) (notExtended A) answer) q
-
       pub refused-bytes : (r : Refusal) → askBytes C recording ≡ No r → notExtended A r ≡ extended C k t recording A
-      refused-bytes r q = sym (extended-bytes (No r) q)
+      refused-bytes r q = recording-asked p q (λ f n. refl)
 
       pub called : askBytes C recording ≡ Yes → {a : Extended} → Extends (T .table) C k recording A a → a ≡ extended C k t recording A
       unfolding extendedBy
-      called q g =
-          let a = accepted C k t (accepts C k t T e y) in
-          let n = nodes-read t (a .root) (a .reads) in
-          g (a .root) (record { letters = prints-as-text t (a .root) (a .reads) .0; is = table-is C k t T e y ∙ ap (λ (l : List Node). tableOf (map rowOf l)) n })
-          ∙ sym (extended-bytes Yes q ∙ ap (λ (l : List Node). asked (askPlaces (variablesOf C k l) (length A) ∷ []) (notExtended A) (record { answer = Done; assignment = over (extensionOf C k recording l) A })) n)
+      called q g = recording-asked p q g

@@ -6,15 +6,15 @@ use lib.ListN.{length, getD}
 use lib.Seq.{sets}
 use Rattle.refusal.specs.Asked.{asked}
 use Rattle.grammar.specs.Limits.{maxChannels}
-use Rattle.grammar.specs.Trees.{Tree, Letters}
+use Rattle.grammar.specs.Trees.{Tree}
 use Rattle.grammar.specs.declared.Sort.the-variants.{Formula}
-use Rattle.formula.specs.Nodes.{nodesOf}
+use Rattle.grammar.specs.Nodes.{nodesOf}
 use Rattle.rows.specs.declared.NodeTable.{NodeTable}
-use Rattle.clause_table.specs.Rows.{nodeTableOf}
+use Rattle.nodes.specs.Rows.{TableFor}
 use Rattle.circuit.specs.Circuit.{variablesOf}
 use Rattle.weights.specs.Weights.{variableWeight, weightTo}
-use Rattle.clause_table.specs.Table.{over}
-use Rattle.clause_table.specs.declared.Written.the-variants.{Done}
+use Rattle.moments.specs.Moments.{over}
+use Rattle.refusal.specs.declared.Written.the-variants.{Done}
 use Rattle.assignments.specs.Extension.{nodeValues, extensionOf}
 use Rattle.assignments.specs.Calls.{askPlaces, Extended, notExtended}
 
@@ -23,15 +23,10 @@ pub record Seated (C k : ℕ) (T : NodeTable) (firsts : List ℕ) (last : ℕ) :
   pub first : (y : ℕ) → y < T .count → getD firsts y 0 ≡ 1 + k * C + weightTo variableWeight k (T .kinds) (T .numbers) y
   pub ends : last ≡ k * C + weightTo variableWeight k (T .kinds) (T .numbers) (T .count)
 
--- the node table is a formula's
-pub record NodesIn (f : Tree Formula) (T : NodeTable) : Type 0 where
-  pub letters : Letters maxChannels f
-  pub is : T ≡ nodeTableOf f
-
 -- an assignment before and after the values of all nodes are stored in their places
 abbrev pub NodesPut : ℕ → List ℕ → NodeTable → List ℕ → ℕ → List ℕ → List ℕ → Type 0
 NodesPut k recording T firsts last A A′ =
-    (C : ℕ) (f : Tree Formula) → Seated C k T firsts last → NodesIn f T → A′ ≡ sets A (k * C) (nodeValues k recording (nodesOf f 0))
+    (C : ℕ) (f : Tree Formula) → Seated C k T firsts last → TableFor maxChannels f T → A′ ≡ sets A (k * C) (nodeValues k recording (nodesOf f 0))
 
 -- what the call does once the formula and the recording are accepted
 unfoldable pub extendedBy : ℕ → ℕ → Tree Formula → List ℕ → List ℕ → Extended
@@ -41,4 +36,4 @@ extendedBy C k f recording assignment =
 
 -- the same by the formula's node table
 abbrev pub Extends : NodeTable → ℕ → ℕ → List ℕ → List ℕ → Extended → Type 0
-Extends T C k recording assignment e = (f : Tree Formula) → NodesIn f T → e ≡ extendedBy C k f recording assignment
+Extends T C k recording assignment e = (f : Tree Formula) → TableFor maxChannels f T → e ≡ extendedBy C k f recording assignment

@@ -1,8 +1,8 @@
 // The assignment that extends a recording: the channels, then a block for each node, the last node's first, since a node goes by its
 // parts and these stand after it.
-use clause_table::Written;
 use grammar::MAX_NODES;
 use refusal::Reply;
+use refusal::Written;
 use rows::NodeTable;
 ghost use mathlib.Core.Path.{_≡_};
 ghost use Prim.Native.Nat.{ℕ, _≤_};
@@ -10,7 +10,7 @@ ghost use lib.ListN.{length};
 ghost use Rattle.moments.specs.Moments.{old, new};
 ghost use Rattle.interval.specs.Limits.{maxSteps};
 ghost use Rattle.grammar.specs.Limits.{maxNodes, maxChannels};
-ghost use Rattle.clause_table.specs.Rows.{Low};
+ghost use Rattle.table_layout.specs.Rows.{Low};
 ghost use Rattle.assignments.specs.Calls.{extended};
 ghost use Rattle.extension.specs.Rows.{Seated, NodesPut, Extends};
 
@@ -31,7 +31,7 @@ fn put_nodes(
     let mut end = last;
     while x > 0 {
         x -= 1;
-        let block = clause_table::block_at(
+        let block = table_layout::block_at(
             &table.kinds,
             &table.numbers,
             &table.sizes,
@@ -55,7 +55,7 @@ fn write_extension(
     requires { ⌜ (c ≤ maxChannels) × (k ≤ maxSteps) × (table .count ≤ maxNodes) × (length (now recording) ≡ k) ⌝ }
     ensures { λ r. ⌜ Extends table c k (old recording) (old assignment) (record { answer = r; assignment = new assignment }) ⌝ }
 {
-    let layout = clause_table::layout_of(table, c, k);
+    let layout = table_layout::layout_of(table, c, k);
     let s = layout.sizes;
     if let Reply::No(r) = refusal::ask(18, s.variables as usize <= assignment.len()) {
         return Written::Refused(r);
@@ -82,10 +82,10 @@ pub fn extend(text: &[u8], c: u32, k: u32, recording: &[u8], assignment: &mut [u
     if let Reply::No(r) = reply {
         return Written::Refused(r);
     }
-    if let Reply::No(r) = evaluator::ask_recording(k, recording) {
+    if let Reply::No(r) = recording_questions::ask_recording(k, recording) {
         return Written::Refused(r);
     }
-    if let Reply::No(r) = evaluator::ask_bytes(c, recording) {
+    if let Reply::No(r) = recording_questions::ask_bytes(c, recording) {
         return Written::Refused(r);
     }
     let table = tabled.table;

@@ -5,7 +5,7 @@ use mathlib.Core.Logic.{_⊎_, inl, inr, ⊎-elim}
 use mathlib.Core.List.{List, [], _∷_, _++_}
 use Prim.Native.Nat.{ℕ, suc, _+_, _-_, _≤_, _<_}
 use native.Mathlib.Omega.{arith}
-use Rattle.interval.specs.Listing.{rows, sum}
+use Rattle.lists.specs.Listing.{rows, sum}
 use Rattle.interval.specs.Places.{countOf, tripleCountOf, placeOf, triplePlaceOf}
 use Rattle.interval.specs.Limits.{TripleOf}
 use Rattle.interval.specs.declared.Triple.{Triple}
@@ -14,7 +14,7 @@ use Rattle.interval.proofs.Counts.{intervals-count, triples-count}
 use Rattle.interval.proofs.Laws.{intervals-numbered, triples-numbered, triples-in-a-row}
 use Rattle.circuit.specs.declared.Gate.the-variants.{AnyOf}
 use Rattle.circuit.proofs.Blocks.{From}
-use Rattle.circuit.proofs.Lists.{all-rows}
+use Rattle.lists.proofs.Lists.{all-rows}
 use Rattle.blocks.specs.Blocks.{shapeOf, definedBy}
 use Rattle.blocks.specs.declared.Block.{Block}
 use Rattle.blocks.specs.declared.Rule.{Rule}
@@ -86,7 +86,9 @@ module _ (C k u : ℕ) (b : Block) (j : Apart k b Chop) where
   in-intervals : {W : List Clause} → u < w → Suffices (clausesBy (definedBy C k I)) u W → Suffices node u W
   in-intervals {W} l e = record {
     part = part-right (definedBy C k T) (definedBy C k I) W (e .part);
-    covers = covers-join (definedBy C k T) (definedBy C k I) (covers-none W (unnamed C k u T (λ m. omega (arith, l, m)) (⊎-elim (λ m. omega (arith, l, m, j)) (λ m. omega (arith, l, m, j))))) (e .covers);
+    covers =
+        covers-join (definedBy C k T) (definedBy C k I)
+        (covers-none W (unnamed C k u T (λ m. omega (arith, l, m)) (⊎-elim (λ m. omega (arith, l, m, j)) (λ m. omega (arith, l, m, j))))) (e .covers);
   }
 
   -- the chop on the interval in place x
@@ -108,7 +110,8 @@ module _ (C k u : ℕ) (b : Block) (j : Apart k b Chop) where
       below : placeOf k (record { i = i; j = m }) < countOf k
       below = intervals-numbered k .below (record { i = i; j = m }) (record { starts = o; ends = q })
 
-      hit : (a c d : ℕ) → Inside (shapeOf (b .points) k Cut) (a, (c, d)) → At C k u T (a, (c, d)) → Hit (suc (k - m)) (λ c. triplePlaceOf k (record { i = i; m = m; j = m + c })) (place (shapeOf (b .points) k Cut) (a, (c, d)))
+      hit : (a c d : ℕ) → Inside (shapeOf (b .points) k Cut) (a, (c, d)) → At C k u T (a, (c, d)) →
+          Hit (suc (k - m)) (λ c. triplePlaceOf k (record { i = i; m = m; j = m + c })) (place (shapeOf (b .points) k Cut) (a, (c, d)))
       hit a c d h (inl f) = absurd (omega (arith, e, f, j, triples, place-lt (shapeOf (b .points) k Cut) (a, (c, d)) h))
       hit a c d h (inr (inl f)) =
           let w = one-interval k a (a + d) i m (omega arith) (omega (arith, h .1)) o q (omega (arith, e, f)) in
@@ -121,7 +124,8 @@ module _ (C k u : ℕ) (b : Block) (j : Apart k b Chop) where
       (λ c l. omega (arith, triples, triples-numbered k .below (record { i = c; m = m; j = i }) (record { starts = omega (arith, l); cut = o; ends = q })))
       (λ y h f. hit (y .0) (y .1 .0) (y .1 .1) h f))
     where
-      hit : (a c d : ℕ) → Inside (shapeOf (b .points) k Cut) (a, (c, d)) → At C k u T (a, (c, d)) → Hit (suc m) (λ c. triplePlaceOf k (record { i = c; m = m; j = i })) (place (shapeOf (b .points) k Cut) (a, (c, d)))
+      hit : (a c d : ℕ) → Inside (shapeOf (b .points) k Cut) (a, (c, d)) → At C k u T (a, (c, d)) →
+          Hit (suc m) (λ c. triplePlaceOf k (record { i = c; m = m; j = i })) (place (shapeOf (b .points) k Cut) (a, (c, d)))
       hit a c d h (inl f) = absurd (omega (arith, e, f, j, triples, place-lt (shapeOf (b .points) k Cut) (a, (c, d)) h))
       hit a c d h (inr (inl f)) = absurd (omega (arith, e, f, j, left-lt a c d h))
       hit a c d h (inr (inr f)) =
@@ -207,8 +211,10 @@ module _ (C k u : ℕ) (b : Block) (e : b .rule ≡ Chop) (j : Laid C k b) where
   pub triple-suffices : (t : Triple) → TripleOf k t → u ≡ b .first + countOf k + triplePlaceOf k t → Suffices (nodeClauses C k b) u (tripleClauses C k b t)
   triple-suffices t o f = by-rule _ (λ a. triple-node C k u b a t o f)
 
-  pub first-suffices : (i m : ℕ) → i ≤ m → m ≤ k → u ≡ b .left + placeOf k (record { i = i; j = m }) → Suffices (nodeClauses C k b) u (firstClauses C k (tripleBlock (b .first + countOf k) b) i m)
+  pub first-suffices : (i m : ℕ) → i ≤ m → m ≤ k → u ≡ b .left + placeOf k (record { i = i; j = m }) →
+      Suffices (nodeClauses C k b) u (firstClauses C k (tripleBlock (b .first + countOf k) b) i m)
   first-suffices i m o q f = by-rule _ (λ a. first-node C k u b a i m o q f)
 
-  pub second-suffices : (m i : ℕ) → m ≤ i → i ≤ k → u ≡ b .right + placeOf k (record { i = m; j = i }) → Suffices (nodeClauses C k b) u (secondClauses C k (tripleBlock (b .first + countOf k) b) m i)
+  pub second-suffices : (m i : ℕ) → m ≤ i → i ≤ k → u ≡ b .right + placeOf k (record { i = m; j = i }) →
+      Suffices (nodeClauses C k b) u (secondClauses C k (tripleBlock (b .first + countOf k) b) m i)
   second-suffices m i o q f = by-rule _ (λ a. second-node C k u b a m i o q f)

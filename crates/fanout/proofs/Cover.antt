@@ -6,11 +6,10 @@ use mathlib.Core.List.{List, [], _∷_, _++_, flatMap}
 use Prim.Native.Nat.{ℕ, zero, suc, _<_}
 use native.Mathlib.Omega.{arith}
 use lib.ListN.{length}
-use Rattle.interval.specs.Listing.{rows, All}
-use Rattle.interval.proofs.Listing.{below-suc}
-use Rattle.formula.proofs.Lists.{all-map, all-append}
+use Rattle.lists.specs.Listing.{rows, All}
+use Rattle.lists.proofs.Listing.{below-suc, rows-rest}
+use Rattle.lists.proofs.Lists.{all-map, all-append, all-split, all-rows}
 use Rattle.circuit.specs.Circuit.{Definition}
-use Rattle.circuit.proofs.Lists.{all-split, all-rows}
 use Rattle.clauses.specs.Clauses.{Clause, clausesBy}
 use Rattle.closure.specs.Closure.{Literals, membersIn}
 use Rattle.closure.specs.Runs.{clashes}
@@ -22,7 +21,6 @@ use Rattle.closing.proofs.Trail.{grown-more, grown-length}
 use Rattle.node_clauses.proofs.Nodes.{clauses-join}
 use Rattle.visits.specs.Visits.{Due, Visited}
 use Rattle.visits.proofs.Parts.{visited-none, Part, part-first, part-next, part-same, part-clash, closed-join, due-still, due-before, grown-below}
-use Rattle.visits.proofs.Loops.{rows-rest}
 use Rattle.sweeps.specs.Sweeps.{clausesAt}
 use Rattle.sweeps.proofs.Walk.{by-rows}
 use Rattle.fanout.specs.Fanout.{Names, DueAt, Reached}
@@ -107,7 +105,8 @@ due-all : (R S : Literals) (W : List Clause) → Due R S W → All (DueAt R S) W
 due-all R S [] d = tt
 due-all R S (c ∷ W) d = (d .0, due-all R S W (d .1))
 
-pub reached : {T W : List Clause} {u : ℕ} {v₀ t₀ values trail : List ℕ} {top₀ : ℕ} {r : Ended} → Suffices T u W → Visited W v₀ t₀ top₀ values trail r → Reached T u v₀ t₀ top₀ values trail r
+pub reached : {T W : List Clause} {u : ℕ} {v₀ t₀ values trail : List ℕ} {top₀ : ℕ} {r : Ended} → Suffices T u W →
+    Visited W v₀ t₀ top₀ values trail r → Reached T u v₀ t₀ top₀ values trail r
 reached {T} {W} {v₀ = v₀} {values = values} k w = record {
   grown = w .grown;
   same = part-same W T (k .part) _ _ (w .same);
@@ -125,6 +124,11 @@ suffices-none {T} n = record { part = part-none T; covers = covers-none [] n }
 pub unread : {T : List Clause} {u : ℕ} {values trail : List ℕ} {top : ℕ} → Unnamed T u → Trailing values trail top
     → Reached T u values trail top values trail (record { clash = false; top = top })
 unread n t = reached (suffices-none n) (visited-none t)
+
+-- reached for a variable by another name
+pub reached-there : {T : List Clause} {u x : ℕ} {v₀ t₀ values trail : List ℕ} {top₀ : ℕ} {r : Ended} → u ≡ x →
+    Reached T u v₀ t₀ top₀ values trail r → Reached T x v₀ t₀ top₀ values trail r
+reached-there {T} {v₀ = v₀} {t₀} {values} {trail} {top₀} {r} e w = subst (λ (u : ℕ). Reached T u v₀ t₀ top₀ values trail r) e w
 
 module _ {u : ℕ} {A : List Clause} {v₀ t₀ v₁ t₁ : List ℕ} {top₀ : ℕ} {r : Ended} (w : Reached A u v₀ t₀ top₀ v₁ t₁ r) (B : List Clause) where
   pub reached-stop : r .clash ≡ true → Reached (A ++ B) u v₀ t₀ top₀ v₁ t₁ r

@@ -3,18 +3,18 @@
 use mathlib.Core.Path.{_≡_, sym, ap, _∙_, subst}
 use mathlib.Core.Bool.{false}
 use mathlib.Core.List.{List, [], _∷_}
-use Prim.Native.Nat.{ℕ, zero, suc, _+_, _*_, _≤_, _<_}
-use native.Mathlib.Nat.{suc-mul, zero-mul}
+use Prim.Native.Nat.{ℕ, suc, _+_, _*_, _≤_, _<_}
 use native.Mathlib.Omega.{arith}
 use lib.ListN.{getD}
-use Rattle.interval.specs.Listing.{rows, sum, All}
+use Rattle.lists.specs.Listing.{rows, sum, All}
 use Rattle.interval.specs.Places.{countOf, placeOf, triplePlaceOf}
 use Rattle.interval.specs.declared.Interval.{Interval}
 use Rattle.interval.specs.declared.Triple.{Triple}
 use Rattle.interval.proofs.Shape.{Shape, Entry, Inside, count, place, per, intervals, Numbered, getD-per}
 use Rattle.interval.proofs.Counts.{intervals-count}
 use Rattle.interval.proofs.Laws.{intervals-numbered, triples-numbered, interval-entry, triple-entry}
-use Rattle.formula.proofs.Lists.{all-map}
+use Rattle.lists.proofs.Lists.{all-map}
+use Rattle.lists.proofs.Listing.{sum-alike}
 use Rattle.circuit.specs.Circuit.{Definition, define}
 use Rattle.circuit.specs.declared.Gate.{Gate}
 use Rattle.circuit.specs.declared.Gate.the-variants.{Constant}
@@ -57,23 +57,23 @@ module _ (k : ℕ) where
   pub one-triple : (i m j x y z : ℕ) → i ≤ m → m ≤ j → j ≤ k → x ≤ y → y ≤ z → z ≤ k
       → triplePlaceOf k (record { i = i; m = m; j = j }) ≡ triplePlaceOf k (record { i = x; m = y; j = z }) → (i ≡ x) × (m ≡ y) × (j ≡ z)
   one-triple i m j x y z a b c d f g e =
-      let s = injective (triples-numbered k) (record { i = i; m = m; j = j }) (record { i = x; m = y; j = z }) (record { starts = a; cut = b; ends = c }) (record { starts = d; cut = f; ends = g }) e in
+      let s = injective (triples-numbered k) (record { i = i; m = m; j = j }) (record { i = x; m = y; j = z }) (record {
+        starts = a;
+        cut = b;
+        ends = c;
+      }) (record { starts = d; cut = f; ends = g }) e in
       (ap (λ (v : Triple). v .i) s, ap (λ (v : Triple). v .m) s, ap (λ (v : Triple). v .j) s)
-
-  sum-same : (c a : ℕ) → sum (λ _. c) a ≡ a * c
-  unfolding sum
-  sum-same c zero = sym (zero-mul c)
-  sum-same c (suc a) = omega (arith, sum-same c a, suc-mul a c)
 
   -- the places of the code's positions
   pub cut-place : (points a i d : ℕ) → Inside (shapeOf points k Cut) (a, (i, d)) → place (shapeOf points k Cut) (a, (i, d)) ≡ triplePlaceOf k (record { i = a; m = a + d; j = a + i })
   cut-place points a i d h = sym (triple-entry k (a, (i, d)) h .1)
 
-  pub level-place : (points n a i d : ℕ) → Inside (shapeOf points k (Duration n)) (a, (i, d)) → place (shapeOf points k (Duration n)) (a, (i, d)) ≡ a * countOf k + placeOf k (record { i = i; j = i + d })
-  level-place points n a i d h = omega (arith, sum-same (count (intervals k)) a, ap (λ c. a * c) (intervals-count k), interval-entry k (i, d) (h .1) .1)
+  pub level-place : (points n a i d : ℕ) → Inside (shapeOf points k (Duration n)) (a, (i, d)) →
+      place (shapeOf points k (Duration n)) (a, (i, d)) ≡ a * countOf k + placeOf k (record { i = i; j = i + d })
+  level-place points n a i d h = omega (arith, sum-alike (count (intervals k)) a, ap (λ c. a * c) (intervals-count k), interval-entry k (i, d) (h .1) .1)
 
   pub level-count : (points n : ℕ) → count (shapeOf points k (Duration n)) ≡ suc n * countOf k
-  level-count points n = sum-same (count (intervals k)) (suc n) ∙ ap (λ c. suc n * c) (intervals-count k)
+  level-count points n = sum-alike (count (intervals k)) (suc n) ∙ ap (λ c. suc n * c) (intervals-count k)
 
   pub chop-place : (points a i d : ℕ) → Inside (shapeOf points k Chop) (a, (i, d)) → place (shapeOf points k Chop) (a, (i, d)) ≡ placeOf k (record { i = i; j = i + d })
   unfolding sum
@@ -113,7 +113,9 @@ module _ (C k u : ℕ) (b : Block) where
   unfolding definedBy gateOf
   covered X w hits = record {
     whatever = λ Q q.
-        all-clauses (λ c. Names u c → Q c) (definedBy C k b) (all-per (λ (d : Definition). All (λ c. Names u c → Q c) (clausesOf (d .variable) (d .gate))) shape (λ x. define (b .first + place shape x) (gate x)) (λ x h.
+        all-clauses (λ c. Names u c → Q c) (definedBy C k b)
+        (all-per (λ (d : Definition). All (λ c. Names u c → Q c) (clausesOf (d .variable) (d .gate))) shape
+        (λ x. define (b .first + place shape x) (gate x)) (λ x h.
         let T = clausesOf (b .first + place shape x) (gate x) in
         pick (X (place shape x)) (Names u) Q T (all-map (λ c. Names u c → At x) (λ c. Names u c → X (place shape x)) (λ c f m. hits x h (f m)) T (named u (b .first + place shape x) (gate x)))
         (λ y. subst (All (λ c. Names u c → Q c)) (there x h) (w (place shape x) y .whatever Q q))));
@@ -136,14 +138,16 @@ module _ (C k u : ℕ) (b : Block) where
   one-place y h hits = record { part = part-place y h; covers = covered (λ p. y ≡ p) (λ p e. at-place e) hits }
 
   -- m places
-  pub some-places : (m : ℕ) (f : ℕ → ℕ) → ((e : ℕ) → e < m → f e < count shape) → ((x : Entry shape) → Inside shape x → At x → Hit m f (place shape x)) → Suffices all u (rows m (λ e. at (f e)))
+  pub some-places : (m : ℕ) (f : ℕ → ℕ) → ((e : ℕ) → e < m → f e < count shape) →
+      ((x : Entry shape) → Inside shape x → At x → Hit m f (place shape x)) → Suffices all u (rows m (λ e. at (f e)))
   some-places m f h hits = record {
     part = part-each all (λ e. at (f e)) m (λ e l. part-place (f e) (h e l));
     covers = covered (Hit m f) (λ p o. covers-row (λ e. at (f e)) m (o .0) (o .1) (at-place (o .2))) hits;
   }
 
   -- m times n places
-  pub more-places : (m n : ℕ) (f : ℕ → ℕ → ℕ) → ((i e : ℕ) → i < m → e < n → f i e < count shape) → ((x : Entry shape) → Inside shape x → At x → HitTwo m n f (place shape x))
+  pub more-places : (m n : ℕ) (f : ℕ → ℕ → ℕ) → ((i e : ℕ) → i < m → e < n → f i e < count shape) →
+      ((x : Entry shape) → Inside shape x → At x → HitTwo m n f (place shape x))
       → Suffices all u (rows m (λ i. rows n (λ e. at (f i e))))
   more-places m n f h hits = record {
     part = part-each all (λ i. rows n (λ e. at (f i e))) m (λ i l. part-each all (λ e. at (f i e)) n (λ e g. part-place (f i e) (h i e l g)));

@@ -10,7 +10,7 @@ use native.Mathlib.Omega.{arith}
 use lib.ListN.{getD}
 use mir.Val.{Fits}
 use mir.Syntax.{w32}
-use Rattle.interval.specs.Listing.{sum}
+use Rattle.lists.specs.Listing.{sum}
 use Rattle.weights.specs.Weights.{variableWeight, rowWeight, weightTo}
 use Rattle.weights.proofs.Weights.{product-fits}
 use Rattle.fanout.specs.Fanout.{InRow, Ground}

@@ -8,13 +8,12 @@ use Prim.Native.Nat.{ℕ, _+_, _<_}
 use native.Mathlib.Decide.{decLt}
 use native.Mathlib.Omega.{arith}
 use lib.ListN.{getD}
-use Rattle.interval.specs.Listing.{rows, All}
-use Rattle.formula.proofs.Lists.{all-append}
-use Rattle.circuit.proofs.Lists.{all-rows, all-split}
+use Rattle.lists.specs.Listing.{rows, All}
+use Rattle.lists.proofs.Lists.{all-append, all-rows, all-split}
 use Rattle.circuit.specs.declared.Gate.the-variants.{Constant}
 use Rattle.blocks.specs.declared.Block.{Block}
 use Rattle.clauses.specs.Clauses.{Clause, clausesOf}
-use Rattle.clause_table.specs.Rows.{seatBy}
+use Rattle.table_layout.specs.Rows.{seatBy}
 use Rattle.closing.specs.Values.{heldIn}
 use Rattle.closing.specs.declared.Closed.{Closed as Ended}
 use Rattle.visits.specs.Visits.{Visited}
@@ -32,7 +31,8 @@ record Spans (T : List Clause) (u : ℕ) (A : List Clause) : Type 1 where
   part : Part A T
   names : (Q : Clause → Type 0) → All (λ c. Names u c → Q c) A → All (λ c. Names u c → Q c) T
 
-spanned : {T A : List Clause} {u : ℕ} {v₀ t₀ values trail : List ℕ} {top₀ : ℕ} {r : Ended} → Spans T u A → Reached A u v₀ t₀ top₀ values trail r → Reached T u v₀ t₀ top₀ values trail r
+spanned : {T A : List Clause} {u : ℕ} {v₀ t₀ values trail : List ℕ} {top₀ : ℕ} {r : Ended} → Spans T u A →
+    Reached A u v₀ t₀ top₀ values trail r → Reached T u v₀ t₀ top₀ values trail r
 spanned {T} {A} {v₀ = v₀} {values = values} s w = record {
   grown = w .grown;
   same = part-same A T (s .part) _ _ (w .same);
@@ -40,7 +40,8 @@ spanned {T} {A} {v₀ = v₀} {values = values} s w = record {
   clashing = λ e. part-clash A T (s .part) _ _ (w .clashing e);
 }
 
-pub reached-named : {T P : List Clause} {u : ℕ} {v₀ t₀ values trail : List ℕ} {top₀ : ℕ} {r : Ended} → T ≡ P → Reached T u v₀ t₀ top₀ values trail r → Reached P u v₀ t₀ top₀ values trail r
+pub reached-named : {T P : List Clause} {u : ℕ} {v₀ t₀ values trail : List ℕ} {top₀ : ℕ} {r : Ended} → T ≡ P →
+    Reached T u v₀ t₀ top₀ values trail r → Reached P u v₀ t₀ top₀ values trail r
 reached-named {u = u} {v₀} {t₀} {values} {trail} {top₀} {r} e w = subst (λ (P : List Clause). Reached P u v₀ t₀ top₀ values trail r) e w
 
 -- ---- u of row z's block
@@ -114,11 +115,13 @@ module _ {C k : ℕ} {kinds numbers sizes firsts parents : List ℕ} {n : ℕ} (
     near-stop c = ⊎-elim (λ f. spanned (spans-root f) (reached-stop own root c)) (λ f. spanned (spans-part f) (reached-stop own (row g up) c)) (same z 0)
 
     -- then in its parent's row, d being its block
-    pub near-part : (z ≡ 0 → ⊥) → r .clash ≡ false → {d : Block} → d ≡ block g up → {v₂ t₂ : List ℕ} {s : Ended} → Reached (nodeClauses C k d) u v₁ t₁ (r .top) v₂ t₂ s → Reached table u v₀ t₀ top₀ v₂ t₂ s
+    pub near-part : (z ≡ 0 → ⊥) → r .clash ≡ false → {d : Block} → d ≡ block g up → {v₂ t₂ : List ℕ} {s : Ended} →
+        Reached (nodeClauses C k d) u v₁ t₁ (r .top) v₂ t₂ s → Reached table u v₀ t₀ top₀ v₂ t₂ s
     near-part f c m x = spanned (spans-part f) (reached-then own (row g up) c (reached-named (ap (nodeClauses C k) m) x))
 
     -- or at the root
-    pub near-root : {m : ℕ} → m ≡ ρ → u ≡ m → r .clash ≡ false → {v₂ t₂ : List ℕ} {s : Ended} → Visited (clausesOf m (Constant true)) v₁ t₁ (r .top) v₂ t₂ s → Reached table u v₀ t₀ top₀ v₂ t₂ s
+    pub near-root : {m : ℕ} → m ≡ ρ → u ≡ m → r .clash ≡ false → {v₂ t₂ : List ℕ} {s : Ended} →
+        Visited (clausesOf m (Constant true)) v₁ t₁ (r .top) v₂ t₂ s → Reached table u v₀ t₀ top₀ v₂ t₂ s
     near-root m f c x = spanned (spans-root (at-root (f ∙ m))) (reached-then own root c (reached (suffices-self root u) (visited-named (ap (λ (v : ℕ). clausesOf v (Constant true)) m) x)))
 
     pub near-alone : z ≡ 0 → {m : ℕ} → m ≡ ρ → (u ≡ m → ⊥) → Reached table u v₀ t₀ top₀ v₁ t₁ r

@@ -1,7 +1,7 @@
 -- A channel at instant t: a letter's gate in place t turns on its channel at instant t, and no other rule's gate on a channel. So the rows
 -- of the channel's letters, each in place t, suffice in the table.
 use mathlib.Core.Path.{_≡_, refl, sym, ap, _∙_, subst}
-use mathlib.Core.Logic.{_⊎_, ⊎-elim, by-cases}
+use mathlib.Core.Logic.{⊎-elim, by-cases}
 use mathlib.Core.Bool.{Bool, true, false, cond, false≢true}
 use mathlib.Core.List.{List, [], _++_}
 use Prim.Native.Nat.{ℕ, _+_, _*_, _≤_, _<_}
@@ -9,7 +9,7 @@ use native.Mathlib.Decide.{decLt}
 use native.Mathlib.Omega.{arith}
 use lib.ListN.{getD}
 use borrow.Author.Tests.{eqb-true, eqb-false}
-use Rattle.interval.specs.Listing.{rows, sum}
+use Rattle.lists.specs.Listing.{rows, sum}
 use Rattle.interval.proofs.Shape.{place}
 use Rattle.circuit.specs.Circuit.{channelOf}
 use Rattle.circuit.specs.declared.Gate.the-variants.{Constant}
@@ -19,7 +19,7 @@ use Rattle.blocks.specs.declared.Block.{Block}
 use Rattle.blocks.specs.declared.Rule.{Rule}
 use Rattle.blocks.specs.declared.Rule.the-variants.{Fixed, Letter, Negation, And, Or, Chop, Duration, Throughout, Cut}
 use Rattle.clauses.specs.Clauses.{Clause, clausesOf}
-use Rattle.clause_table.specs.Rows.{seatBy, blockBy}
+use Rattle.table_layout.specs.Rows.{seatBy, blockBy}
 use Rattle.closing.specs.Values.{Trailing}
 use Rattle.closing.specs.declared.Closed.{Closed as Ended}
 use Rattle.visits.specs.Visits.{Visited}
@@ -37,6 +37,18 @@ same-channel C x t c e h g f =
     by-cases (decLt x t) (λ m. absurd (omega (arith, row-lt C t x c m h)))
     (λ m. by-cases (decLt t x) (λ o. absurd (omega (arith, row-lt C x t e o g))) (λ o. let s : x ≡ t = omega arith in (s, omega (arith, f, ap (λ x. x * C) s))))
 
+-- only a letter of the channel speaks of it
+pub speaks-letter : (e : ℕ) (r : Rule) → speaks e r ≡ true → r ≡ Letter e
+speaks-letter e (Fixed v) s = absurd (false≢true s)
+speaks-letter e (Letter c) s = ap Letter (eqb-true c e s)
+speaks-letter e Negation s = absurd (false≢true s)
+speaks-letter e And s = absurd (false≢true s)
+speaks-letter e Or s = absurd (false≢true s)
+speaks-letter e Chop s = absurd (false≢true s)
+speaks-letter e (Duration n) s = absurd (false≢true s)
+speaks-letter e Throughout s = absurd (false≢true s)
+speaks-letter e Cut s = absurd (false≢true s)
+
 -- ---- a block
 
 module _ (C k u t e : ℕ) (h : t < k) (l : e < C) (f : u ≡ channelOf C t e) where
@@ -45,21 +57,13 @@ module _ (C k u t e : ℕ) (h : t < k) (l : e < C) (f : u ≡ channelOf C t e) w
 
   module _ (b : Block) (o : k * C < b .first) where
     -- a letter's block in place t
-    letter-at : (c : ℕ) → c ≡ e → Voiced C k b (Letter c) → Suffices (nodeClauses C k (ruled (Letter c) b)) u (clausesAt (definedBy C k (ruled (Letter c) b)) t)
+    letter-at : Voiced C k b (Letter e) → Suffices (nodeClauses C k (ruled (Letter e) b)) u (clausesAt (definedBy C k (ruled (Letter e) b)) t)
     unfolding sum
-    letter-at c s v = one-place C k u (ruled (Letter c) b) t (omega (arith, h, v .1))
-        (λ y i. ⊎-elim (λ m. absurd (omega (arith, m, o, low))) (λ m. sym (same-channel C (place (shapeOf (b .points) k (Letter c)) y) t c e (v .0) l (sym m ∙ f) .0)))
+    letter-at v = one-place C k u (ruled (Letter e) b) t (omega (arith, h, v .1))
+        (λ y i. ⊎-elim (λ m. absurd (omega (arith, m, o, low))) (λ m. sym (same-channel C (place (shapeOf (b .points) k (Letter e)) y) t e e (v .0) l (sym m ∙ f) .0)))
 
     spoken : (q : Rule) → speaks e q ≡ true → Voiced C k b q → Suffices (nodeClauses C k (ruled q b)) u (clausesAt (definedBy C k (ruled q b)) t)
-    spoken (Fixed v) s p = absurd (false≢true s)
-    spoken (Letter c) s p = letter-at c (eqb-true c e s) p
-    spoken Negation s p = absurd (false≢true s)
-    spoken And s p = absurd (false≢true s)
-    spoken Or s p = absurd (false≢true s)
-    spoken Chop s p = absurd (false≢true s)
-    spoken (Duration n) s p = absurd (false≢true s)
-    spoken Throughout s p = absurd (false≢true s)
-    spoken Cut s p = absurd (false≢true s)
+    spoken q s = subst (λ (q : Rule). Voiced C k b q → Suffices (nodeClauses C k (ruled q b)) u (clausesAt (definedBy C k (ruled q b)) t)) (sym (speaks-letter e q s)) letter-at
 
     -- no input of another's
     unspoken : (q : Rule) → speaks e q ≡ false → Voiced C k b q → Apart k b q → Outer C k b u q → ⊥
@@ -118,7 +122,8 @@ module _ (C k : ℕ) (kinds numbers sizes firsts : List ℕ) (t e x : ℕ) {s : 
   letter-speaks h g = ap (λ (b : Block). speaks e (b .rule)) g ∙ (sym f ∙ h)
 
   module _ {v₀ t₀ : List ℕ} {top₀ : ℕ} where
-    pub letter-visited : s ≡ true → {b : Block} → b ≡ blockBy kinds numbers sizes firsts k x → {values trail : List ℕ} {r : Ended} → Visited (clausesAt (definedBy C k b) t) v₀ t₀ top₀ values trail r
+    pub letter-visited : s ≡ true → {b : Block} → b ≡ blockBy kinds numbers sizes firsts k x → {values trail : List ℕ} {r : Ended} →
+        Visited (clausesAt (definedBy C k b) t) v₀ t₀ top₀ values trail r
         → Visited (letterAt C k kinds numbers sizes firsts t e x) v₀ t₀ top₀ values trail r
     letter-visited h {b} g {values} {trail} {r} w =
         subst (λ (b : Block). Visited (cond (speaks e (b .rule)) (clausesAt (definedBy C k b) t) []) v₀ t₀ top₀ values trail r) g
@@ -126,4 +131,6 @@ module _ (C k : ℕ) (kinds numbers sizes firsts : List ℕ) (t e x : ℕ) {s : 
 
     pub letter-passed : s ≡ false → Trailing v₀ t₀ top₀ → Visited (letterAt C k kinds numbers sizes firsts t e x) v₀ t₀ top₀ v₀ t₀ (record { clash = false; top = top₀ })
     unfolding blockBy
-    letter-passed h w = subst (λ (c : Bool). Visited (cond c (clausesAt (definedBy C k (blockBy kinds numbers sizes firsts k x)) t) []) v₀ t₀ top₀ v₀ t₀ (record { clash = false; top = top₀ })) (sym h ∙ f) (visited-none w)
+    letter-passed h w =
+        subst (λ (c : Bool). Visited (cond c (clausesAt (definedBy C k (blockBy kinds numbers sizes firsts k x)) t) []) v₀ t₀ top₀ v₀ t₀
+        (record { clash = false; top = top₀ })) (sym h ∙ f) (visited-none w)

@@ -7,8 +7,8 @@ use Prim.Native.Nat.{ℕ, zero, suc, _+_, _-_, _*_, _≤_, _<_}
 use native.Mathlib.Omega.{arith}
 use lib.Dec.{eqb, ltb}
 use borrow.Author.Tests.{eqb-false, lt-ltb, ltb-true}
-use Rattle.grammar.proofs.Bytes.{cond-elim}
-use Rattle.interval.specs.Listing.{sum}
+use Rattle.lists.proofs.Tests.{cond-elim}
+use Rattle.lists.specs.Listing.{sum}
 use Rattle.interval.specs.Places.{countOf}
 use Rattle.interval.proofs.Shape.{Shape, Entry, Inside, count, place, place-lt}
 use Rattle.interval.proofs.Counts.{intervals-count}
@@ -150,7 +150,8 @@ module _ (C k u : ℕ) (b : Block) where
   after-all : (x : ℕ) (p : Position) → After 0 x p Throughout
   after-all x p j o e =
       some-places C k u (ruled Throughout b) (afterCount k 0 p) (afterPlace k x) (after-in k (b .points) 0 p x (o .inside) (o .at))
-      (λ y h m. after-hit k (b .points) 0 p x (o .inside) (o .at) u (b .first) (b .left) 0 e (omega (arith, j)) (y .0) (y .1 .0) (y .1 .1) h (all-uses k u (b .first) (b .left) _ (y .0) (y .1 .0) (y .1 .1) m))
+      (λ y h m. after-hit k (b .points) 0 p x (o .inside) (o .at) u (b .first) (b .left) 0 e (omega (arith, j)) (y .0) (y .1 .0) (y .1 .1) h
+      (all-uses k u (b .first) (b .left) _ (y .0) (y .1 .0) (y .1 .1) m))
 
   -- the block's own variable in place x, at position p
   pub after-suffices : {n x : ℕ} (p : Position) → Levels (b .rule) n → Laid C k b → Placed (b .points) k (b .rule) x (p .row) (p .line) (p .cell) → u ≡ b .first + x
@@ -169,7 +170,8 @@ module _ (C k u : ℕ) (b : Block) where
   instant-all : (t : ℕ) → Instant 0 1 t Throughout
   instant-all t j e h =
       more-places C k u (ruled Throughout b) (suc t) 1 (instantPlace k 0 t) (instant-in k (b .points) 0 u (b .first) (b .left) 0 1 t e (omega (arith, j)) (omega arith) h)
-      (λ y o m. instant-hit k (b .points) 0 u (b .first) (b .left) 0 1 t e (omega (arith, j)) (omega arith) (y .0) (y .1 .0) (y .1 .1) o (all-uses k u (b .first) (b .left) _ (y .0) (y .1 .0) (y .1 .1) m))
+      (λ y o m. instant-hit k (b .points) 0 u (b .first) (b .left) 0 1 t e (omega (arith, j)) (omega arith) (y .0) (y .1 .0) (y .1 .1) o
+      (all-uses k u (b .first) (b .left) _ (y .0) (y .1 .0) (y .1 .1) m))
 
   -- S at instant t
   pub instant-suffices : {z m t : ℕ} → Rising (b .rule) z m → Laid C k b → u ≡ b .left + t → t < k → Suffices (nodeClauses C k b) u (instantClauses C k b z m t)

@@ -5,7 +5,7 @@ use mathlib.Core.Logic.{_⊎_, inl, inr, ⊎-elim}
 use mathlib.Core.Bool.{false≢true}
 use Prim.Native.Nat.{ℕ, _+_, _*_, _<_}
 use native.Mathlib.Omega.{arith}
-use Rattle.interval.specs.Listing.{sum}
+use Rattle.lists.specs.Listing.{sum}
 use Rattle.interval.proofs.Shape.{Shape, Entry, Inside, count, place, place-lt}
 use Rattle.circuit.proofs.Inputs.{row-lt}
 use Rattle.blocks.specs.Blocks.{formOf, shapeOf, definedBy}

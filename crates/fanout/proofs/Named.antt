@@ -5,11 +5,9 @@ use mathlib.Core.Logic.{_⊎_, inl, inr, ⊎-elim}
 use mathlib.Core.List.{List, [], _∷_, _++_, map, flatMap}
 use Prim.Native.Nat.{ℕ, zero, suc, _+_, _<_}
 use native.Mathlib.Omega.{arith}
-use Rattle.interval.specs.Listing.{rows, tab}
+use Rattle.lists.specs.Listing.{rows, tab, All}
 use Rattle.interval.proofs.Shape.{Shape, line, stack, Entry, Inside, per}
-use Rattle.interval.specs.Listing.{All}
-use Rattle.formula.proofs.Lists.{all-append}
-use Rattle.circuit.proofs.Lists.{all-rows, all-mapped}
+use Rattle.lists.proofs.Lists.{all-append, all-rows, all-mapped}
 use Rattle.circuit.specs.Circuit.{Definition}
 use Rattle.circuit.specs.declared.Gate.{Gate}
 use Rattle.circuit.specs.declared.Gate.the-variants.{Constant, Copy, Inverse, Both, Either, AnyOf, Step}

@@ -7,12 +7,12 @@ use Prim.Native.Nat.{ℕ, _+_, _*_, _<_}
 use native.Mathlib.Omega.{arith}
 use lib.Dec.{eqb}
 use borrow.Author.Tests.{eqb-false}
-use Rattle.grammar.proofs.Bytes.{cond-elim}
-use Rattle.interval.specs.Listing.{sum}
+use Rattle.lists.proofs.Tests.{cond-elim}
+use Rattle.lists.specs.Listing.{sum}
 use Rattle.interval.proofs.Shape.{Shape, Inside, count, place, place-lt}
 use Rattle.interval.specs.Places.{countOf, tripleCountOf}
 use Rattle.interval.proofs.Laws.{intervals-numbered, triples-numbered, triples-in-a-row}
-use Rattle.formula.proofs.Lists.{all-append}
+use Rattle.lists.proofs.Lists.{all-append}
 use Rattle.circuit.specs.Circuit.{Definition, channelOf}
 use Rattle.circuit.specs.declared.Gate.{Gate}
 use Rattle.circuit.proofs.Blocks.{From}
@@ -77,7 +77,9 @@ module _ (C k u : ℕ) (b : Block) where
       cond-elim (λ (g : Gate). Inputs u g → NearBy C k b u Throughout) (eqb d 0) (λ _ m. absurd m)
       (λ e m. ⊎-elim (λ f. inl (omega (arith, f, p))) (λ f. inr (omega (arith, f, h .1, eqb-false d 0 e))) m) m
   input-near Cut a i d h (inl m) = inl (let t = intervals-numbered k .below (record { i = a; j = a + d }) (record { starts = omega arith; ends = omega (arith, h .1) }) in omega (arith, m, t))
-  input-near Cut a i d h (inr m) = inr (let t = intervals-numbered k .below (record { i = a + d; j = a + i }) (record { starts = omega (arith, h .1); ends = omega (arith, h .1) }) in omega (arith, m, t))
+  input-near Cut a i d h (inr m) =
+      inr (let t = intervals-numbered k .below (record { i = a + d; j = a + i }) (record { starts = omega (arith, h .1); ends = omega (arith, h .1) }) in
+      omega (arith, m, t))
 
   -- a block that u is neither of nor near to
   pub unnamed : (From (b .first) (count (shape (b .rule))) u → ⊥) → (NearBy C k b u (b .rule) → ⊥) → Unnamed (clausesBy (definedBy C k b)) u

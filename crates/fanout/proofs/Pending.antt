@@ -8,7 +8,7 @@ use Prim.Native.Nat.{ℕ, zero, suc, _+_, _-_, _≤_, _<_}
 use native.Mathlib.Omega.{arith}
 use lib.ListN.{length, getD, set}
 use lib.Dec.{eqb}
-use Rattle.interval.specs.Listing.{All}
+use Rattle.lists.specs.Listing.{All}
 use Rattle.clauses.specs.Clauses.{Literal, Clause}
 use Rattle.closure.specs.Closure.{Literals, opposite, add}
 use Rattle.closure.specs.Tree.{closure}
@@ -20,7 +20,7 @@ use Rattle.closing.specs.Closing.{ClosedTo}
 use Rattle.closing.specs.declared.Closed.{Closed as Ended}
 use Rattle.closing.proofs.Trail.{held-le, grown-more, grown-length, undone-none}
 use Rattle.visits.specs.Visits.{Touched, Due}
-use Rattle.visits.proofs.Parts.{due-closed, due-still, due-none, grown-below}
+use Rattle.visits.proofs.Parts.{due-closed, due-still, due-none, grown-below, touched-before}
 use Rattle.fanout.specs.Fanout.{Names, DueAt, Reached, Pending}
 
 -- R′ has no literal that R lacks but of variable u
@@ -30,17 +30,12 @@ module _ (R R′ S N : Literals) (u : ℕ) (only : (l : Literal) → In R′ l �
   touched-or (m ∷ c) (inl w) = either-way (R′ (opposite m)) (λ e. inr (inl (only (opposite m) e (w .1)))) (λ e. inl (inl (w .0, e)))
   touched-or (m ∷ c) (inr t) = ⊎-elim (λ u. inl (inr u)) (λ o. inr (inr o)) (touched-or c t)
 
-  since : (c : Clause) → Touched S N c → Touched R′ N c
-  since [] t = t
-  since (m ∷ c) (inl w) = inl (w .0, either-way (R′ (opposite m)) (λ e. absurd (true≢false (sym (rs (opposite m) e) ∙ w .1))) (λ e. e))
-  since (m ∷ c) (inr t) = inr (since c t)
-
   older : (c : Clause) → DueAt R′ S c → DueAt R′ N c
   older c k = due-still R′ S N rs sn (c ∷ []) (k, tt) .0
 
   taken : (c : Clause) → (Names u c → DueAt S N c) → DueAt R S c → DueAt R′ N c
   taken c f (inl e) = older c (inl e)
-  taken c f (inr t) = ⊎-elim (λ w. older c (inr w)) (λ o. ⊎-elim inl (λ t. inr (since c t)) (f o)) (touched-or c t)
+  taken c f (inr t) = ⊎-elim (λ w. older c (inr w)) (λ o. ⊎-elim inl (λ t. inr (touched-before R′ S N rs sn c t)) (f o)) (touched-or c t)
 
   pub due-step : (T : List Clause) → All (λ c. Names u c → DueAt S N c) T → Due R S T → Due R′ N T
   due-step [] f d = tt
@@ -124,9 +119,13 @@ pub pending-fits : {T : List Clause} {values trail : List ℕ} {h top : ℕ} →
 pending-fits p = omega (arith, p .since .more, top-fits (p .since .trailing))
 
 -- the values were closed, and one literal was put in: what a try hands to the queue
-pub pending-start : {T : List Clause} {v₀ t₀ values trail : List ℕ} {top₀ top : ℕ} {l : Literal} → heldIn v₀ ≡ closure T (heldIn v₀) → Added l v₀ t₀ top₀ values trail top → Pending T values trail top₀ top
+pub pending-start : {T : List Clause} {v₀ t₀ values trail : List ℕ} {top₀ top : ℕ} {l : Literal} → heldIn v₀ ≡ closure T (heldIn v₀) →
+    Added l v₀ t₀ top₀ values trail top → Pending T values trail top₀ top
 pending-start {T} {v₀} {l = l} c a = record {
   before = v₀;
   since = record { trailing = a .grown .trailing; more = a .grown .more; same = refl; ranged = a .grown .ranged; back = a .grown .back };
-  due = subst (λ (S : Literals). Due (heldIn v₀) S T) (sym (a .added)) (due-still (heldIn v₀) (heldIn v₀) (add l (heldIn v₀)) (λ m i. i) (kept l (heldIn v₀)) T (due-closed (heldIn v₀) (heldIn v₀) T (subst (λ (S : Literals). Closed T (In S)) (sym c) (closure-closed T (heldIn v₀)))));
+  due =
+      subst (λ (S : Literals). Due (heldIn v₀) S T) (sym (a .added))
+      (due-still (heldIn v₀) (heldIn v₀) (add l (heldIn v₀)) (λ m i. i) (kept l (heldIn v₀)) T
+      (due-closed (heldIn v₀) (heldIn v₀) T (subst (λ (S : Literals). Closed T (In S)) (sym c) (closure-closed T (heldIn v₀)))));
 }

@@ -1,16 +1,15 @@
 -- The rows of the node table: blocks follow each other from the channels on, a node's before those of its parts. So a variable lies in one
 -- row's block only, and a row that names it is that row or its parent's, or, the variable being a channel, a letter's.
 use mathlib.Core.Path.{_≡_, refl, sym, ap, _∙_, subst}
-use mathlib.Core.Logic.{_⊎_, ⊎-elim, by-cases}
+use mathlib.Core.Logic.{⊎-elim, by-cases}
 use mathlib.Core.List.{List}
-use Prim.Native.Nat.{ℕ, zero, suc, _+_, _*_, _≤_, _<_}
+use Prim.Native.Nat.{ℕ, _+_, _*_, _≤_, _<_}
 use native.Mathlib.Decide.{decLt}
 use native.Mathlib.Nat.{suc-mul}
 use native.Mathlib.Omega.{arith}
 use lib.ListN.{getD}
-use Rattle.interval.specs.Listing.{sum}
 use Rattle.interval.specs.Places.{countOf}
-use Rattle.interval.proofs.Listing.{below-suc}
+use Rattle.lists.proofs.Listing.{sum-le, sum-next}
 use Rattle.circuit.proofs.Blocks.{From}
 use Rattle.circuit.proofs.Inputs.{row-lt}
 use Rattle.blocks.specs.Blocks.{ruleBy}
@@ -20,17 +19,12 @@ use Rattle.blocks.specs.declared.Rule.the-variants.{Fixed, Letter, Negation, An
 use Rattle.weights.specs.Weights.{variableWeight, longerBy, pointsBy, weightBy, rowWeight, weightTo}
 use Rattle.weights.proofs.Weights.{suc-le-count}
 use Rattle.clauses.specs.Clauses.{Clause}
-use Rattle.clause_table.specs.Rows.{seatBy, blockBy}
+use Rattle.table_layout.specs.Rows.{seatBy, blockBy}
 use Rattle.sweeps.specs.Sweeps.{rowClauses}
 use Rattle.fanout.specs.Fanout.{widthBy, InBlock, Voiced, Laid, InRow, PartAt, PartsAt, Grid}
 use Rattle.fanout.specs.Walks.{Apart}
 use Rattle.fanout.proofs.Cover.{Unnamed}
 use Rattle.fanout.proofs.Near.{Outer, away}
-
-sum-upto : (w : ℕ → ℕ) (z y : ℕ) → y < z → sum w y + w y ≤ sum w z
-unfolding sum
-sum-upto w zero y h = absurd (omega arith)
-sum-upto w (suc z) y h = below-suc (λ y. sum w y + w y ≤ sum w z + w z) z y h (λ l. omega (arith, sum-upto w z y l)) (omega arith)
 
 module _ {C k : ℕ} {kinds numbers sizes firsts parents : List ℕ} {n : ℕ} (g : Grid C k kinds numbers sizes firsts parents n) where
   abbrev pub block : ℕ → Block
@@ -50,7 +44,7 @@ module _ {C k : ℕ} {kinds numbers sizes firsts parents : List ℕ} {n : ℕ} (
   -- the rows after y begin where its block ends or later
   follows : (y z : ℕ) → y < z → z < n → getD firsts y 0 + width y ≤ getD firsts z 0
   unfolding weightTo
-  follows y z l h = omega (arith, sum-upto width z y l, g .first y (omega arith), g .first z h)
+  follows y z l h = omega (arith, sum-le width z (y + 1) (omega arith), sum-next width y, g .first y (omega arith), g .first z h)
 
   pub one-row : (y z u : ℕ) → y < n → z < n → In y u → In z u → y ≡ z
   one-row y z u h i a b =

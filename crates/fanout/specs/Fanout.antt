@@ -9,7 +9,7 @@ use denote.Ref.{RefT}
 use lib.Dec.{eqb}
 use lib.ListN.{length, getD}
 use Rattle.moments.specs.Moments.{old, new, Slice}
-use Rattle.interval.specs.Listing.{All}
+use Rattle.lists.specs.Listing.{All}
 use Rattle.interval.specs.Places.{countOf, placeOf, triplePlaceOf}
 use Rattle.interval.specs.Limits.{maxSteps}
 use Rattle.interval.specs.declared.Triple.{Triple}
@@ -21,12 +21,12 @@ use Rattle.blocks.specs.declared.Rule.the-variants.{Fixed, Letter, Negation, An
 use Rattle.weights.specs.Weights.{variableWeight, pointsBy, weightBy, rowWeight, weightTo}
 use Rattle.clauses.specs.Clauses.{Clause, clausesBy}
 use Rattle.gates.specs.Mentioned.{Variable, AllMentioned}
-use Rattle.node_clauses.specs.Nodes.{tripleBlock, nodeBy}
-use Rattle.clause_table.specs.Rows.{truthBy, seatBy, blockBy, Low, Seated, rowDefinitions}
+use Rattle.node_clauses.specs.Nodes.{tripleBlock, nodeBy, Fine}
+use Rattle.table_layout.specs.Rows.{truthBy, seatBy, blockBy, Low, Seated, rowDefinitions}
 use Rattle.closure.specs.Closure.{Literals}
 use Rattle.closure.specs.Tree.{closure}
 use Rattle.closure.specs.Runs.{clashes}
-use Rattle.closing.specs.Values.{heldIn, Grown}
+use Rattle.closing.specs.Values.{heldIn, Grown, Trailing}
 use Rattle.closing.specs.declared.Closed.{Closed}
 use Rattle.visits.specs.Visits.{Touched, Due, raisedBy, longBy}
 use Rattle.sweeps.specs.Sweeps.{clausesAt}
@@ -93,6 +93,13 @@ pub record Laid (C k : ℕ) (b : Block) : Type 0 where
   pub beyond : k * C < b .first
   pub apart : Apart k b (b .rule)
   pub voiced : Voiced C k b (b .rule)
+
+-- a node's block, all of whose variables have a value, and values and trail that fit
+pub record Node (C k : ℕ) (b : Block) (values trail : List ℕ) (top : ℕ) : Type 0 where
+  pub fine : Fine C k b
+  pub laid : Laid C k b
+  pub mentioned : AllMentioned (length values) (nodeBy C k b (isChop (b .rule)))
+  pub trailing : Trailing values trail top
 
 -- a duration of n levels, or `[S]`, which has none
 abbrev pub Levels : Rule → ℕ → Type 0

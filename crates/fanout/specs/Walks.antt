@@ -6,7 +6,7 @@ use Prim.Native.Nat.{ℕ, suc, _+_, _-_, _*_, _≤_}
 use lib.Dec.{ltb}
 use lib.ListN.{length, getD}
 use Rattle.interval.specs.Limits.{maxCount}
-use Rattle.interval.specs.Listing.{rows}
+use Rattle.lists.specs.Listing.{rows}
 use Rattle.interval.specs.Places.{countOf, tripleCountOf, placeOf, triplePlaceOf}
 use Rattle.blocks.specs.Blocks.{definedBy, Bounded}
 use Rattle.blocks.specs.declared.Block.{Block}

@@ -13,12 +13,13 @@ use Rattle.refusal.specs.Asked.{question, asked}
 use Rattle.refusal.specs.declared.Refusal.{Refusal}
 use Rattle.refusal.specs.declared.Reply.{Reply}
 use Rattle.refusal.specs.declared.Reply.the-variants.{Yes, No}
-use Rattle.refusal.proofs.Laws.{replied-yes, replied-no}
-use Rattle.formula.specs.Questions.{formulaQuestions, acceptOf}
-use Rattle.formula.proofs.Asked.{test-yes, asked-one}
-use Rattle.clauses.specs.Entries.{Entry, variablesIn, marksIn}
-use Rattle.clause_table.specs.Table.{After, sizesIn, placesIn, askRoom, over, refused, writtenTable, tabled}
-use Rattle.clause_table.specs.declared.Written.the-variants.{Done, Refused}
+use Rattle.refusal.proofs.Laws.{replied-yes, replied-no, test-yes}
+use Rattle.grammar.specs.Questions.{formulaQuestions, acceptOf}
+use Rattle.formula.proofs.Asked.{asked-one}
+use Rattle.clauses.specs.Entries.{Entry, variablesIn, marksIn, placesIn}
+use Rattle.clause_table.specs.Table.{After, sizesIn, askRoom, refused, writtenTable, tabled}
+use Rattle.moments.specs.Moments.{over}
+use Rattle.refusal.specs.declared.Written.the-variants.{Done, Refused}
 use Rattle.file_numbers.specs.File.{sizesBy, fileLength}
 use Rattle.clause_file.specs.Calls.{FileAfter, fileWritten}
 use Rattle.file_numbers.proofs.Stored.{length-file}
@@ -47,7 +48,8 @@ pub same-output : {x y : List ℕ} (file : List ℕ) {r : ℕ} {new : List ℕ} 
 same-output file e w = (w .0 ∙ ap length e, w .1 ∙ ap (λ (o : List ℕ). over o file) e)
 
 -- and they lie within what they were written over
-pub within-file : {x y : List ℕ} (file : List ℕ) {r : ℕ} {new : List ℕ} → x ≡ y → (r ≡ length x) × (new ≡ over x file) → (r ≡ length y) × (new ≡ over y file) × (r ≤ length new)
+pub within-file : {x y : List ℕ} (file : List ℕ) {r : ℕ} {new : List ℕ} → x ≡ y → (r ≡ length x) × (new ≡ over x file) →
+    (r ≡ length y) × (new ≡ over y file) × (r ≤ length new)
 within-file {y = y} file e w = let v = same-output file e w in (v .0, v .1, omega (arith, v .0, ap length (v .1), length-append y (drop (length y) file)))
 
 -- questions in two parts
@@ -153,7 +155,8 @@ module _ (C k : ℕ) (t : List ℕ) where
           ∙ (λ i. fileWritten (sizesBy (sizes-are i)) (variables-are i) (marks-are i) file)
           ∙ table-written C k t accepts file (omega (arith, few))
 
-      pub file-done : {r : ℕ} (file : List ℕ) {new : List ℕ} → length file ≡ maxFile → r ≡ fileLength (getD (X .sizes) 4 0) → new ≡ filePut (X .sizes) (X .variables) (X .marks) file .file
+      pub file-done : {r : ℕ} (file : List ℕ) {new : List ℕ} → length file ≡ maxFile → r ≡ fileLength (getD (X .sizes) 4 0) →
+          new ≡ filePut (X .sizes) (X .variables) (X .marks) file .file
           → (r ≡ length (outputFor (line C k t))) × (new ≡ over (outputFor (line C k t)) file)
       file-done file h p q =
           same-output file (sym output-is) (p ∙ ap fileLength literals-are ∙ sym (file-bytes accepts), q ∙ ap (λ (x : FileAfter). x .file) (file-put file h))

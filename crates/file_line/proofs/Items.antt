@@ -9,7 +9,8 @@ use lib.Dec.{eqb}
 use borrow.Author.Tests.{eqb-true, eqb-false, ne-eqb}
 use Rattle.grammar.specs.Trees.{decimal}
 use Rattle.grammar.specs.Reader.{isDigit}
-use Rattle.grammar.proofs.Bytes.{cond-elim, ranged, digit-is}
+use Rattle.lists.proofs.Tests.{cond-elim, ranged}
+use Rattle.grammar.proofs.Bytes.{digit-is}
 use Rattle.grammar.proofs.Decimal.{decimal-digit, decimal-more, by-digits}
 use Rattle.file_line.specs.Line.{Taken, taken, none, digits, number, blank}
 

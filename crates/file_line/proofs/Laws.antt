@@ -10,7 +10,7 @@ use lib.ListN.{length, getD, take, length-append, drop-of-length-le}
 use lib.Seq.{take-at, getD-at, split-at}
 use borrow.Author.Tests.{eqb-true}
 use Rattle.grammar.specs.Trees.{decimal}
-use Rattle.grammar.proofs.Bytes.{cond-elim}
+use Rattle.lists.proofs.Tests.{cond-elim}
 use Rattle.file_line.specs.Line.{lineOf, Line, line, Taken, taken, none, number, blank, textLast, stepsNext, channelsFirst, readLine}
 use Rattle.file_line.proofs.Items.{item-reads, item-is}
 

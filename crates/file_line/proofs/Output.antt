@@ -17,9 +17,9 @@ use Rattle.grammar.specs.Trees.{decimal}
 use Rattle.grammar.proofs.Decimal.{decimal-digit, decimal-more, by-digits}
 use Rattle.scan.specs.Scans.{capped}
 use Rattle.scan.proofs.Loops.{limited-in, limited-out}
-use Rattle.formula.specs.Questions.{formulaQuestions, acceptOf}
+use Rattle.grammar.specs.Questions.{formulaQuestions, acceptOf}
 use Rattle.formula.proofs.Laws.{accepted}
-use Rattle.clause_table.specs.Table.{placesIn}
+use Rattle.clauses.specs.Entries.{placesIn}
 use Rattle.file_line.specs.Line.{lineOf, Line, line, other, readLine}
 use Rattle.file_line.specs.Output.{askLiterals, fileIn, outputFor, outputOf, maxInput}
 use Rattle.file_line.specs.Parts.{lineBy, cappedLine}
@@ -55,7 +55,9 @@ output-limited other = refl
 output-limited (line C k t) = by (decLt maxNumber C) (decLt maxNumber k)
   where
     by : Dec (maxNumber < C) → Dec (maxNumber < k) → outputFor (line (capped C) (capped k) t) ≡ outputFor (line C k t)
-    by (no h) (no g) = ap (λ (n : ℕ). outputFor (line n (capped k) t)) (sym (limited-in maxNumber C C refl (omega arith))) ∙ ap (λ (n : ℕ). outputFor (line C n t)) (sym (limited-in maxNumber k k refl (omega arith)))
+    by (no h) (no g) =
+        ap (λ (n : ℕ). outputFor (line n (capped k) t)) (sym (limited-in maxNumber C C refl (omega arith))) ∙
+        ap (λ (n : ℕ). outputFor (line C n t)) (sym (limited-in maxNumber k k refl (omega arith)))
     by (yes h) g = none-beyond (capped C) (capped k) t (λ w. omega (arith, limited-out maxNumber C C refl h)) ∙ sym (none-beyond C k t (λ w. omega arith))
     by (no h) (yes g) = none-beyond (capped C) (capped k) t (λ w. omega (arith, limited-out maxNumber k k refl g)) ∙ sym (none-beyond C k t (λ w. omega arith))
 

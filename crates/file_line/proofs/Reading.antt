@@ -43,7 +43,8 @@ module _ (l : List ℕ) where
   unfolding number
   number-left at = by (drop at l) refl
     where
-      test : (c e : Bool) (b : ℕ) (q : List ℕ) → drop (at + 1) l ≡ q → (n : ℕ) × (cond c (taken 0 q) (cond e (digits (b - 48) q) none) ≡ leftBy l n (cond c (Good (at + 1)) (cond e (Good (at + 1 + digitCount q)) (Bad at))))
+      test : (c e : Bool) (b : ℕ) (q : List ℕ) → drop (at + 1) l ≡ q → (n : ℕ) ×
+          (cond c (taken 0 q) (cond e (digits (b - 48) q) none) ≡ leftBy l n (cond c (Good (at + 1)) (cond e (Good (at + 1 + digitCount q)) (Bad at))))
       test true e b q w = (0, ap (taken 0) (sym w))
       test false true b q w =
           let (n, v) = digits-left q (b - 48) in

@@ -2,14 +2,13 @@
 mod parts;
 
 use crate::parts::Parts;
-use clause_table::Sizes;
-use clause_table::Written;
 use file_numbers::SIZES_BYTES;
+use refusal::Written;
+use table_layout::Sizes;
 ghost use mathlib.Core.Path.{_≡_};
 ghost use Prim.Native.Nat.{_≤_};
 ghost use lib.ListN.{length, getD};
-ghost use Rattle.moments.specs.Moments.{old, new};
-ghost use Rattle.clause_table.specs.Table.{over};
+ghost use Rattle.moments.specs.Moments.{old, new, over};
 ghost use Rattle.file_numbers.specs.File.{fileLength};
 ghost use Rattle.file_line.specs.Line.{line};
 ghost use Rattle.file_line.specs.Output.{outputFor, outputOf, maxInput};

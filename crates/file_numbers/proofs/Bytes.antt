@@ -6,8 +6,8 @@ use Prim.Native.Nat.{ℕ, zero, suc, _+_, _*_, _/_, _%_, _^_, _≤_, _<_}
 use native.Mathlib.Omega.{arith}
 use lib.ListN.{length, getD, take, drop}
 use lib.Seq.{drop-cons, drop-drop, take-add, getD-append-add}
-use Rattle.interval.specs.Listing.{rows, tab}
-use Rattle.formula.proofs.Lists.{flat-append}
+use Rattle.lists.specs.Listing.{rows, tab}
+use Rattle.lists.proofs.Lists.{flat-append}
 use Rattle.file_numbers.specs.File.{bytesOf, numberOf, numberAt, Words, Octets}
 use Rattle.file_numbers.proofs.Stored.{four}
 
@@ -72,5 +72,6 @@ module _ (file : List ℕ) (o : Octets file) where
   all-bytes-back at (suc n) h =
       let e : 4 * n + 4 ≡ 4 * suc n = omega arith in
       flat-append bytesOf (tab n (λ e. numberAt file (at + 4 * e))) (numberAt file (at + 4 * n) ∷ [])
-      ∙ ap₂ _++_ (all-bytes-back at n (omega arith)) (append-nil (bytesOf (numberAt file (at + 4 * n))) ∙ bytes-there (at + 4 * n) (omega arith) ∙ ap (take 4) (sym (drop-drop (4 * n) at file)))
+      ∙ ap₂ _++_ (all-bytes-back at n (omega arith))
+      (append-nil (bytesOf (numberAt file (at + 4 * n))) ∙ bytes-there (at + 4 * n) (omega arith) ∙ ap (take 4) (sym (drop-drop (4 * n) at file)))
       ∙ sym (take-add (4 * n) 4 (drop at file)) ∙ ap (λ (m : ℕ). take m (drop at file)) e

@@ -6,9 +6,9 @@ use Prim.Native.Nat.{ℕ, _+_, _*_, _-_, _<_}
 use native.Mathlib.Omega.{arith}
 use lib.ListN.{length, getD, take, drop, length-append, length-drop}
 use lib.Seq.{sets, length-sets, take-all}
-use Rattle.interval.proofs.Listing.{length-tab, getD-tab}
+use Rattle.lists.proofs.Listing.{length-tab, getD-tab}
 use Rattle.literals.proofs.Written.{sets-append, flat-length}
-use Rattle.clause_table.specs.declared.Sizes.{Sizes}
+use Rattle.table_layout.specs.declared.Sizes.{Sizes}
 use Rattle.file_numbers.specs.Held.{Held}
 use Rattle.file_numbers.specs.File.{byteOf, bytesOf, fileOf, numberAt, sizesAt, variablesAt, marksAt}
 
@@ -32,7 +32,8 @@ module _ (s v m : List ℕ) where
   length-file =
       omega (arith, length-append (flatMap bytesOf s ++ flatMap bytesOf v) m, length-append (flatMap bytesOf s) (flatMap bytesOf v), length-bytes s, length-bytes v)
 
-  pub parts-stored : (f : List ℕ) {g h i : List ℕ} {a b : ℕ} → g ≡ sets f 0 (flatMap bytesOf s) → a ≡ 0 + 4 * length s → h ≡ sets g a (flatMap bytesOf v) → b ≡ a + 4 * length v → i ≡ sets h b m
+  pub parts-stored : (f : List ℕ) {g h i : List ℕ} {a b : ℕ} → g ≡ sets f 0 (flatMap bytesOf s) → a ≡ 0 + 4 * length s →
+      h ≡ sets g a (flatMap bytesOf v) → b ≡ a + 4 * length v → i ≡ sets h b m
       → i ≡ sets f 0 (fileOf s v m)
   unfolding fileOf
   parts-stored f {g} {h} {i} {a} {b} p q r t u =

@@ -2,8 +2,8 @@
 use mathlib.Core.List.{List, [], _∷_, _++_, flatMap}
 use Prim.Native.Nat.{ℕ, _+_, _*_, _/_, _%_, _^_, _<_}
 use lib.ListN.{getD, drop}
-use Rattle.interval.specs.Listing.{tab, All}
-use Rattle.clause_table.specs.declared.Sizes.{Sizes}
+use Rattle.lists.specs.Listing.{tab, All}
+use Rattle.table_layout.specs.declared.Sizes.{Sizes}
 
 -- a number's byte of a weight; a number of 32 bits, "low byte first"
 abbrev pub byteOf : ℕ → ℕ → ℕ

@@ -3,7 +3,7 @@ use mathlib.Core.Path.{_≡_}
 use mathlib.Core.List.{List}
 use Prim.Native.Nat.{ℕ}
 use lib.ListN.{length}
-use Rattle.clause_table.specs.declared.Sizes.{Sizes}
+use Rattle.table_layout.specs.declared.Sizes.{Sizes}
 use Rattle.file_numbers.specs.File.{fileLength, sizesAt}
 
 -- these are the file's sizes, and it is as long as they say

@@ -1,5 +1,5 @@
 // Numbers of 32 bits as four bytes, low byte first, and what a file holds at which place.
-use clause_table::Sizes;
+use table_layout::Sizes;
 ghost use mathlib.Core.Path.{_≡_};
 ghost use mathlib.Core.List.{flatMap};
 ghost use Prim.Native.Nat.{_+_, _*_, _≤_};

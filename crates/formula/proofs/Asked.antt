@@ -1,24 +1,25 @@
 -- What the code asks is what document 01 asks: a check of the grammar tells question 4, and the first find after so many tells 5 to 7.
 -- Each is a case of its question's definition.
 use mathlib.Core.Path.{_≡_, refl, ap}
-use mathlib.Core.Bool.{Bool, true, false, false≢true}
+use mathlib.Core.Bool.{true, false, false≢true}
 use mathlib.Core.List.{List, [], _∷_}
 use Prim.Native.Nat.{ℕ, zero, suc, _≤_, _<_}
 use native.Mathlib.Omega.{arith}
 use lib.ListN.{length, take, replicate}
-use Rattle.refusal.specs.Asked.{question, asked}
+use Rattle.refusal.specs.Asked.{asked}
 use Rattle.refusal.specs.declared.Reply.{Reply}
 use Rattle.refusal.specs.declared.Reply.the-variants.{Yes, No}
+use Rattle.refusal.proofs.Laws.{test-yes}
 use Rattle.grammar.specs.Limits.{maxLength}
 use Rattle.grammar.specs.Reader.{Read, parsed, stopped, read}
 use Rattle.grammar.specs.declared.Sort.the-variants.{Formula}
-use Rattle.grammar.proofs.Bytes.{ranged}
+use Rattle.lists.proofs.Tests.{ranged}
 use Rattle.grammar.proofs.Laws.{stops-at-place}
 use Rattle.reader.specs.Parts.{parseOf, parseText}
 use Rattle.reader.specs.declared.Parse.the-variants.{Reads, Stops}
 use Rattle.scan.specs.Scans.{listOf}
 use Rattle.scan.specs.declared.Find.{Find}
-use Rattle.formula.specs.Questions.{atFirst, onRead, askLength, askGrammar}
+use Rattle.grammar.specs.Questions.{atFirst, onRead, askLength, askGrammar}
 
 -- what a check of the grammar says
 module _ (t : List ℕ) where
@@ -67,11 +68,6 @@ module _ (number : ℕ) where
 pub asked-one : (r : Reply) → asked (r ∷ []) No Yes ≡ r
 asked-one Yes = refl
 asked-one (No r) = refl
-
--- a question that its test answers with yes
-pub test-yes : (n p : ℕ) (c : Bool) → question n p c ≡ Yes → c ≡ true
-test-yes n p true e = refl
-test-yes n p false e = absurd (false≢true cc)
 
 pub length-most : (t : List ℕ) → askLength t ≡ Yes → length t ≤ maxLength
 unfolding askLength

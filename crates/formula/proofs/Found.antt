@@ -1,7 +1,7 @@
 -- What questions 5 to 7 find in the bytes of a text that reads is what its tree has: a scan meets the nodes in their order, and at
 -- each node its first byte, and for a duration the number after it, tell what the tree's question asks.
 use mathlib.Core.Path.{_≡_, refl, sym, ap, _∙_}
-use mathlib.Core.Bool.{Bool, true, false, cond, _||_, true≢false, false≢true}
+use mathlib.Core.Bool.{Bool, true, false, cond, _||_, false≢true}
 use mathlib.Core.List.{List, [], _∷_, append-nil, flatMap}
 use Prim.Native.Nat.{ℕ, zero, suc, _+_, _-_, _<_}
 use native.Mathlib.Decide.{decLt}
@@ -11,20 +11,21 @@ use lib.ListN.{length, getD, drop}
 use borrow.Author.Tests.{ne-eqb, lt-leb, le-leb, lt-ltb}
 use Rattle.refusal.specs.declared.Reply.the-variants.{Yes}
 use Rattle.grammar.specs.Limits.{maxNumber, maxNodes}
-use Rattle.grammar.specs.Trees.{Link, and, or, chop, Tree, constant, letter, negation, pair, duration, throughout, Letters, textOf, linkByte}
+use Rattle.grammar.specs.Trees.{Link, and, or, chop, Tree, constant, letter, negation, pair, duration, throughout, textOf, linkByte}
 use Rattle.grammar.specs.Reader.{isLetter, isStart, Read, parsed, stopped, read}
 use Rattle.grammar.specs.declared.Sort.{Sort}
 use Rattle.grammar.specs.declared.Sort.the-variants.{Formula}
-use Rattle.grammar.proofs.Bytes.{at-each}
+use Rattle.lists.proofs.Tests.{at-each, neither}
 use Rattle.grammar.proofs.Laws.{prints-as-text}
-use Rattle.formula.specs.Nodes.{Node, nodesOf, nodesRead, nodesIn}
-use Rattle.formula.specs.Questions.{atFirst, onRead, askGrammar, outside, tooLarge, askLetters, askNumbers, askNodes}
+use Rattle.grammar.specs.Nodes.{Node, nodesOf, nodesRead, nodesIn}
+use Rattle.grammar.specs.Questions.{atFirst, onRead, askGrammar, outside, tooLarge, askLetters, askNumbers, askNodes}
 use Rattle.scan.specs.Scans.{scan, startAt, isOutside, outsideAt, capped, digitOf, numberOf, aboveAt, answersAt, foundIn}
 use Rattle.scan.specs.declared.Ask.{Ask}
 use Rattle.scan.specs.declared.Ask.the-variants.{Letters as AskLetters, Numbers, Nodes}
-use Rattle.formula.proofs.Lists.{all-map, flat-same, flat-map}
+use Rattle.lists.proofs.Lists.{flat-same, flat-map}
 use Rattle.formula.proofs.InOrder.{firstByte, Quiet, scan-tree}
-use Rattle.formula.proofs.Standing.{Stands, StandsNode, all-stand, digit-place, number-is}
+use Rattle.grammar.proofs.EachNode.{each-node, each-all}
+use Rattle.formula.proofs.Standing.{Stands, StandsNode, stands-pass, digit-place, number-is}
 
 -- the bytes that begin no node: `&`, `|`, `;`, `)`, `]`, `>`, `=` and the digits
 abbrev signs : List ℕ
@@ -34,10 +35,6 @@ signs = 38 ∷ 124 ∷ 59 ∷ 41 ∷ 93 ∷ 62 ∷ 61 ∷ 48 ∷ 49 ∷ 50 ∷ 5
 abbrev any : (ℕ → Bool) → List ℕ → Bool
 any g [] = false
 any g (b ∷ l) = g b || any g l
-
-neither : (a b : Bool) → a || b ≡ false → (a ≡ false) × (b ≡ false)
-neither true b e = absurd (true≢false e)
-neither false b e = (refl, e)
 
 none : (g : ℕ → Bool) (l : List ℕ) → any g l ≡ false → (k : ℕ) → k < length l → g (getD l k 0) ≡ false
 none g [] e k h = absurd (omega arith)
@@ -87,26 +84,6 @@ module _ (t : List ℕ) where
   quiet-at Numbers = quiet (λ b. eqb b 35) (λ at. cond (ltb maxNumber (numberOf t at)) (digitOf t at ∷ []) []) refl
   quiet-at Nodes = quiet isStart (λ at. at ∷ []) refl
 
-  letters-answer : (C : ℕ) {s : Sort} (x : Tree s) (at : ℕ) → Letters 8 x → outsideAt C (firstByte x) at ≡ outside C x at
-  letters-answer C (constant true) at w = refl
-  letters-answer C (constant false) at w = refl
-  letters-answer C (letter c) at w = let e : 97 + c - 97 ≡ c = omega arith in rw (letter-is c w, e)
-  letters-answer C (negation x) at w = refl
-  letters-answer C (pair and x y) at w = refl
-  letters-answer C (pair or x y) at w = refl
-  letters-answer C (pair chop x y) at w = refl
-  letters-answer C (duration x n) at w = refl
-  letters-answer C (throughout x) at w = refl
-
-  starts-answer : {s : Sort} (x : Tree s) (at : ℕ) → Letters 8 x → startAt (firstByte x) at ≡ at ∷ []
-  starts-answer (constant true) at w = refl
-  starts-answer (constant false) at w = refl
-  starts-answer (letter c) at w = rw (letter-starts c w)
-  starts-answer (negation x) at w = refl
-  starts-answer (pair l x y) at w = refl
-  starts-answer (duration x n) at w = refl
-  starts-answer (throughout x) at w = refl
-
   limited-above : (n : ℕ) → ltb maxNumber (capped n) ≡ ltb maxNumber n
   limited-above n = go (decLt maxNumber n)
     where
@@ -114,28 +91,32 @@ module _ (t : List ℕ) where
       go (yes h) = rw (lt-leb n maxNumber h, lt-ltb maxNumber n h)
       go (no h) = rw (le-leb n maxNumber (omega arith))
 
-  numbers-answer : {s : Sort} (x : Tree s) (at : ℕ) → Stands t x at → aboveAt t (firstByte x) at ≡ tooLarge x at
-  numbers-answer (constant true) at w = refl
-  numbers-answer (constant false) at w = refl
-  numbers-answer (letter c) at w = rw (ne-eqb (97 + c) 35 (λ e. omega arith))
-  numbers-answer (negation x) at w = refl
-  numbers-answer (pair and x y) at w = refl
-  numbers-answer (pair or x y) at w = refl
-  numbers-answer (pair chop x y) at w = refl
-  numbers-answer (duration x n) at w = rw (number-is t x n at w, digit-place t x n at w, limited-above n)
-  numbers-answer (throughout x) at w = refl
+  -- what a node's first byte tells to each question
+  first-tells : (C : ℕ) {s : Sort} (x : Tree s) (at : ℕ) → Stands t x at
+      → (outsideAt C (firstByte x) at ≡ outside C x at) × (aboveAt t (firstByte x) at ≡ tooLarge x at) × (startAt (firstByte x) at ≡ at ∷ [])
+  first-tells C (constant true) at w = (refl, refl, refl)
+  first-tells C (constant false) at w = (refl, refl, refl)
+  first-tells C (letter c) at w =
+      let e : 97 + c - 97 ≡ c = omega arith in
+      (rw (letter-is c (w .letters), e), rw (ne-eqb (97 + c) 35 (λ e. omega arith)), rw (letter-starts c (w .letters)))
+  first-tells C (negation x) at w = (refl, refl, refl)
+  first-tells C (pair and x y) at w = (refl, refl, refl)
+  first-tells C (pair or x y) at w = (refl, refl, refl)
+  first-tells C (pair chop x y) at w = (refl, refl, refl)
+  first-tells C (duration x n) at w = (refl, rw (number-is t x n at w, digit-place t x n at w, limited-above n), refl)
+  first-tells C (throughout x) at w = (refl, refl, refl)
 
   answered : (a : Ask) {s : Sort} (x : Tree s) (at : ℕ) → Stands t x at → answersAt a t (firstByte x) at ≡ answer a x at
-  answered (AskLetters C) x at w = letters-answer C x at (w .letters)
-  answered Numbers x at w = numbers-answer x at w
-  answered Nodes x at w = starts-answer x at (w .letters)
+  answered (AskLetters C) x at w = first-tells C x at w .0
+  answered Numbers x at w = first-tells 0 x at w .1
+  answered Nodes x at w = first-tells 0 x at w .2
 
   -- a scan of a part's bytes finds what its tree has
   found-part : (a : Ask) {s : Sort} (x : Tree s) (at : ℕ) → Stands t x at → scan (answersAt a t) (textOf x) at ≡ flatMap (λ (w : Node). answer a (w .part) (w .first)) (nodesOf x at)
   unfolding scan
   found-part a x at w =
       scan-tree (answersAt a t) (quiet-at a) x at [] ∙ append-nil _
-      ∙ flat-same _ _ (nodesOf x at) (all-map (StandsNode t) _ (λ v s. answered a (v .part) (v .first) s) (nodesOf x at) (all-stand t x at w))
+      ∙ flat-same _ _ (nodesOf x at) (each-all (StandsNode t) _ (λ v s. answered a (v .part) (v .first) s) (nodesOf x at) (each-node (StandsNode t) (stands-pass t) x at w))
 
   -- a text that reads has a tree
   pub read-tree : askGrammar t ≡ Yes → (f : Tree Formula) × (read t ≡ parsed f)
@@ -153,7 +134,8 @@ module _ (t : List ℕ) where
   unfolding nodesIn foundIn
   found-in a e =
       let (f, r) = read-tree e in
-      ap (λ (q : List ℕ). scan (answersAt a t) q 0) (sym (prints-as-text t f r .1)) ∙ found-part a f 0 (root-stands f r) ∙ ap (λ (o : Read Formula). flatMap (λ (w : Node). answer a (w .part) (w .first)) (nodesRead o)) (sym r)
+      ap (λ (q : List ℕ). scan (answersAt a t) q 0) (sym (prints-as-text t f r .1)) ∙ found-part a f 0 (root-stands f r) ∙
+      ap (λ (o : Read Formula). flatMap (λ (w : Node). answer a (w .part) (w .first)) (nodesRead o)) (sym r)
 
   pub letters-asked : (C : ℕ) → askGrammar t ≡ Yes → askLetters C (nodesIn t) ≡ atFirst 5 (drop 0 (foundIn (AskLetters C) t))
   unfolding askLetters

@@ -1,17 +1,17 @@
 -- Going through the bytes of a printed tree and answering at first bytes only, one meets the nodes in their order: what stands
 -- within a node beside its parts is a sign, a link or a digit, and none of these begins a node.
-use mathlib.Core.Path.{_≡_, sym, ap, _∙_}
+use mathlib.Core.Path.{_≡_, refl, sym, ap, _∙_}
 use mathlib.Core.List.{List, [], _∷_, _++_, append-assoc, flatMap}
 use Prim.Native.Nat.{ℕ, suc, _+_, _<_}
 use native.Mathlib.Omega.{arith}
-use lib.ListN.{length, length-append}
+use lib.ListN.{length, drop, length-append}
 use Rattle.grammar.specs.Trees.{Link, Tree, constant, letter, negation, pair, duration, throughout, decimal, linkByte, constantByte, write, textOf}
 use Rattle.grammar.specs.declared.Sort.{Sort}
 use Rattle.grammar.proofs.Decimal.{decimal-digit, decimal-more, by-digits}
 use Rattle.grammar.proofs.Written.{length-write}
-use Rattle.formula.specs.Nodes.{Node, nodesOf}
+use Rattle.grammar.specs.Nodes.{Node, nodesOf}
 use Rattle.scan.specs.Scans.{scan}
-use Rattle.formula.proofs.Lists.{flat-append}
+use Rattle.lists.proofs.Lists.{flat-append}
 
 abbrev pub firstByte : {s : Sort} → Tree s → ℕ
 firstByte (constant v) = constantByte v
@@ -20,6 +20,15 @@ firstByte (negation x) = 33
 firstByte (pair l x y) = 40
 firstByte (duration x n) = 35
 firstByte (throughout x) = 91
+
+pub write-first : {s : Sort} (x : Tree s) (q : List ℕ) → write x q ≡ firstByte x ∷ drop 1 (write x q)
+unfolding write
+write-first (constant v) q = refl
+write-first (letter c) q = refl
+write-first (negation x) q = refl
+write-first (pair l x y) q = refl
+write-first (duration x n) q = refl
+write-first (throughout x) q = refl
 
 -- no answer at a byte that begins no node
 pub record Quiet (h : ℕ → ℕ → List ℕ) : Type 0 where
@@ -58,9 +67,11 @@ module _ (h : ℕ → ℕ → List ℕ) (w : Quiet h) where
       (scan-tree x (suc at) (linkByte l ∷ write y (41 ∷ q))
       ∙ ap (λ (p : List ℕ). answers x (suc at) ++ p) (skip (linkByte l) (suc at + length (textOf x)) (write y (41 ∷ q)) (w .links l _)
       ∙ scan-tree y (suc (suc at + length (textOf x))) (41 ∷ q)
-      ∙ ap (λ (p : List ℕ). answers y (suc (suc at + length (textOf x))) ++ p) (skip 41 _ q (w .close _) ∙ ap (scan h q) (omega (arith, length-write x (linkByte l ∷ write y (41 ∷ [])), length-write y (41 ∷ [])))))
+      ∙ ap (λ (p : List ℕ). answers y (suc (suc at + length (textOf x))) ++ p)
+      (skip 41 _ q (w .close _) ∙ ap (scan h q) (omega (arith, length-write x (linkByte l ∷ write y (41 ∷ [])), length-write y (41 ∷ [])))))
       ∙ sym (append-assoc (answers x (suc at)) (answers y (suc (suc at + length (textOf x)))) _)
-      ∙ ap (λ (p : List ℕ). p ++ scan h q (at + length (textOf (pair l x y)))) (sym (flat-append (λ (v : Node). h (firstByte (v .part)) (v .first)) (nodesOf x (suc at)) (nodesOf y (suc (suc at + length (textOf x)))))))
+      ∙ ap (λ (p : List ℕ). p ++ scan h q (at + length (textOf (pair l x y))))
+      (sym (flat-append (λ (v : Node). h (firstByte (v .part)) (v .first)) (nodesOf x (suc at)) (nodesOf y (suc (suc at + length (textOf x)))))))
   scan-tree (duration x n) at q = then (h 35 at) _ _ _
       (scan-tree x (suc at) (62 ∷ 61 ∷ decimal n ++ q)
       ∙ ap (λ (p : List ℕ). answers x (suc at) ++ p) (skip 62 _ (61 ∷ decimal n ++ q) (w .more _) ∙ skip 61 _ (decimal n ++ q) (w .equal _) ∙ skip-number n _ q

@@ -3,7 +3,7 @@
 use mathlib.Core.Path.{_≡_, refl, sym, ap, _∙_, subst}
 use mathlib.Core.Bool.{Bool, true, false, cond, false≢true}
 use mathlib.Core.List.{List, [], _∷_, _++_, map, flatMap}
-use Prim.Native.Nat.{ℕ, suc, _+_, _≤_, _<_}
+use Prim.Native.Nat.{ℕ, suc, _+_, _≤_}
 use native.Mathlib.Omega.{arith}
 use lib.Dec.{leb, ltb}
 use lib.ListN.{length, drop, length-drop, length-map}
@@ -13,19 +13,20 @@ use Rattle.refusal.specs.declared.Reply.{Reply}
 use Rattle.refusal.specs.declared.Reply.the-variants.{Yes, No}
 use Rattle.interval.specs.Limits.{maxSteps, askSteps}
 use Rattle.grammar.specs.Limits.{maxLength, maxNodes, maxNumber, maxChannels}
-use Rattle.grammar.specs.Trees.{Link, Tree, constant, letter, negation, pair, duration, throughout, Letters, Numbers, textOf}
+use Rattle.grammar.specs.Trees.{Tree, constant, letter, negation, pair, duration, throughout, Letters, Numbers, textOf}
 use Rattle.grammar.specs.Reader.{isStart, parsed, read}
 use Rattle.grammar.specs.declared.Sort.{Sort}
-use Rattle.grammar.specs.declared.Sort.the-variants.{State, Formula}
-use Rattle.grammar.proofs.Bytes.{ranged}
+use Rattle.grammar.specs.declared.Sort.the-variants.{Formula}
+use Rattle.lists.proofs.Tests.{ranged}
 use Rattle.scan.specs.Scans.{scan, startAt, foundIn}
 use Rattle.scan.specs.declared.Ask.the-variants.{Nodes}
-use Rattle.formula.specs.Nodes.{Node, nodesOf, nodesRead, nodesIn}
-use Rattle.formula.specs.Questions.{atFirst, askChannels, askLength, askGrammar, outside, tooLarge, askLetters, askNumbers, askNodes, formulaQuestions, acceptOf}
-use Rattle.interval.specs.Listing.{All}
-use Rattle.formula.proofs.Lists.{flat-append, flat-map}
+use Rattle.grammar.specs.Nodes.{Node, nodesOf, nodesRead, nodesIn, node}
+use Rattle.grammar.specs.Questions.{atFirst, askChannels, askLength, askGrammar, outside, tooLarge, askLetters, askNumbers, askNodes, formulaQuestions, acceptOf}
+use Rattle.lists.specs.Listing.{All}
+use Rattle.lists.proofs.Lists.{flat-append, flat-map}
+use Rattle.grammar.proofs.EachNode.{OnParts, LettersNode, NumbersNode}
 use Rattle.formula.proofs.Found.{read-tree, found-in}
-use Rattle.formula.proofs.Asked.{test-yes}
+use Rattle.refusal.proofs.Laws.{test-yes}
 
 -- a formula accepted for C and k
 pub record Accepted (C k : ℕ) (t : List ℕ) : Type 0 where
@@ -57,15 +58,7 @@ none-append : (f : Node → List ℕ) (l m : List Node) → flatMap f (l ++ m) �
 none-append f l m e = both-empty (flatMap f l) (flatMap f m) (sym (flat-append f l m) ∙ e)
 
 -- what a question that finds nothing at a node says of it, its parts being so
-record Says (f : (s : Sort) → Tree s → ℕ → List ℕ) (P : (s : Sort) → Tree s → Type 0) : Type 0 where
-  constants : (s : Sort) (v : Bool) → P s (constant v)
-  letters : (c at : ℕ) → f State (letter c) at ≡ [] → P State (letter c)
-  negations : (s : Sort) (x : Tree s) → P s x → P s (negation x)
-  pairs : (s : Sort) (l : Link s) (x y : Tree s) → P s x → P s y → P s (pair l x y)
-  durations : (x : Tree State) (n at : ℕ) → f Formula (duration x n) at ≡ [] → P State x → P Formula (duration x n)
-  throughouts : (x : Tree State) → P State x → P Formula (throughout x)
-
-module _ (f : (s : Sort) → Tree s → ℕ → List ℕ) (P : (s : Sort) → Tree s → Type 0) (q : Says f P) where
+module _ (f : (s : Sort) → Tree s → ℕ → List ℕ) (P : Node → Type 0) (q : (s : Sort) (x : Tree s) (at : ℕ) → f s x at ≡ [] → OnParts P (λ u. P) x at → P (node x at)) where
   abbrev finds : List Node → List ℕ
   finds = flatMap (λ (w : Node). f (w .sort) (w .part) (w .first))
 
@@ -73,46 +66,37 @@ module _ (f : (s : Sort) → Tree s → ℕ → List ℕ) (P : (s : Sort) → Tr
   unfolding flatMap
   own-none w l e = both-empty (f (w .sort) (w .part) (w .first)) (finds l) e
 
-  none-says : {s : Sort} (x : Tree s) (at : ℕ) → finds (nodesOf x at) ≡ [] → P s x
+  none-says : {s : Sort} (x : Tree s) (at : ℕ) → finds (nodesOf x at) ≡ [] → P (node x at)
   unfolding nodesOf
-  none-says {s} (constant v) at e = q .constants s v
-  none-says (letter c) at e = q .letters c at (own-none _ _ e .0)
-  none-says {s} (negation x) at e = q .negations s x (none-says x (suc at) (own-none _ _ e .1))
-  none-says {s} (pair l x y) at e =
-      let w = none-append (λ (w : Node). f (w .sort) (w .part) (w .first)) (nodesOf x (suc at)) (nodesOf y (suc (suc at + length (textOf x)))) (own-none _ _ e .1) in
-      q .pairs s l x y (none-says x (suc at) (w .0)) (none-says y (suc (suc at + length (textOf x))) (w .1))
-  none-says (duration x n) at e = let w = own-none _ _ e in q .durations x n at (w .0) (none-says x (suc at) (w .1))
-  none-says (throughout x) at e = q .throughouts x (none-says x (suc at) (own-none _ _ e .1))
+  none-says {s} (constant v) at e = q s (constant v) at (own-none _ _ e .0) tt
+  none-says (letter c) at e = q _ (letter c) at (own-none _ _ e .0) tt
+  none-says (negation x) at e = let w = own-none _ _ e in q _ (negation x) at (w .0) (none-says x (suc at) (w .1))
+  none-says (pair l x y) at e =
+      let w = own-none _ _ e in
+      let v = none-append (λ (w : Node). f (w .sort) (w .part) (w .first)) (nodesOf x (suc at)) (nodesOf y (suc (suc at + length (textOf x)))) (w .1) in
+      q _ (pair l x y) at (w .0) (none-says x (suc at) (v .0), none-says y (suc (suc at + length (textOf x))) (v .1))
+  none-says (duration x n) at e = let w = own-none _ _ e in q _ (duration x n) at (w .0) (none-says x (suc at) (w .1))
+  none-says (throughout x) at e = let w = own-none _ _ e in q _ (throughout x) at (w .0) (none-says x (suc at) (w .1))
 
 test-empty : (c : Bool) (p : ℕ) → cond c (p ∷ []) [] ≡ [] → c ≡ false
 test-empty true p e = absurd (false≢true cc)
 test-empty false p e = refl
 
-letters-say : (C : ℕ) → Says (λ s. outside C) (λ s. Letters C)
-letters-say C = record {
-  constants = λ s v. tt;
-  letters = own;
-  negations = λ s x w. w;
-  pairs = λ s l x y u w. (u, w);
-  durations = λ x n at e w. w;
-  throughouts = λ x w. w;
-}
-  where
-    own : (c at : ℕ) → cond (leb C c) (at ∷ []) [] ≡ [] → c < C
-    own c at e = leb-false C c (test-empty (leb C c) at e)
+letters-say : (C : ℕ) {s : Sort} (x : Tree s) (at : ℕ) → outside C x at ≡ [] → OnParts (LettersNode C) (λ u. LettersNode C) x at → Letters C x
+letters-say C (constant v) at e p = tt
+letters-say C (letter c) at e p = leb-false C c (test-empty (leb C c) at e)
+letters-say C (negation x) at e p = p
+letters-say C (pair l x y) at e p = p
+letters-say C (duration x n) at e p = p
+letters-say C (throughout x) at e p = p
 
-numbers-say : Says (λ s. tooLarge) (λ s. Numbers maxNumber)
-numbers-say = record {
-  constants = λ s v. tt;
-  letters = λ c at e. tt;
-  negations = λ s x w. w;
-  pairs = λ s l x y u w. (u, w);
-  durations = own;
-  throughouts = λ x w. tt;
-}
-  where
-    own : (x : Tree State) (n at : ℕ) → cond (ltb maxNumber n) ((at + 1 + length (textOf x) + 2) ∷ []) [] ≡ [] → Numbers maxNumber x → n ≤ maxNumber
-    own x n at e w = ltb-false maxNumber n (test-empty (ltb maxNumber n) (at + 1 + length (textOf x) + 2) e)
+numbers-say : {s : Sort} (x : Tree s) (at : ℕ) → tooLarge x at ≡ [] → OnParts (NumbersNode maxNumber) (λ u. NumbersNode maxNumber) x at → Numbers maxNumber x
+numbers-say (constant v) at e p = tt
+numbers-say (letter c) at e p = tt
+numbers-say (negation x) at e p = p
+numbers-say (pair l x y) at e p = p
+numbers-say (duration x n) at e p = ltb-false maxNumber n (test-empty (ltb maxNumber n) (at + 1 + length (textOf x) + 2) e)
+numbers-say (throughout x) at e p = tt
 
 pub nodes-read : (t : List ℕ) (f : Tree Formula) → read t ≡ parsed f → nodesIn t ≡ nodesOf f 0
 unfolding nodesIn
@@ -133,8 +117,10 @@ accepted C k t e =
       grammar = q .1 .1 .1 .0;
       root = f;
       reads = r;
-      letters = none-says _ _ (letters-say C) f 0 (ap (flatMap (λ (w : Node). outside C (w .part) (w .first))) (sym n) ∙ none-first 5 _ (q .1 .1 .1 .1 .0));
-      numbers = none-says _ _ numbers-say f 0 (ap (flatMap (λ (w : Node). tooLarge (w .part) (w .first))) (sym n) ∙ none-first 6 _ (q .1 .1 .1 .1 .1 .0));
+      letters = none-says (λ s. outside C) (LettersNode C) (λ s. letters-say C) f 0 (ap (flatMap (λ (w : Node). outside C (w .part) (w .first))) (sym n) ∙ none-first 5 _ (q .1 .1 .1 .1 .0));
+      numbers =
+          none-says (λ s. tooLarge) (NumbersNode maxNumber) (λ s. numbers-say) f 0
+          (ap (flatMap (λ (w : Node). tooLarge (w .part) (w .first))) (sym n) ∙ none-first 6 _ (q .1 .1 .1 .1 .1 .0));
       nodes = omega (arith, ap length n, ap length (none-first 7 (drop maxNodes firsts) (q .1 .1 .1 .1 .1 .1 .0)), length-drop maxNodes firsts, length-map (nodesIn t) (λ (w : Node). w .first));
     }
 

@@ -8,7 +8,7 @@ use native.Mathlib.Omega.{arith}
 use native.Mathlib.Numerals.{add-one}
 use lib.ListN.{length, getD, take, drop, length-drop}
 use lib.Seq.{take-append-seam, getD-drop}
-use Rattle.grammar.specs.Trees.{Link, Tree, constant, letter, negation, pair, duration, throughout, Letters, decimal, linkByte, constantByte, write, textOf}
+use Rattle.grammar.specs.Trees.{Link, Tree, constant, letter, negation, pair, duration, throughout, Letters, decimal, linkByte, write, textOf}
 use Rattle.grammar.specs.Reader.{whole, part, run}
 use Rattle.grammar.specs.declared.Sort.{Sort}
 use Rattle.grammar.specs.declared.Sort.the-variants.{State}
@@ -18,11 +18,10 @@ use Rattle.grammar.proofs.Printed.{part-read}
 use Rattle.grammar.proofs.Written.{write-text, length-write, drop-byte, drop-part}
 use Rattle.reader.specs.Parts.{valueFrom, restOf, endOf}
 use Rattle.reader.proofs.Parts.{rest-whole, in-place}
-use Rattle.formula.specs.Nodes.{Node, nodesOf}
+use Rattle.grammar.specs.Nodes.{Node}
 use Rattle.scan.specs.Scans.{capped, numberFrom, digitOf, numberOf}
-use Rattle.interval.specs.Listing.{All}
-use Rattle.formula.proofs.Lists.{all-append}
-use Rattle.formula.proofs.InOrder.{firstByte}
+use Rattle.formula.proofs.InOrder.{firstByte, write-first}
+use Rattle.grammar.proofs.EachNode.{Passes}
 
 -- a part stands at a place of a text
 pub record Stands (t : List ℕ) {s : Sort} (x : Tree s) (at : ℕ) : Type 0 where
@@ -30,15 +29,6 @@ pub record Stands (t : List ℕ) {s : Sort} (x : Tree s) (at : ℕ) : Type 0 whe
   pub here : drop at t ≡ write x rest
   pub clear : Clear rest
   pub letters : Letters 8 x
-
-text-some : {s : Sort} (x : Tree s) → 1 ≤ length (textOf x)
-unfolding write
-text-some (constant v) = omega arith
-text-some (letter c) = omega arith
-text-some (negation x) = omega arith
-text-some (pair l x y) = omega arith
-text-some (duration x n) = omega arith
-text-some (throughout x) = omega arith
 
 digits-read : (n : ℕ) (q : List ℕ) → valueFrom 0 (decimal n ++ q) ≡ valueFrom n q
 digits-read = by-digits (λ n. (q : List ℕ) → valueFrom 0 (decimal n ++ q) ≡ valueFrom n q)
@@ -54,7 +44,7 @@ module _ (t : List ℕ) where
   module _ {s : Sort} (x : Tree s) (at : ℕ) (w : Stands t x at) where
     -- it ends within the text
     pub end-within : at + length (textOf x) ≤ length t
-    end-within = omega (arith, ap length (w .here), length-drop at t, length-write x (w .rest), text-some x)
+    end-within = omega (arith, ap length (w .here), length-drop at t, length-write x (w .rest), ap length (write-first x []))
 
     end-is : endOf t s at ≡ at + length (textOf x)
     unfolding endOf
@@ -66,88 +56,49 @@ module _ (t : List ℕ) where
     pub text-is : take (length (textOf x)) (drop at t) ≡ textOf x
     text-is = ap (take (length (textOf x))) (w .here ∙ write-text x (w .rest)) ∙ take-append-seam (textOf x) (w .rest)
 
+  abbrev pub StandsNode : Node → Type 0
+  StandsNode w = Stands t (w .part) (w .first)
+
   -- the parts of a node stand
-  pub negated-stands : {s : Sort} (x : Tree s) (at : ℕ) → Stands t (negation x) at → Stands t x (suc at)
+  pub stands-pass : Passes StandsNode
   unfolding write
-  negated-stands x at w = record { rest = w .rest; here = drop-byte t at 33 (write x (w .rest)) (w .here); clear = w .clear; letters = w .letters }
-
-  pub left-stands : {s : Sort} (l : Link s) (x y : Tree s) (at : ℕ) → Stands t (pair l x y) at → Stands t x (suc at)
-  unfolding write
-  left-stands l x y at w = record {
-    rest = linkByte l ∷ write y (41 ∷ w .rest);
-    here = drop-byte t at 40 (write x (linkByte l ∷ write y (41 ∷ w .rest))) (w .here);
-    clear = link-clear l;
-    letters = w .letters .0;
-  }
-
-  link-stands : {s : Sort} (l : Link s) (x y : Tree s) (at : ℕ) (w : Stands t (pair l x y) at) → drop (suc at + length (textOf x)) t ≡ linkByte l ∷ write y (41 ∷ w .rest)
-  unfolding left-stands
-  link-stands l x y at w = let v = left-stands l x y at w in drop-part t (suc at) x (v .rest) (v .here)
-
-  pub right-stands : {s : Sort} (l : Link s) (x y : Tree s) (at : ℕ) → Stands t (pair l x y) at → Stands t y (suc (suc at + length (textOf x)))
-  right-stands l x y at w = record {
-    rest = 41 ∷ w .rest;
-    here = drop-byte t (suc at + length (textOf x)) (linkByte l) (write y (41 ∷ w .rest)) (link-stands l x y at w);
-    clear = refl;
-    letters = w .letters .1;
-  }
-
-  pub measured-stands : (x : Tree State) (n at : ℕ) → Stands t (duration x n) at → Stands t x (suc at)
-  unfolding write
-  measured-stands x n at w = record {
-    rest = 62 ∷ 61 ∷ decimal n ++ w .rest;
-    here = drop-byte t at 35 (write x (62 ∷ 61 ∷ decimal n ++ w .rest)) (w .here);
-    clear = refl;
-    letters = w .letters;
-  }
-
-  pub entered-stands : (x : Tree State) (at : ℕ) → Stands t (throughout x) at → Stands t x (suc at)
-  unfolding write
-  entered-stands x at w = record { rest = 93 ∷ w .rest; here = drop-byte t at 91 (write x (93 ∷ w .rest)) (w .here); clear = refl; letters = w .letters }
+  stands-pass s (constant v) at w = tt
+  stands-pass s (letter c) at w = tt
+  stands-pass s (negation x) at w = record { rest = w .rest; here = drop-byte t at 33 (write x (w .rest)) (w .here); clear = w .clear; letters = w .letters }
+  stands-pass s (pair l x y) at w =
+      let q : List ℕ = linkByte l ∷ write y (41 ∷ w .rest) in
+      let e = drop-byte t at 40 (write x q) (w .here) in
+      let p : ℕ = suc at + length (textOf x) in (
+        record { rest = q; here = e; clear = link-clear l; letters = w .letters .0 },
+        record { rest = 41 ∷ w .rest; here = drop-byte t p (linkByte l) (write y (41 ∷ w .rest)) (drop-part t (suc at) x q e); clear = refl; letters = w .letters .1 },
+      )
+  stands-pass s (duration x n) at w =
+      let q : List ℕ = 62 ∷ 61 ∷ decimal n ++ w .rest in
+      record { rest = q; here = drop-byte t at 35 (write x q) (w .here); clear = refl; letters = w .letters }
+  stands-pass s (throughout x) at w = record { rest = 93 ∷ w .rest; here = drop-byte t at 91 (write x (93 ∷ w .rest)) (w .here); clear = refl; letters = w .letters }
 
   -- a node's first byte, and the byte that joins its parts
   byte-at : (at b : ℕ) (q : List ℕ) → drop at t ≡ b ∷ q → getD t at 0 ≡ b
   byte-at at b q e = ap (λ (n : ℕ). getD t n 0) (sym (add-zero at)) ∙ sym (getD-drop at t 0 0) ∙ ap (λ (l : List ℕ). getD l 0 0) e
 
   pub first-is : {s : Sort} (x : Tree s) (at : ℕ) → Stands t x at → getD t at 0 ≡ firstByte x
-  unfolding write
-  first-is (constant v) at w = byte-at at (constantByte v) _ (w .here)
-  first-is (letter c) at w = byte-at at (97 + c) _ (w .here)
-  first-is (negation x) at w = byte-at at 33 _ (w .here)
-  first-is (pair l x y) at w = byte-at at 40 _ (w .here)
-  first-is (duration x n) at w = byte-at at 35 _ (w .here)
-  first-is (throughout x) at w = byte-at at 91 _ (w .here)
+  first-is x at w = byte-at at (firstByte x) _ (w .here ∙ write-first x (w .rest))
 
   pub link-is : {s : Sort} (l : Link s) (x y : Tree s) (at : ℕ) → Stands t (pair l x y) at → getD t (suc at + length (textOf x)) 0 ≡ linkByte l
-  link-is l x y at w = byte-at (suc at + length (textOf x)) (linkByte l) _ (link-stands l x y at w)
+  unfolding stands-pass
+  link-is l x y at w = let v = stands-pass _ (pair l x y) at w .0 in byte-at (suc at + length (textOf x)) (linkByte l) _ (drop-part t (suc at) x (v .rest) (v .here))
 
   -- a duration's number
   pub digit-place : (x : Tree State) (n at : ℕ) → Stands t (duration x n) at → digitOf t at ≡ at + 1 + length (textOf x) + 2
-  digit-place x n at w = rw (add-one at) (ap (λ (p : ℕ). p + 2) (end-is x (suc at) (measured-stands x n at w)))
+  digit-place x n at w = rw (add-one at) (ap (λ (p : ℕ). p + 2) (end-is x (suc at) (stands-pass _ (duration x n) at w)))
 
   digits-stand : (x : Tree State) (n at : ℕ) (w : Stands t (duration x n) at) → drop (digitOf t at) t ≡ decimal n ++ w .rest
-  unfolding measured-stands
+  unfolding stands-pass
   digits-stand x n at w =
       let p : ℕ = suc at + length (textOf x) in
       let e : digitOf t at ≡ suc (suc p) = omega (arith, digit-place x n at w) in
-      let v = measured-stands x n at w in
+      let v = stands-pass _ (duration x n) at w in
       ap (λ (m : ℕ). drop m t) e ∙ drop-byte t (suc p) 61 (decimal n ++ w .rest) (drop-byte t p 62 (61 ∷ decimal n ++ w .rest) (drop-part t (suc at) x (v .rest) (v .here)))
 
   pub number-is : (x : Tree State) (n at : ℕ) → Stands t (duration x n) at → numberOf t at ≡ capped n
   number-is x n at w = ap (numberFrom 0) (digits-stand x n at w) ∙ read-number n (w .rest) (w .clear)
-
-  abbrev pub StandsNode : Node → Type 0
-  StandsNode w = Stands t (w .part) (w .first)
-
-  pub all-stand : {s : Sort} (x : Tree s) (at : ℕ) → Stands t x at → All StandsNode (nodesOf x at)
-  unfolding nodesOf
-  all-stand (constant v) at w = (w, tt)
-  all-stand (letter c) at w = (w, tt)
-  all-stand (negation x) at w = (w, all-stand x (suc at) (negated-stands x at w))
-  all-stand (pair l x y) at w = (
-    w,
-    all-append StandsNode (nodesOf x (suc at)) (nodesOf y (suc (suc at + length (textOf x))))
-        (all-stand x (suc at) (left-stands l x y at w)) (all-stand y (suc (suc at + length (textOf x))) (right-stands l x y at w)),
-  )
-  all-stand (duration x n) at w = (w, all-stand x (suc at) (measured-stands x n at w))
-  all-stand (throughout x) at w = (w, all-stand x (suc at) (entered-stands x at w))

@@ -14,7 +14,7 @@ ghost use Rattle.moments.specs.Moments.{old};
 ghost use Rattle.refusal.specs.Asked.{asked};
 ghost use Rattle.grammar.specs.Limits.{maxLength};
 ghost use Rattle.scan.specs.Scans.{foundIn};
-ghost use Rattle.formula.specs.Questions.{atFirst, askChannels, askLength, askGrammar, textQuestions, acceptOf};
+ghost use Rattle.grammar.specs.Questions.{atFirst, askChannels, askLength, askGrammar, textQuestions, acceptOf};
 
 // A no with a place of the text.
 fn no(number: u32, place: usize) -> Reply

@@ -16,7 +16,7 @@ use Rattle.grammar.specs.declared.Lead.the-variants.{Leaf, Not, Open, Me
 use Rattle.grammar.specs.declared.Joint.{Joint}
 use Rattle.grammar.specs.declared.Joint.the-variants.{And, Or, Chop, Nothing}
 use Rattle.grammar.proofs.Decimal.{decimal-digit, decimal-more}
-use Rattle.grammar.proofs.Bytes.{cond-elim, ranged}
+use Rattle.lists.proofs.Tests.{cond-elim, ranged}
 use Rattle.grammar.proofs.Printed.{one}
 
 -- the bytes taken before a part, and q after them
@@ -139,7 +139,11 @@ module _ {r : Sort} where
   keeps (after x K) b w = follow-keeps _ x K b (w .0) (w .1)
   keeps (above x K) b w = exactly (above x K) (equals x K) 61 b w (λ q. refl)
   keeps (equals x K) b w = cond-elim (Kept (wrote (equals x K)) b) (eqb b 48)
-      (λ e. (w, λ q. ap (λ (c : ℕ). taken K (35 ∷ write x (62 ∷ 61 ∷ c ∷ q))) (eqb-true b 48 e) ∙ ap (λ (p : List ℕ). taken K (35 ∷ write x (62 ∷ 61 ∷ p ++ q))) (sym (decimal-digit 0 (omega arith)))))
+      (λ e. (
+        w,
+        λ q. ap (λ (c : ℕ). taken K (35 ∷ write x (62 ∷ 61 ∷ c ∷ q))) (eqb-true b 48 e) ∙
+            ap (λ (p : List ℕ). taken K (35 ∷ write x (62 ∷ 61 ∷ p ++ q))) (sym (decimal-digit 0 (omega arith))),
+      ))
       (λ z. cond-elim (Kept (wrote (equals x K)) b) (isDigit b)
       (λ h.
       let v = ranged 48 57 b h in

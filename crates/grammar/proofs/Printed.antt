@@ -10,7 +10,8 @@ use Rattle.grammar.specs.Reader.{Around, whole, negated, left, right, me
 use Rattle.grammar.specs.declared.Sort.{Sort}
 use Rattle.grammar.specs.declared.Sort.the-variants.{State, Formula}
 use Rattle.grammar.proofs.Decimal.{decimal-digit, decimal-more, by-digits}
-use Rattle.grammar.proofs.Bytes.{at-each, digit-is, Clear, link-clear}
+use Rattle.lists.proofs.Tests.{at-each}
+use Rattle.grammar.proofs.Bytes.{digit-is, Clear, link-clear}
 
 -- one byte
 pub one : {r : Sort} (m : Reading r) (b : ℕ) (t : List ℕ) {n : Reading r} → next m b ≡ go n → run m (b ∷ t) ≡ run n t

@@ -2,3 +2,5 @@ pub mod Limits
 pub mod Ascii
 pub mod Trees
 pub mod Reader
+pub mod Nodes
+pub mod Questions

@@ -154,3 +154,8 @@ placed t (stops q) = stopped (length t - length q)
 
 unfoldable pub read : List ℕ → Read Formula
 read t = placed t (run (part Formula whole) t)
+
+-- of the tree that a text reads as; a text that does not read is refused before
+abbrev pub onTree : {A : Type 0} → (Tree Formula → List A) → Read Formula → List A
+onTree g (parsed f) = g f
+onTree g (stopped p) = []

@@ -66,5 +66,5 @@ pub fn is_search(lines: &[u8]) -> bool {
     if lines.len() == 0 {
         return false;
     }
-    grammar::is_digit(lines[0])
+    formula_bytes::is_digit(lines[0])
 }

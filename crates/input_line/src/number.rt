@@ -25,7 +25,7 @@ pub fn decimal(text: &[u8]) -> Number {
     };
     if end < text.len() {
         // Of digits only a 0 ends before the last.
-        return if grammar::is_digit(text[end]) {
+        return if formula_bytes::is_digit(text[end]) {
             Number::Zero
         } else {
             Number::Not

@@ -7,7 +7,7 @@ use Prim.Native.Nat.{ℕ, suc, _+_, _-_, _*_, _≤_, _<_}
 use native.Mathlib.Nat.{zero-add, suc-mul, zero-mul, mul-le-mul, mul-le-mul-right}
 use native.Mathlib.Omega.{arith}
 use lib.ListN.{length}
-use Rattle.interval.specs.Listing.{rows}
+use Rattle.lists.specs.Listing.{rows}
 use Rattle.interval.specs.Places.{countOf, placeOf}
 use Rattle.interval.specs.Limits.{maxSteps, maxCount}
 use Rattle.interval.proofs.Shape.{Inside}
@@ -24,7 +24,8 @@ use Rattle.sweeps.proofs.Walk.{clauses-here, visit-asks}
 use Rattle.fanout.specs.Walks.{Standing, instantPlace, riseClauses}
 use Rattle.fanout.proofs.Fine.{level-place, chop-place}
 use Rattle.fanout.specs.Fanout.{Rising}
-use Rattle.walks.proofs.Places.{interval-small, count-small}
+use Rattle.interval.proofs.Counts.{few-intervals}
+use Rattle.walks.proofs.Places.{interval-small}
 use Rattle.levels.proofs.Gates.{whole-gate, level-gate}
 
 longer-than-empty : (k i t : ℕ) → i ≤ t → 1 ≤ placeOf k (record { i = i; j = t + 1 })
@@ -52,7 +53,12 @@ module _ (C k : ℕ) (b : Block) (i t : ℕ) (o : i ≤ t) (l : t < k) where
     level : Placed (b .points) k (b .rule) x a i steps
     level =
         let w : Inside (shapeOf (b .points) k (Duration n)) (a, (i, steps)) = (omega arith, (omega arith, omega arith)) in
-        subst (λ (r : Rule). Placed (b .points) k r x a i steps) (sym d) (record { inside = w; at = sym (level-place k (b .points) n a i steps w ∙ ap (λ (j : ℕ). a * countOf k + placeOf k (record { i = i; j = j })) end) })
+        subst (λ (r : Rule). Placed (b .points) k r x a i steps) (sym d)
+        (record {
+          inside = w;
+          at = sym (level-place k (b .points) n a i steps w ∙
+              ap (λ (j : ℕ). a * countOf k + placeOf k (record { i = i; j = j })) end);
+        })
 
     module _ {v I : ℕ} (e : v ≡ b .first + x) (c : I ≡ countOf k) where
       gate : Step (v - 1) (v - 1 - I) (b .left + t) ≡ gateOf C k b x a i steps
@@ -72,7 +78,8 @@ module _ (C k : ℕ) (b : Block) (i t : ℕ) (o : i ≤ t) (l : t < k) where
     line : Placed (b .points) k (b .rule) ends 0 i steps
     line =
         let w : Inside (shapeOf (b .points) k Throughout) (0, (i, steps)) = (omega arith, (omega arith, omega arith)) in
-        subst (λ (r : Rule). Placed (b .points) k r ends 0 i steps) (sym d) (record { inside = w; at = sym (chop-place k (b .points) 0 i steps w ∙ ap (λ (j : ℕ). placeOf k (record { i = i; j = j })) end) })
+        subst (λ (r : Rule). Placed (b .points) k r ends 0 i steps) (sym d)
+        (record { inside = w; at = sym (chop-place k (b .points) 0 i steps w ∙ ap (λ (j : ℕ). placeOf k (record { i = i; j = j })) end) })
 
     module _ {v : ℕ} (e : v ≡ b .first + ends) where
       both : Both (v - 1) (b .left + t) ≡ gateOf C k b ends 0 i steps
@@ -117,7 +124,8 @@ pub record Rises (k : ℕ) (b : Block) (a n t i v e : ℕ) : Type 0 where
   pub ends : t < k
   pub here : v ≡ b .first + instantPlace k a t i e
 
-pub rise-begun : {k : ℕ} {b : Block} {a n t i p I : ℕ} → Rising (b .rule) a n → (a ≡ 0 → ⊥) → i ≤ t → t < k → p ≡ placeOf k (record { i = i; j = i + (t + 1 - i) }) → I ≡ countOf k
+pub rise-begun : {k : ℕ} {b : Block} {a n t i p I : ℕ} → Rising (b .rule) a n → (a ≡ 0 → ⊥) → i ≤ t → t < k →
+    p ≡ placeOf k (record { i = i; j = i + (t + 1 - i) }) → I ≡ countOf k
     → Rises k b a n t i (b .first + p + I) 0
 rise-begun {k} {b} {a} {n} {t} {i} {p} {I} r z o l e c = go r
   where
@@ -132,7 +140,7 @@ rise-begun {k} {b} {a} {n} {t} {i} {p} {I} r z o l e c = go r
     go (inr w) = absurd (z (w .1))
 
 pub begun-small : {k i t p I : ℕ} → k ≤ maxSteps → i ≤ t → t < k → p ≡ placeOf k (record { i = i; j = i + (t + 1 - i) }) → I ≡ countOf k → (p < maxCount) × (I ≤ maxCount)
-begun-small {k} {i} {t} h o l e c = (omega (arith, e, interval-small k i (i + (t + 1 - i)) h (omega arith) (omega arith)), omega (arith, c, count-small k h))
+begun-small {k} {i} {t} h o l e c = (omega (arith, e, interval-small k i (i + (t + 1 - i)) h (omega arith) (omega arith)), omega (arith, c, few-intervals k h))
 
 module _ {k : ℕ} {b : Block} {a n t i v e I : ℕ} (f : Rises k b a n t i v e) (c : I ≡ countOf k) where
   pub rise-turn : Rises k b a n t i (v + I) (e + 1)
@@ -144,13 +152,20 @@ module _ {k : ℕ} {b : Block} {a n t i v e I : ℕ} (f : Rises k b a n t i v e)
     pub rise-clauses : (C : ℕ) → clausesOf v (Step (v - 1) (v - 1 - I) (b .left + t)) ≡ clausesAt (definedBy C k b) (instantPlace k a t i e)
     rise-clauses C = level-clauses C k b i t (f .starts) (f .ends) (f .rule) (a + e) (omega (arith, f .first)) (omega (arith, f .first)) (f .here) c
 
-    pub rise-asks : {C : ℕ} {values trail : List ℕ} {top : ℕ} → Standing C k b values trail top → Variable (length values) v × InputsIn (length values) (Step (v - 1) (v - 1 - I) (b .left + t))
+    pub rise-asks : {C : ℕ} {values trail : List ℕ} {top : ℕ} → Standing C k b values trail top → Variable (length values) v ×
+        InputsIn (length values) (Step (v - 1) (v - 1 - I) (b .left + t))
     rise-asks {C} s = level-asks C k b i t (f .starts) (f .ends) (f .rule) (a + e) (omega (arith, f .first)) (omega (arith, f .first)) (f .here) c s
 
     pub rise-small : {C : ℕ} → Bounded C k b → (v < bound + 257 * maxCount) × (1 + I ≤ v) × (I ≤ maxCount)
     rise-small s =
-        let w = count-small k (s .steps) in (
-          omega (arith, f .here, s .first, interval-small k i (t + 1) (s .steps) (omega (arith, f .starts)) (omega (arith, f .ends)), mul-le-mul {n₁ = a + e} {n₂ = 256} {m₂ = maxCount} (omega (arith, f .first, level-le (s .number) (f .rule))) w),
+        let w = few-intervals k (s .steps) in (
+          omega (
+            arith,
+            f .here,
+            s .first,
+            interval-small k i (t + 1) (s .steps) (omega (arith, f .starts)) (omega (arith, f .ends)),
+            mul-le-mul {n₁ = a + e} {n₂ = 256} {m₂ = maxCount} (omega (arith, f .first, level-le (s .number) (f .rule))) w,
+          ),
           omega (arith, f .here, c, longer-than-empty k i t (f .starts), mul-le-mul-right {m = 1} {n = a + e} (countOf k) (omega (arith, f .first))),
           omega (arith, c, w),
         )

@@ -4,9 +4,9 @@ use mathlib.Core.Path.{_≡_, refl, sym, ap, _∙_}
 use Prim.Native.Nat.{ℕ, zero, suc, _+_, _-_, _*_, _/_, _≤_}
 use native.Mathlib.Nat.{suc-mul, mul-suc, zero-mul, mul-comm, mul-assoc, mul-le-mul, sub-zero, le-refl}
 use native.Mathlib.Omega.{arith}
-use Rattle.interval.specs.Listing.{sum}
+use Rattle.lists.specs.Listing.{sum}
 use Rattle.interval.specs.Places.{countOf, placeOf, tripleCountOf}
-use Rattle.interval.specs.Limits.{IntervalOf, TripleOf}
+use Rattle.interval.specs.Limits.{maxSteps, maxCount, IntervalOf, TripleOf}
 use Rattle.interval.specs.declared.Interval.{Interval}
 use Rattle.interval.specs.declared.Triple.{Triple}
 use Rattle.interval.proofs.Shape.{count, place, intervals, triples}
@@ -101,7 +101,7 @@ pub interval-place-code : (k : ℕ) (v : Interval) (a b : ℕ) → IntervalOf k 
 interval-place-code k v a b o p q = omega (arith, all-but (λ x. x) countOf triangle-count k (v .i) (omega arith), interval-place k v o)
 
 -- the shorter intervals from i on have 1, 2, .., d triples
-half : (d : ℕ) → d * (d + 1) / 2 ≡ sum suc d
+pub half : (d : ℕ) → d * (d + 1) / 2 ≡ sum suc d
 half d = omega (arith, triangle d)
 
 pub triple-place-code : (k : ℕ) (t : Triple) (a b : ℕ) → TripleOf k t → a ≡ tripleCountOf k → b ≡ tripleCountOf (k - t .i)
@@ -110,3 +110,8 @@ triple-place-code k t a b o p q = omega (arith, all-but (sum suc) tripleCountOf 
 
 pub half-le : (n k : ℕ) (t : Triple) → k ≤ n → TripleOf k t → (t .j - t .i) * (t .j - t .i + 1) ≤ n * (n + 1)
 half-le n k t h o = mul-le-mul (omega arith) (omega arith)
+
+-- no more intervals than a table holds
+pub few-intervals : (k : ℕ) → k ≤ maxSteps → countOf k ≤ maxCount
+unfolding countOf
+few-intervals k h = count-le maxSteps k h

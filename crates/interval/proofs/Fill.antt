@@ -3,10 +3,10 @@
 use mathlib.Core.Path.{_≡_, refl, sym, ap, _∙_}
 use mathlib.Core.Bool.{Bool, true, false}
 use mathlib.Core.List.{List}
-use Prim.Native.Nat.{ℕ, _+_, _≤_, _<_}
+use Prim.Native.Nat.{ℕ, _+_, _≤_, _<_, zero, suc}
 use native.Mathlib.Omega.{arith}
 use lib.Dec.{ltb}
-use lib.ListN.{length, getD, set, length-set}
+use lib.ListN.{length, getD, set, length-set, replicate}
 use lib.Seq.{getD-set-same, getD-set-other}
 use borrow.Author.Tests.{ltb-true, ltb-false}
 
@@ -31,3 +31,8 @@ module _ (n : ℕ) (new old : ℕ → ℕ) where
       go y g false t =
           let m : d ≡ y = omega (arith, ltb-false y d t) in
           ap (λ (z : ℕ). getD (set l d b) z 0) (sym m) ∙ getD-set-same l d b 0 (omega (arith, u .whole)) ∙ e ∙ ap new m
+
+pub zeros : (n y : ℕ) → getD {A = ℕ} (replicate n 0) y 0 ≡ 0
+zeros zero y = refl
+zeros (suc n) zero = refl
+zeros (suc n) (suc y) = zeros n y

@@ -10,7 +10,7 @@ use borrow.Author.Tests.{leb-true, eqb-true, le-leb, eq-eqb}
 use lib.Dec.{eqb, leb}
 use Rattle.refusal.specs.Asked.{question, asked}
 use Rattle.refusal.specs.declared.Refusal.{Refusal}
-use Rattle.interval.specs.Listing.{placeIn}
+use Rattle.lists.specs.Listing.{placeIn}
 use Rattle.interval.specs.Places.{countOf, placeOf, intervalsOf, tripleCountOf, sameTriple, triplePlaceOf, triplesOf}
 use Rattle.interval.specs.Limits.{maxSteps, askSteps, askInterval, madeOf, IntervalOf, TripleOf}
 use Rattle.interval.specs.declared.Interval.{Interval}

@@ -7,8 +7,8 @@ use Prim.Native.Nat.{ℕ, suc, _+_, _-_, _<_}
 use native.Mathlib.Omega.{arith}
 use lib.ListN.{length, getD, length-map, List·getD-map}
 use lib.Seq.{ext-getD}
-use Rattle.interval.specs.Listing.{rows, tab, placeIn, sum}
-use Rattle.interval.proofs.Listing.{sum-lt, row-of, rows-same, map-rows, length-rows, getD-rows, length-tab, getD-tab, place-in}
+use Rattle.lists.specs.Listing.{rows, tab, placeIn, sum}
+use Rattle.lists.proofs.Listing.{sum-lt, row-of, rows-same, map-rows, length-rows, getD-rows, length-tab, getD-tab, place-in}
 
 pub data Shape : Type 0 where
   line : ℕ → Shape

@@ -1,3 +1,2 @@
-pub mod Listing
 pub mod Places
 pub mod Limits

@@ -3,7 +3,7 @@ use mathlib.Core.Bool.{Bool, _&&_}
 use mathlib.Core.List.{List, [], _∷_}
 use Prim.Native.Nat.{ℕ, _+_, _-_, _*_, _/_}
 use lib.Dec.{eqb}
-use Rattle.interval.specs.Listing.{each, placeIn}
+use Rattle.lists.specs.Listing.{each, placeIn}
 use Rattle.interval.specs.declared.Interval.{Interval}
 use Rattle.interval.specs.declared.Triple.{Triple}
 

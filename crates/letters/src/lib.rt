@@ -7,10 +7,10 @@ ghost use mathlib.Core.Path.{_≡_};
 ghost use Prim.Native.Nat.{ℕ, _*_, _≤_, _<_};
 ghost use Rattle.moments.specs.Moments.{old};
 ghost use Rattle.interval.specs.Limits.{maxSteps};
-ghost use Rattle.interval.specs.Listing.{rows};
+ghost use Rattle.lists.specs.Listing.{rows};
 ghost use Rattle.grammar.specs.Limits.{maxNodes, maxChannels};
 ghost use Rattle.node_clauses.specs.Nodes.{Fine};
-ghost use Rattle.clause_table.specs.Rows.{Low, Seated, blockBy};
+ghost use Rattle.table_layout.specs.Rows.{Low, Seated, blockBy};
 ghost use Rattle.closing.specs.Values.{Trailing};
 ghost use Rattle.visits.specs.Visits.{Visits};
 ghost use Rattle.sweeps.specs.Sweeps.{tableBy};
@@ -48,12 +48,12 @@ pub fn block_of<'a>(
     ensures { λ r. ⌜ ((c : ℕ) → c ≤ maxChannels → Fine c k r) ⌝ }
 {
     let kind = rows::byte_at(kinds, x);
-    let left = clause_table::number_at(seats, x + 1);
-    let right = clause_table::number_at(seats, nodes::second(sizes, x));
+    let left = table_layout::number_at(seats, x + 1);
+    let right = table_layout::number_at(seats, nodes::second(sizes, x));
     Block {
         rule: blocks::rule_of(kind, rows::byte_at(numbers, x)),
         points: weights::points_of(kind, k),
-        first: clause_table::number_at(firsts, x),
+        first: table_layout::number_at(firsts, x),
         left,
         right,
     }

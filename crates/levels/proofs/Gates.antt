@@ -58,7 +58,8 @@ module _ (C k : ℕ) (b : Block) (x a i d : ℕ) where
         known : Constant false ≡ levelBy k (b .first) (b .left) x a i d
         known = simp (ne-eqb a 0 f, eq-eqb d 0 e)
 
-    pub level-gate : (a ≡ 0 → ⊥) → (d ≡ 0 → ⊥) → {p q s : ℕ} → p ≡ b .first + (x - 1) → q ≡ b .first + (x - 1 - countOf k) → s ≡ b .left + (i + (d - 1)) → Step p q s ≡ gate
+    pub level-gate : (a ≡ 0 → ⊥) → (d ≡ 0 → ⊥) → {p q s : ℕ} → p ≡ b .first + (x - 1) → q ≡ b .first + (x - 1 - countOf k) →
+        s ≡ b .left + (i + (d - 1)) → Step p q s ≡ gate
     level-gate f g {p} {q} {s} e h m = (λ z. Step (e z) (h z) (m z)) ∙ known ∙ gate-by C k b x a i d r
       where
         known : Step (b .first + (x - 1)) (b .first + (x - 1 - countOf k)) (b .left + (i + (d - 1))) ≡ levelBy k (b .first) (b .left) x a i d

@@ -4,14 +4,14 @@ use mathlib.Core.Path.{_≡_, refl, sym, ap, ap₂, _∙_}
 use mathlib.Core.List.{List, [], _∷_, _++_, map, map-append, flatMap, append-nil}
 use Prim.Native.Nat.{ℕ, zero, suc, _+_, _-_, _≤_}
 use native.Mathlib.Omega.{arith}
-use Rattle.interval.specs.Listing.{rows, tab}
-use Rattle.interval.proofs.Listing.{map-rows}
+use Rattle.lists.specs.Listing.{rows, tab}
+use Rattle.lists.proofs.Listing.{map-rows}
 use Rattle.meaning.specs.Meaning.{bit}
 use Rattle.circuit.specs.declared.Gate.the-variants.{AnyOf}
 use Rattle.clauses.specs.Clauses.{Literal, plain, negated, Clause, clausesOf}
 use Rattle.clauses.specs.Entries.{Entry, entry, entriesOf, flat}
 use Rattle.literals.specs.Written.{runOf, raisedOf, longOf}
-use Rattle.clauses.proofs.Sizes.{flat-join}
+use Rattle.clauses.proofs.Flat.{flat-join}
 
 flat-rows : (f : ℕ → List Clause) (n : ℕ) → flat (rows n f) ≡ rows n (λ e. flat (f e))
 unfolding rows flat flatMap

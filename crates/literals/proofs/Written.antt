@@ -8,9 +8,9 @@ use native.Mathlib.Numerals.{add-one}
 use native.Mathlib.Omega.{arith}
 use lib.ListN.{length, getD, take, set, length-append, length-map}
 use lib.Seq.{sets, length-sets, take-suc, take-all, length-take-le}
-use Rattle.interval.specs.Listing.{rows}
-use Rattle.interval.proofs.Listing.{rows-le}
-use Rattle.formula.proofs.Lists.{flat-append}
+use Rattle.lists.specs.Listing.{rows}
+use Rattle.lists.proofs.Listing.{rows-le, rows-next}
+use Rattle.lists.proofs.Lists.{flat-append}
 use Rattle.clauses.specs.Entries.{Entry, entry, variablesIn, marksIn}
 use Rattle.literals.specs.Written.{Room, Wrote, Sofar}
 
@@ -45,7 +45,8 @@ module _ {g : ℕ → List ℕ} {s : List ℕ} {i : ℕ} {l : List ℕ} where
   copy-begun h = record { whole = h; upto = omega arith; long = refl; stored = refl }
 
   module _ {n : ℕ} {s′ : List ℕ} {e : ℕ} (c : Copied g s i l n s′ e) where
-    pub copy-turn : (w : ℕ) → ((x : ℕ) → length (g x) ≡ w) → e < length l → {b : ℕ} → b ≡ i + e * w → {s″ : List ℕ} → s″ ≡ sets s′ b (g (getD l e 0)) → Copied g s i l n s″ (e + 1)
+    pub copy-turn : (w : ℕ) → ((x : ℕ) → length (g x) ≡ w) → e < length l → {b : ℕ} → b ≡ i + e * w → {s″ : List ℕ} →
+        s″ ≡ sets s′ b (g (getD l e 0)) → Copied g s i l n s″ (e + 1)
     unfolding flatMap
     copy-turn w even h {b} p {s″} d =
         let m : length (flatMap g (take e l)) ≡ e * w = flat-length g w even (take e l) ∙ ap (λ (n : ℕ). n * w) (length-take-le e l (omega arith)) in
@@ -53,7 +54,17 @@ module _ {g : ℕ → List ℕ} {s : List ℕ} {i : ℕ} {l : List ℕ} where
           whole = c .whole;
           upto = omega arith;
           long = ap length d ∙ length-sets s′ b (g (getD l e 0)) ∙ c .long;
-          stored = d ∙ rw (p, add-one e, take-suc l e 0 h, flat-append g (take e l) (getD l e 0 ∷ []), append-nil (g (getD l e 0)), sets-append s i (flatMap g (take e l)) (g (getD l e 0)), m, c .stored) refl;
+          stored =
+              d ∙ rw (
+                p,
+                add-one e,
+                take-suc l e 0 h,
+                flat-append g (take e l) (getD l e 0 ∷ []),
+                append-nil (g (getD l e 0)),
+                sets-append s i (flatMap g (take e l)) (g (getD l e 0)),
+                m,
+                c .stored,
+              ) refl;
         }
 
     pub copy-done : n ≤ e → s′ ≡ sets s i (flatMap g l)
@@ -94,7 +105,8 @@ sets-then f s i F G p q r =
     rw (map-append, sets-append, ← e, ← q, ← p) r
 
 -- first F, then G
-pub and-then : {v m v′ m′ v″ m″ : List ℕ} {at at′ at″ : ℕ} {F G : List Entry} → Wrote v m at F v′ m′ at′ → Wrote v′ m′ at′ G v″ m″ at″ → Wrote v m at (F ++ G) v″ m″ at″
+pub and-then : {v m v′ m′ v″ m″ : List ℕ} {at at′ at″ : ℕ} {F G : List Entry} → Wrote v m at F v′ m′ at′ →
+    Wrote v′ m′ at′ G v″ m″ at″ → Wrote v m at (F ++ G) v″ m″ at″
 and-then {v} {m} {at = at} {F = F} {G = G} a b = record {
   variables = sets-then (λ (e : Entry). e .variable) v at F G (a .variables) (a .next) (b .variables);
   marks = sets-then (λ (e : Entry). e .mark) m at F G (a .marks) (a .next) (b .marks);
@@ -124,9 +136,6 @@ module _ {v m : List ℕ} {at : ℕ} {R : List Entry} (r : Room v m at R) (F G :
 
 -- ---- loops
 
-rows-more : (f : ℕ → List Entry) (i : ℕ) → rows i f ++ f i ≡ rows (i + 1) f
-rows-more f i = unfold rows in rw add-one
-
 pub begun : {v m : List ℕ} {at n : ℕ} {f : ℕ → List Entry} → Sofar v m at f n v m at 0
 begun = record { upto = omega arith; long = refl; wide = refl; wrote = unfold rows in record { variables = refl; marks = refl; next = omega arith } }
 
@@ -140,7 +149,7 @@ module _ {v m v′ m′ : List ℕ} {at at′ n i : ℕ} {f : ℕ → List Entry
       upto = omega arith;
       long = kept-variables w ∙ s .long;
       wide = kept-marks w ∙ s .wide;
-      wrote = named (ap (λ (G : List Entry). rows i f ++ G) (sym e) ∙ rows-more f i) (and-then (s .wrote) w);
+      wrote = named (ap (λ (G : List Entry). rows i f ++ G) (sym e) ∙ rows-next f i) (and-then (s .wrote) w);
     }
 
     pub room : Room v m at (rows n f) → Room v′ m′ at′ G

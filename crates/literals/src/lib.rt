@@ -9,7 +9,7 @@ ghost use Prim.Native.Nat.{_+_, _≤_};
 ghost use lib.ListN.{length};
 ghost use lib.Seq.{sets};
 ghost use Rattle.moments.specs.Moments.{old, new};
-ghost use Rattle.interval.specs.Listing.{rows};
+ghost use Rattle.lists.specs.Listing.{rows};
 ghost use Rattle.clauses.specs.Entries.{Entry, variablesIn, marksIn, flat};
 ghost use Rattle.circuit.specs.declared.Gate.the-variants.{AnyOf};
 ghost use Rattle.meaning.specs.Meaning.{bit};

@@ -7,19 +7,19 @@ use Prim.Native.Nat.{ℕ, zero, suc, _+_, _-_, _≤_, _<_}
 use native.Mathlib.Omega.{arith}
 use lib.Dec.{leb, ltb}
 use borrow.Author.Tests.{le-leb, lt-leb, leb-true, leb-false, ltb-true, ltb-false}
-use Rattle.grammar.proofs.Bytes.{both}
+use Rattle.lists.proofs.Tests.{both}
 use Rattle.interval.specs.declared.Interval.{Interval}
 use Rattle.meaning.specs.Meaning.{bit, highs, every, any, lasts, fills, chops}
+
+pub bit-le : (b : Bool) → bit b ≤ 1
+bit-le true = omega arith
+bit-le false = omega arith
 
 module _ (f : ℕ → Bool) (i : ℕ) where
   pub highs-le : (n : ℕ) → highs f i n ≤ n
   unfolding highs
   highs-le zero = omega arith
   highs-le (suc n) = omega (arith, highs-le n, bit-le (f (i + n)))
-    where
-      bit-le : (b : Bool) → bit b ≤ 1
-      bit-le true = omega arith
-      bit-le false = omega arith
 
   -- every one of n instants is true exactly where n are
   pub every-highs : (n : ℕ) → every f i n ≡ leb n (highs f i n)

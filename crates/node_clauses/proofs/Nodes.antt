@@ -5,11 +5,11 @@ use mathlib.Core.Bool.{Bool}
 use mathlib.Core.List.{List, [], _∷_, _++_, flatMap}
 use Prim.Native.Nat.{ℕ, zero, suc, _+_, _≤_, _<_}
 use native.Mathlib.Omega.{arith}
-use Rattle.interval.specs.Listing.{rows, tab, sum}
+use Rattle.lists.specs.Listing.{rows, tab, sum}
 use Rattle.interval.specs.Limits.{maxSteps, maxCount}
 use Rattle.interval.specs.Places.{countOf}
 use Rattle.interval.proofs.Counts.{count-le}
-use Rattle.formula.proofs.Lists.{flat-append}
+use Rattle.lists.proofs.Lists.{flat-append}
 use Rattle.meaning.specs.Meaning.{bit}
 use Rattle.circuit.specs.Circuit.{Definition, define}
 use Rattle.circuit.specs.declared.Gate.the-variants.{Constant}
@@ -19,7 +19,7 @@ use Rattle.blocks.specs.declared.Rule.the-variants.{Fixed}
 use Rattle.clauses.specs.Clauses.{clausesOf, clausesBy}
 use Rattle.clauses.specs.Entries.{Entry, entry, entriesOf, flat}
 use Rattle.literals.specs.Written.{Room, Wrote, runOf}
-use Rattle.clauses.proofs.Sizes.{flat-join}
+use Rattle.clauses.proofs.Flat.{flat-join}
 use Rattle.literals.proofs.Written.{and-then, named, room-first, room-next}
 use Rattle.node_clauses.specs.Nodes.{tripleBlock, intervalBlock, choppedBy, nodeBy, nodePlaces, Fine}
 
@@ -42,7 +42,8 @@ constant-places b (suc n) v =
 pub constant-known : (C k : ℕ) (b : Block) {v : Bool} → b .rule ≡ Fixed v → {m : ℕ} → m ≡ bit v + 2 → rows (b .points) (runOf (b .first) m) ≡ flat (clausesBy (definedBy C k b))
 unfolding definedBy gateOf rows sum
 constant-known C k b {v} e f =
-    let same : record { rule = Fixed v; points = b .points; first = b .first; left = b .left; right = b .right } ≡ b = λ i. record { rule = sym e i; points = b .points; first = b .first; left = b .left; right = b .right } in
+    let same : record { rule = Fixed v; points = b .points; first = b .first; left = b .left; right = b .right } ≡ b =
+    λ i. record { rule = sym e i; points = b .points; first = b .first; left = b .left; right = b .right } in
     ap (λ (m : ℕ). rows (b .points) (runOf (b .first) m)) f ∙ constant-places (b .first) (b .points) v ∙ ap (λ (b : Block). flat (clausesBy (definedBy C k b))) same
 
 -- ---- a chop's two blocks, as the code has found them

@@ -7,7 +7,7 @@ use Prim.Native.Nat.{ℕ, zero, suc, _+_, _-_, _^_, _≤_, _<_}
 use native.Mathlib.Omega.{arith}
 use lib.Dec.{eqb}
 use lib.ListN.{length}
-use Rattle.interval.specs.Listing.{rows}
+use Rattle.lists.specs.Listing.{rows}
 use Rattle.interval.specs.Limits.{maxSteps, maxCount}
 use Rattle.interval.specs.Places.{countOf, tripleCountOf}
 use Rattle.interval.specs.declared.Triple.{Triple}
@@ -31,7 +31,7 @@ use Rattle.clauses.specs.Clauses.{clausesOf, clausesBy}
 use Rattle.clauses.specs.Entries.{Entry, flat}
 use Rattle.literals.specs.Written.{Room, Wrote, Sofar}
 use Rattle.gates.specs.Within.{Within}
-use Rattle.clauses.proofs.Sizes.{flat-join}
+use Rattle.clauses.proofs.Flat.{flat-join}
 use Rattle.literals.proofs.Written.{begun, turn, room, done, named}
 use Rattle.node_clauses.specs.Walk.{definitionIn, placesAt, DefinedAt, Walkable, Walks, Walked}
 use Rattle.node_clauses.specs.declared.cursor.Cursor.{Cursor}
@@ -46,7 +46,9 @@ rows-first {A} (suc n) f = ap (λ (l : List A). l ++ f (suc n)) (rows-first n f)
 by-rows : (D : List Definition) → rows (length D) (placesAt D) ≡ flat (clausesBy D)
 unfolding rows clausesBy flat flatMap
 by-rows [] = refl
-by-rows (d ∷ D) = rows-first (length D) (placesAt (d ∷ D)) ∙ ap (λ (F : List Entry). flat (clausesOf (d .variable) (d .gate)) ++ F) (by-rows D) ∙ sym (flat-join (clausesOf (d .variable) (d .gate)) (clausesBy D))
+by-rows (d ∷ D) =
+    rows-first (length D) (placesAt (d ∷ D)) ∙ ap (λ (F : List Entry). flat (clausesOf (d .variable) (d .gate)) ++ F) (by-rows D) ∙
+    sym (flat-join (clausesOf (d .variable) (d .gate)) (clausesBy D))
 
 -- ---- where the walk stands
 
@@ -140,7 +142,8 @@ module _ (C k : ℕ) (block : Block) {x a i d : ℕ} (p : Placed (block .points)
 -- the gate at the cursor
 module _ {C k : ℕ} {block : Block} (b : Bounded C k block) {c : Cursor} (w : Walks k block c) (h : c .place < c .end) where
   pub gate-asked : (Bounded C k block × (c .place < 2 ^ 24) × (c .all ≡ countOf k))
-      × (Placed (block .points) k (block .rule) (c .place) (c .position .row) (c .position .line) (c .position .cell) × (block .rule ≡ Chop → Before (block .points) k (block .rule) (c .position)))
+      × (Placed (block .points) k (block .rule) (c .place) (c .position .row) (c .position .line) (c .position .cell) ×
+      (block .rule ≡ Chop → Before (block .points) k (block .rule) (c .position)))
   gate-asked = ((b, omega (arith, w .few), w .intervals), (w .here h, λ _. w .before))
 
   pub gate-defined : {gate : Gate} → gate ≡ gateOf C k block (c .place) (c .position .row) (c .position .line) (c .position .cell) → DefinedAt C k block (c .place) gate
@@ -170,6 +173,7 @@ module _ (C k : ℕ) (block : Block) where
         pub walk-room : Room v m at (flat (clausesBy D)) → Room v′ m′ b (flat (clausesOf (block .first + c .place) gate))
         walk-room r = room (w .sofar) inside places (subst (Room v m at) (sym (by-rows D)) r)
 
-        pub walk-turn : {v″ m″ : List ℕ} {b″ : ℕ} {d : Cursor} → Wrote v′ m′ b (flat (clausesOf (block .first + c .place) gate)) v″ m″ b″ → Walks k block d × (d .place ≡ c .place + 1)
+        pub walk-turn : {v″ m″ : List ℕ} {b″ : ℕ} {d : Cursor} →
+            Wrote v′ m′ b (flat (clausesOf (block .first + c .place) gate)) v″ m″ b″ → Walks k block d × (d .place ≡ c .place + 1)
             → Walked C k block v m at v″ m″ d b″
         walk-turn {v″} {m″} {b″} t e = record { walks = e .0; sofar = subst (Sofar v m at (placesAt D) (length D) v″ m″ b″) (sym (e .1)) (turn (w .sofar) inside places t) }

@@ -12,28 +12,17 @@ use Rattle.blocks.specs.declared.Rule.{Rule}
 use Rattle.blocks.specs.declared.Rule.the-variants.{Fixed, Letter, Negation, And, Or, Chop, Duration, Throughout, Cut}
 use Rattle.values.specs.Values.{valuesBy, Fits}
 
--- of the first part, and of the second, n being how long the block is
-abbrev pub firstPoints : ℕ → ℕ → Rule → ℕ
-firstPoints k n (Fixed v) = 0
-firstPoints k n (Letter c) = 0
-firstPoints k n Negation = n
-firstPoints k n And = n
-firstPoints k n Or = n
-firstPoints k n Chop = countOf k
-firstPoints k n (Duration m) = k
-firstPoints k n Throughout = k
-firstPoints k n Cut = 0
-
-abbrev pub secondPoints : ℕ → ℕ → Rule → ℕ
-secondPoints k n (Fixed v) = 0
-secondPoints k n (Letter c) = 0
-secondPoints k n Negation = 0
-secondPoints k n And = n
-secondPoints k n Or = n
-secondPoints k n Chop = countOf k
-secondPoints k n (Duration m) = 0
-secondPoints k n Throughout = 0
-secondPoints k n Cut = 0
+-- of each part, n being how long the block is; a node of one part makes nothing of a second
+abbrev pub partPoints : ℕ → ℕ → Rule → ℕ
+partPoints k n (Fixed v) = 0
+partPoints k n (Letter c) = 0
+partPoints k n Negation = n
+partPoints k n And = n
+partPoints k n Or = n
+partPoints k n Chop = countOf k
+partPoints k n (Duration m) = k
+partPoints k n Throughout = k
+partPoints k n Cut = 0
 
 -- f is the truth of n variables from v on
 abbrev pub TruthFrom : List ℕ → ℕ → ℕ → (ℕ → Bool) → Type 0
@@ -41,7 +30,7 @@ TruthFrom A v n f = (e : ℕ) → e < n → f e ≡ highAt A (v - 1 + e)
 
 -- B is what a block of n values makes of its parts' truth, as the assignment has it
 abbrev pub Makes : ℕ → List ℕ → List ℕ → Block → ℕ → List ℕ → Type 0
-Makes k recording A b n B = (f g : ℕ → Bool) → TruthFrom A (b .left) (firstPoints k n (b .rule)) f → TruthFrom A (b .right) (secondPoints k n (b .rule)) g
+Makes k recording A b n B = (f g : ℕ → Bool) → TruthFrom A (b .left) (partPoints k n (b .rule)) f → TruthFrom A (b .right) (partPoints k n (b .rule)) g
     → valuesBy k recording n f g (b .rule) ≡ B
 
 -- a block that ends before `end`, of an assignment of m values: it is as long as its rule says

@@ -8,12 +8,12 @@ ghost use lib.ListN.{length};
 ghost use Rattle.moments.specs.Moments.{old, new};
 ghost use Rattle.interval.specs.Limits.{maxSteps};
 ghost use Rattle.interval.specs.Places.{countOf};
-ghost use Rattle.node_values.specs.Parts.{firstPoints, secondPoints, BlockIn, BlockPut};
+ghost use Rattle.node_values.specs.Parts.{partPoints, BlockIn, BlockPut};
 
-// How much of its first part's truth a block of n values goes by; `count` is I.
-fn first_points(rule: Rule, k: usize, n: usize, count: usize) -> usize
+// How much of each of its parts' truth a block of n values goes by; `count` is I. A node of one part makes nothing of a second.
+fn part_points(rule: Rule, k: usize, n: usize, count: usize) -> usize
     requires { ⌜ count ≡ countOf k ⌝ }
-    ensures { λ r. ⌜ r ≡ firstPoints k n rule ⌝ }
+    ensures { λ r. ⌜ r ≡ partPoints k n rule ⌝ }
 {
     match rule {
         Rule::Fixed(_) => 0,
@@ -28,24 +28,6 @@ fn first_points(rule: Rule, k: usize, n: usize, count: usize) -> usize
     }
 }
 
-// And of its second part's.
-fn second_points(rule: Rule, k: usize, n: usize, count: usize) -> usize
-    requires { ⌜ count ≡ countOf k ⌝ }
-    ensures { λ r. ⌜ r ≡ secondPoints k n rule ⌝ }
-{
-    match rule {
-        Rule::Fixed(_) => 0,
-        Rule::Letter(_) => 0,
-        Rule::Negation => 0,
-        Rule::And => n,
-        Rule::Or => n,
-        Rule::Chop => count,
-        Rule::Duration(_) => 0,
-        Rule::Throughout => 0,
-        Rule::Cut => 0,
-    }
-}
-
 // A node's block, which ends before `end`: the middle part of the assignment, from the node's first variable, handed on to be written.
 pub fn put_node(assignment: &mut [u8], block: Block, end: usize, k: usize, recording: &[u8])
     requires { ⌜ (k ≤ maxSteps) × BlockIn k block end (length (now assignment)) ⌝ }
@@ -55,7 +37,8 @@ pub fn put_node(assignment: &mut [u8], block: Block, end: usize, k: usize, recor
     let start = block.first as usize - 1;
     let n = end - start;
     let count = Interval::count(k);
-    let p = truths::truth_from(assignment, block.left, first_points(rule, k, n, count));
-    let q = truths::truth_from(assignment, block.right, second_points(rule, k, n, count));
+    let points = part_points(rule, k, n, count);
+    let p = truths::truth_from(assignment, block.left, points);
+    let q = truths::truth_from(assignment, block.right, points);
     values::put_values(&mut assignment[start..end], rule, k, recording, &p, &q);
 }

@@ -7,7 +7,7 @@ use lib.Dec.{leb}
 use lib.ListN.{length}
 use Rattle.refusal.specs.Asked.{Gives}
 use Rattle.refusal.proofs.Numbers.{question-gives}
-use Rattle.formula.specs.Nodes.{nodesIn}
+use Rattle.grammar.specs.Nodes.{nodesIn}
 use Rattle.nodes.specs.Calls.{askNode}
 
 pub node-gives : (x : ℕ) (t : List ℕ) → Gives 8 (askNode x t)

@@ -1,63 +1,33 @@
--- A call ends as its questions say. The node of a number from 1 to the count stands in the text at its row's first byte, so its own
--- text is that part, and it is what the node prints.
+-- The node of a number from 1 to the count stands in the text at its row's first byte, so its own text is that part, and it is what the
+-- node prints.
 use mathlib.Core.Path.{_≡_, refl, sym, ap, ap₂, _∙_}
-use mathlib.Core.Bool.{_&&_, false≢true}
+use mathlib.Core.Bool.{false≢true}
 use mathlib.Core.List.{List, [], _∷_, map}
 use Prim.Native.Nat.{ℕ, _+_, _-_, _≤_, _<_}
 use native.Mathlib.Omega.{arith}
-use lib.Dec.{leb}
-use lib.ListN.{length, getD, drop, length-map}
-use Rattle.refusal.specs.Asked.{question, asked}
+use lib.ListN.{length, getD, drop}
+use Rattle.refusal.specs.Asked.{asked}
 use Rattle.refusal.specs.declared.Refusal.{Refusal}
 use Rattle.refusal.specs.declared.Reply.{Reply}
 use Rattle.refusal.specs.declared.Reply.the-variants.{Yes, No}
-use Rattle.refusal.proofs.Laws.{asked-append, replied-yes, replied-no, asked-map}
-use Rattle.interval.specs.Limits.{maxSteps}
-use Rattle.grammar.specs.Limits.{maxNodes, maxChannels}
+use Rattle.refusal.proofs.Laws.{asked-append, replied-yes, replied-no, test-yes}
+use Rattle.grammar.specs.Limits.{maxNodes}
 use Rattle.grammar.specs.Trees.{textOf}
-use Rattle.grammar.proofs.Bytes.{ranged}
-use Rattle.formula.specs.Nodes.{Node, nodesIn}
-use Rattle.formula.specs.Questions.{formulaQuestions, acceptOf}
+use Rattle.lists.proofs.Tests.{ranged}
+use Rattle.grammar.specs.Nodes.{Node, nodesIn}
+use Rattle.grammar.specs.Questions.{formulaQuestions, acceptOf}
+use Rattle.grammar.proofs.EachNode.{Chosen}
 use Rattle.formula.proofs.Standing.{end-within, text-is}
-use Rattle.formula.proofs.Laws.{accepted}
-use Rattle.formula.proofs.Asked.{asked-one, test-yes}
+use Rattle.formula.proofs.Asked.{asked-one}
 use Rattle.rows.specs.Table.{rowOf, padded, tableOf}
 use Rattle.rows.specs.declared.Row.{Row}
 use Rattle.rows.specs.declared.NodeTable.{NodeTable}
 use Rattle.rows.proofs.Steps.{field-at, drop-map}
 use Rattle.rows.proofs.Begun.{nodes-most}
-use Rattle.rows.proofs.Found.{Chosen, node-chosen}
+use Rattle.rows.proofs.Found.{Known, node-chosen}
 use Rattle.nodes.specs.Calls.{tabledOf, askNode, nodeQuestions, nodeRefusalOf, partPlace, nodePlaceOf, partOf, nodeTextOf}
-use Rattle.nodes.specs.declared.Tabled.{Tabled}
 use Rattle.nodes.specs.declared.Located.the-variants.{Part, Refused}
-
-module _ (C k : ℕ) (t : List ℕ) where
-  pub table-refused : (n : NodeTable) (r : Refusal) → acceptOf C k t ≡ No r → n ≡ tableOf [] → record { reply = No r; table = n } ≡ tabledOf C k t
-  unfolding tabledOf acceptOf
-  table-refused n r e f = ap (λ (n : NodeTable). record { reply = No r; table = n }) f ∙ sym (replied-no (λ r. record { reply = No r; table = tableOf [] }) _ (formulaQuestions C k t) r e)
-
-  module _ (e : acceptOf C k t ≡ Yes) where
-    pub table-made : (n : NodeTable) → n ≡ tableOf (map rowOf (nodesIn t)) → record { reply = Yes; table = n } ≡ tabledOf C k t
-    unfolding tabledOf acceptOf
-    table-made n f =
-        ap (λ (n : NodeTable). record { reply = Yes; table = n }) f ∙ sym (replied-yes (λ r. record { reply = No r; table = tableOf [] }) _ (formulaQuestions C k t) e)
-
--- what the answer of the table's call says
-module _ (C k : ℕ) (t : List ℕ) (T : Tabled) (e : T ≡ tabledOf C k t) where
-  pub reply-is : T .reply ≡ acceptOf C k t
-  unfolding tabledOf acceptOf
-  reply-is = ap (λ (T : Tabled). T .reply) e ∙ asked-map (λ (T : Tabled). T .reply) _ _ (formulaQuestions C k t)
-
-  module _ (y : T .reply ≡ Yes) where
-    pub accepts : acceptOf C k t ≡ Yes
-    accepts = sym reply-is ∙ y
-
-    pub limits : (C ≤ maxChannels) × (k ≤ maxSteps)
-    limits = let a = accepted C k t accepts in (a .channels .1, a .steps)
-
-    pub table-is : T .table ≡ tableOf (map rowOf (nodesIn t))
-    unfolding tabledOf acceptOf
-    table-is = ap (λ (T : Tabled). T .table) (e ∙ replied-yes _ _ (formulaQuestions C k t) accepts)
+use Rattle.nodes.proofs.Called.{reply-is, table-is}
 
 -- questions 1 to 7, then 8
 yes-both : (q : List Reply) (z : Reply) → asked q No z ≡ Yes → (asked q No Yes ≡ Yes) × (z ≡ Yes)
@@ -69,17 +39,6 @@ module _ (C k x : ℕ) (t : List ℕ) where
   refusal-is : nodeRefusalOf C k x t ≡ asked (formulaQuestions C k t) No (askNode x t)
   unfolding nodeRefusalOf
   refusal-is = asked-append No Yes (formulaQuestions C k t) (askNode x t ∷ []) ∙ ap (asked (formulaQuestions C k t) No) (asked-one (askNode x t))
-
-  module _ (T : Tabled) (e : T ≡ tabledOf C k t) where
-    pub refused-early : (r : Refusal) → T .reply ≡ No r → No r ≡ nodeRefusalOf C k x t
-    unfolding acceptOf
-    refused-early r n = sym (refusal-is ∙ replied-no No (askNode x t) (formulaQuestions C k t) r (sym (reply-is C k t T e) ∙ n))
-
-    pub refused-last : T .reply ≡ Yes → (r : Reply) → r ≡ question 8 0 (leb 1 x && leb x (T .table .count)) → r ≡ nodeRefusalOf C k x t
-    unfolding acceptOf askNode tableOf
-    refused-last y r u =
-        let p = ap (λ (n : NodeTable). n .count) (table-is C k t T e y) ∙ length-map (nodesIn t) rowOf in
-        u ∙ ap (λ (m : ℕ). question 8 0 (leb 1 x && leb x m)) p ∙ sym (refusal-is ∙ replied-yes No (askNode x t) (formulaQuestions C k t) (accepts C k t T e y))
 
   pub place-refused : (r : Refusal) → nodeRefusalOf C k x t ≡ No r → nodePlaceOf C k x t ≡ Refused r
   unfolding nodePlaceOf nodeRefusalOf
@@ -99,7 +58,7 @@ module _ (C k x : ℕ) (t : List ℕ) (e : nodeRefusalOf C k x t ≡ Yes) where
   numbered = ranged 1 (length (nodesIn t)) x (test-yes 8 0 _ (both-yes .1))
 
   -- the node x
-  pub chosen : Chosen t (nodesIn t) (x - 1)
+  pub chosen : Chosen (Known t) (nodesIn t) (x - 1)
   chosen = node-chosen t C k (x - 1) (both-yes .0) (omega (arith, numbered))
 
   pub index-fits : x - 1 < maxNodes
@@ -122,7 +81,7 @@ module _ (C k x : ℕ) (t : List ℕ) (e : nodeRefusalOf C k x t ≡ Yes) where
   -- a node's own text is what its subtree prints
   pub own-text : nodeTextOf C k x t ≡ textOf (chosen .chosen .part)
   unfolding nodeTextOf
-  own-text = ap (partOf t) place-is ∙ text-is t (chosen .chosen .part) (chosen .chosen .first) (chosen .own .stands)
+  own-text = ap (partOf t) place-is ∙ text-is t (chosen .chosen .part) (chosen .chosen .first) (chosen .holds .0)
 
 -- a node's own text is within the lent one
 pub part-within : (C k x : ℕ) (t : List ℕ) (a b : ℕ) → nodePlaceOf C k x t ≡ Part a b → a + b ≤ length t
@@ -134,5 +93,5 @@ part-within C k x t a b p = go (nodeRefusalOf C k x t) refl
         let q = sym (place-is C k x t e) ∙ p in
         let f : w .chosen .first ≡ a = cc in
         let l : length (textOf (w .chosen .part)) ≡ b = cc in
-        omega (arith, end-within t (w .chosen .part) (w .chosen .first) (w .own .stands))
+        omega (arith, end-within t (w .chosen .part) (w .chosen .first) (w .holds .0))
     go (No r) e = let q = sym (place-refused C k x t r e) ∙ p in absurd (false≢true cc)

@@ -9,8 +9,8 @@ use Rattle.refusal.specs.declared.Refusal.{Refusal}
 use Rattle.refusal.specs.declared.Reply.{Reply}
 use Rattle.refusal.specs.declared.Reply.the-variants.{Yes, No}
 use Rattle.grammar.specs.Trees.{textOf}
-use Rattle.formula.specs.Nodes.{Node, nodesIn}
-use Rattle.formula.specs.Questions.{formulaQuestions}
+use Rattle.grammar.specs.Nodes.{Node, nodesIn}
+use Rattle.grammar.specs.Questions.{formulaQuestions}
 use Rattle.rows.specs.Table.{rowOf, tableOf}
 use Rattle.nodes.specs.declared.Tabled.{Tabled}
 use Rattle.nodes.specs.declared.Located.{Located}

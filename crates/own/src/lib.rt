@@ -6,17 +6,16 @@ use blocks::Rule;
 use closing::Closed;
 ghost use mathlib.Core.Path.{_≡_};
 ghost use mathlib.Core.Bool.{false};
-ghost use Prim.Native.Nat.{_+_, _*_, _≤_, _<_};
+ghost use Prim.Native.Nat.{_+_, _≤_, _<_};
 ghost use lib.ListN.{length};
-ghost use Rattle.interval.specs.Places.{countOf, tripleCountOf};
+ghost use Rattle.interval.specs.Places.{countOf};
 ghost use Rattle.blocks.specs.Blocks.{isChop, formOf, definedBy};
 ghost use Rattle.blocks.specs.declared.Form.the-variants.{Line, Intervals};
-ghost use Rattle.blocks.specs.declared.Rule.the-variants.{Chop};
 ghost use Rattle.visits.specs.Visits.{Visits};
 ghost use Rattle.sweeps.specs.Sweeps.{clausesAt};
 ghost use Rattle.decode.specs.Decode.{IntervalsTo, Tables};
-ghost use Rattle.fanout.specs.Fanout.{Reaches, nodeClauses, InBlock};
-ghost use Rattle.own.specs.Own.{Node, riseOf};
+ghost use Rattle.fanout.specs.Fanout.{Reaches, nodeClauses, Node, InBlock};
+ghost use Rattle.own.specs.Own.{riseOf};
 
 // The levels that go by the instants of their part.
 pub struct Rise {
@@ -93,7 +92,7 @@ fn reach_level(
         cell: v.j as u32 - i,
         before: 0,
     };
-    levels::visit_after(
+    search_own_level::visit_after(
         values,
         trail,
         top,
@@ -104,101 +103,6 @@ fn reach_level(
         x,
         p,
         rise.from + rise.count - 1,
-    )
-}
-
-// A chop's own variable on the interval in place x.
-fn reach_interval(
-    values: &mut [u8],
-    trail: &mut [u32],
-    top: usize,
-    intervals: &[u16],
-    starts: &[u32],
-    c: u32,
-    k: u32,
-    all: u32,
-    block: Block,
-    x: u32,
-) -> Closed
-    requires { ⌜ Node c k block (now values) (now trail) top × (all ≡ countOf k)
-        × (block .rule ≡ Chop) × Tables k (now intervals) (now starts) × (x < countOf k) ⌝ }
-    ensures { λ r. ⌜ Reaches (nodeClauses c k block) (block .first + x) values trail top r ⌝ }
-{
-    let v = decode::interval_at(intervals, k as usize, x as usize);
-    let i = v.i;
-    let d = v.j as u32 - i as u32;
-    let p = Position {
-        row: 0,
-        line: i as u32,
-        cell: d,
-        before: starts[i] + d * (d + 1) / 2,
-    };
-    let whole = node_clauses::intervals_of(node_clauses::beyond(block.first, k), block);
-    walks::visit_at(values, trail, top, c, k, all, whole, x, p)
-}
-
-// A chop's variable of the triple in place x: its own gate, and of its interval's the two clauses that name it.
-fn reach_triple(
-    values: &mut [u8],
-    trail: &mut [u32],
-    top: usize,
-    intervals: &[u16],
-    starts: &[u32],
-    c: u32,
-    k: u32,
-    all: u32,
-    block: Block,
-    x: u32,
-) -> Closed
-    requires { ⌜ Node c k block (now values) (now trail) top × (all ≡ countOf k)
-        × (block .rule ≡ Chop) × Tables k (now intervals) (now starts) × (x < tripleCountOf k) ⌝ }
-    ensures { λ r. ⌜ Reaches (nodeClauses c k block) (block .first + countOf k + x) values trail top r ⌝ }
-{
-    let t = decode::triple_at(intervals, starts, k as usize, x);
-    let i = t.i as u32;
-    let d = t.j as u32 - i;
-    let e = t.m as u32 - i;
-    let w = node_clauses::beyond(block.first, k);
-    let triples = node_clauses::triples_of(w, block);
-    let r = walks::visit_cut(values, trail, top, c, k, all, triples, x, i, d, e);
-    if r.clash {
-        return r;
-    }
-    let v = block.first + blocks::place(i, d, k, all);
-    visits::visit_one(values, trail, r.top, v, w + x - e, e, d + 1)
-}
-
-// A chop's own variable in place x.
-fn reach_chop(
-    values: &mut [u8],
-    trail: &mut [u32],
-    top: usize,
-    intervals: &[u16],
-    starts: &[u32],
-    c: u32,
-    k: u32,
-    all: u32,
-    block: Block,
-    x: u32,
-) -> Closed
-    requires { ⌜ Node c k block (now values) (now trail) top × (all ≡ countOf k)
-        × (block .rule ≡ Chop) × Tables k (now intervals) (now starts) × (x < countOf k + tripleCountOf k) ⌝ }
-    ensures { λ r. ⌜ Reaches (nodeClauses c k block) (block .first + x) values trail top r ⌝ }
-{
-    if x < all {
-        return reach_interval(values, trail, top, intervals, starts, c, k, all, block, x);
-    }
-    reach_triple(
-        values,
-        trail,
-        top,
-        intervals,
-        starts,
-        c,
-        k,
-        all,
-        block,
-        x - all,
     )
 }
 
@@ -221,7 +125,18 @@ pub fn reach(
     let rule = block.rule;
     let x = u - block.first;
     if blocks::is_chop(rule) {
-        return reach_chop(values, trail, top, intervals, starts, c, k, all, block, x);
+        return search_own_chop::reach_chop(
+            values,
+            trail,
+            top,
+            intervals,
+            starts,
+            c,
+            k,
+            all,
+            block,
+            x,
+        );
     }
     match blocks::form_of(rule) {
         Form::Line => visit_line(values, trail, top, c, k, block, x),

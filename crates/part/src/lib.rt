@@ -10,11 +10,9 @@ ghost use lib.ListN.{length};
 ghost use Rattle.interval.specs.Places.{countOf};
 ghost use Rattle.blocks.specs.Blocks.{isChop, formOf};
 ghost use Rattle.blocks.specs.declared.Form.the-variants.{Line, Intervals};
-ghost use Rattle.blocks.specs.declared.Rule.the-variants.{Chop};
 ghost use Rattle.decode.specs.Decode.{IntervalsTo};
-ghost use Rattle.fanout.specs.Fanout.{Reaches, nodeClauses, InBlock};
-ghost use Rattle.own.specs.Own.{Node};
-ghost use Rattle.part.specs.Part.{partsOf, Among};
+ghost use Rattle.fanout.specs.Fanout.{Reaches, nodeClauses, Node, InBlock};
+ghost use Rattle.part.specs.Part.{partsOf};
 
 // How many parts are judged as the node itself is, place by place.
 fn parts_of(rule: Rule) -> u32
@@ -31,16 +29,6 @@ fn parts_of(rule: Rule) -> u32
         Rule::Throughout => 0,
         Rule::Cut => 0,
     }
-}
-
-// Whether u is one of n variables from w on.
-fn among(w: u32, n: u32, u: u32) -> bool
-    ensures { λ r. ⌜ Among w n u r ⌝ }
-{
-    if u < w {
-        return false;
-    }
-    u - w < n
 }
 
 // A variable of another node, in a node that is judged place by place.
@@ -61,10 +49,10 @@ fn reach_line(
     let right = block.right;
     let points = block.points;
     let parts = parts_of(rule);
-    if (1 <= parts) & among(left, points, u) {
+    if (1 <= parts) & search_part_chop::among(left, points, u) {
         return own::visit_line(values, trail, top, c, k, block, u - left);
     }
-    if (2 <= parts) & among(right, points, u) {
+    if (2 <= parts) & search_part_chop::among(right, points, u) {
         return own::visit_line(values, trail, top, c, k, block, u - right);
     }
     own::done(top)
@@ -86,7 +74,7 @@ fn reach_instant(
     ensures { λ r. ⌜ Reaches (nodeClauses c k block) u values trail top r ⌝ }
 {
     let left = block.left;
-    if !among(left, k, u) {
+    if !search_part_chop::among(left, k, u) {
         return own::done(top);
     }
     let rule = block.rule;
@@ -103,56 +91,6 @@ fn reach_instant(
         rise.count,
         u - left,
     )
-}
-
-// In a chop: the triples of its first part's interval, or of its second part's.
-fn reach_chop(
-    values: &mut [u8],
-    trail: &mut [u32],
-    top: usize,
-    intervals: &[u16],
-    c: u32,
-    k: u32,
-    all: u32,
-    block: Block,
-    u: u32,
-) -> Closed
-    requires { ⌜ Node c k block (now values) (now trail) top × (all ≡ countOf k) × (block .rule ≡ Chop) × (InBlock k block u → ⊥) × (k * c < u) ⌝ }
-    requires { ⌜ (countOf k ≤ length (now intervals)) × IntervalsTo k (now intervals) (countOf k) ⌝ }
-    ensures { λ r. ⌜ Reaches (nodeClauses c k block) u values trail top r ⌝ }
-{
-    let left = block.left;
-    let right = block.right;
-    let triples = node_clauses::triples_of(node_clauses::beyond(block.first, k), block);
-    if among(left, all, u) {
-        let v = decode::interval_at(intervals, k as usize, (u - left) as usize);
-        return triples::visit_first(
-            values,
-            trail,
-            top,
-            c,
-            k,
-            all,
-            triples,
-            v.i as u32,
-            v.j as u32,
-        );
-    }
-    if among(right, all, u) {
-        let v = decode::interval_at(intervals, k as usize, (u - right) as usize);
-        return triples::visit_second(
-            values,
-            trail,
-            top,
-            c,
-            k,
-            all,
-            triples,
-            v.i as u32,
-            v.j as u32,
-        );
-    }
-    own::done(top)
 }
 
 // A variable of another node: where it is a part's truth, the gates that mention it.
@@ -173,7 +111,7 @@ pub fn reach(
 {
     let rule = block.rule;
     if blocks::is_chop(rule) {
-        return reach_chop(values, trail, top, intervals, c, k, all, block, u);
+        return search_part_chop::reach_chop(values, trail, top, intervals, c, k, all, block, u);
     }
     match blocks::form_of(rule) {
         Form::Line => reach_line(values, trail, top, c, k, block, u),

@@ -2,18 +2,13 @@
 -- Both are shown clause by clause, member by member.
 use mathlib.Core.List.{List, [], _∷_, map, flatMap}
 use Prim.Native.Nat.{ℕ}
-use Rattle.interval.specs.Listing.{All}
-use Rattle.formula.proofs.Lists.{all-map}
-use Rattle.circuit.proofs.Lists.{all-mapped}
+use Rattle.lists.specs.Listing.{All}
+use Rattle.lists.proofs.Lists.{all-map, all-mapped, unmapped}
 use Rattle.clauses.specs.Clauses.{Literal, Clause}
 use Rattle.closure.specs.Closure.{opposite, Member, member, membersOf, membersIn}
 use Rattle.closure.proofs.Sets.{Opposed}
 use Rattle.closure.proofs.Closure.{Keeps, Closed, closed-parts, closed-whole}
 use Rattle.patterns.specs.Patterns.{renameBy, renamed}
-
-unmapped : {A B : Type 0} (P : B → Type 0) (Q : A → Type 0) (f : A → B) → ((a : A) → P (f a) → Q a) → (l : List A) → All P (map f l) → All Q l
-unmapped P Q f h [] a = tt
-unmapped P Q f h (w ∷ l) a = (h w (a .0), unmapped P Q f h l (a .1))
 
 module _ (f : ℕ → ℕ) where
   abbrev other : Member → Member
@@ -55,7 +50,9 @@ module _ (f : ℕ → ℕ) where
     closed-to [] a = tt
     closed-to (c ∷ T) a =
         let w = closed-parts Y c T a in
-        closed-whole X (map (renameBy f) c) (renamed f T) (members-to (Keeps X) c (all-map (Keeps Y) (λ m. Keeps X (other m)) (λ m k o. k (opposed-from (m .fellows) o)) (membersOf c) (w .0))) (closed-to T (w .1))
+        closed-whole X (map (renameBy f) c) (renamed f T)
+        (members-to (Keeps X) c (all-map (Keeps Y) (λ m. Keeps X (other m)) (λ m k o. k (opposed-from (m .fellows) o)) (membersOf c) (w .0)))
+        (closed-to T (w .1))
 
     pub closed-from : (T : List Clause) → Closed (renamed f T) X → Closed T Y
     unfolding renamed membersIn flatMap

@@ -10,6 +10,7 @@ use lib.Arith.{lt-of-le-ne}
 use lib.Dec.{eqb}
 use lib.ListN.{length}
 use Rattle.meaning.specs.Meaning.{bit}
+use Rattle.meaning.proofs.Laws.{bit-le}
 use Rattle.circuit.specs.declared.Gate.the-variants.{Constant, Copy, Inverse, Both, Either, Step}
 use Rattle.clauses.specs.Clauses.{Literal, literal, Clause, clausesOf}
 use Rattle.clauses.specs.Entries.{entry, literalOf}
@@ -21,6 +22,7 @@ use Rattle.closure.proofs.Open.{both-clash}
 use Rattle.closing.specs.Values.{valueFor, held, heldIn, Trailing, Grown, Added}
 use Rattle.closing.specs.declared.Closed.{Closed as Ended}
 use Rattle.closing.proofs.Trail.{held-le, grown-none, grown-length, grown-same, grown-more}
+use Rattle.closing.proofs.Held.{nothing-there}
 use Rattle.patterns.specs.Patterns.{valueAt, Settled, patternOf, among, renameBy, renamed, codeOf, fourOf, forcedBy, Forces, endedBy}
 use Rattle.gates.specs.Mentioned.{Variable}
 use Rattle.patterns.specs.declared.Next.the-variants as next
@@ -38,10 +40,6 @@ uncoded : (o : Option Literal) → codeOf o ≡ 0 → o ≡ none
 uncoded none h = refl
 uncoded (some l) h = absurd (omega arith)
 
-bits : (u : Bool) → bit u ≤ 1
-bits true = omega arith
-bits false = omega arith
-
 module _ (values : List ℕ) (v x y z : ℕ) (hv : 1 ≤ v) (hx : 1 ≤ x) (hy : 1 ≤ y) (hz : 1 ≤ z) where
   abbrev four : Literals
   four = fourOf (valueAt values v) (valueAt values x) (valueAt values y) (valueAt values z)
@@ -50,10 +48,6 @@ module _ (values : List ℕ) (v x y z : ℕ) (hv : 1 ≤ v) (hx : 1 ≤ x) (hy :
   unfolding heldIn
   four-held = fun-ext (λ l. go (l .variable) (l .sign))
     where
-      none-there : (u : Bool) → eqb 0 (valueFor u) ≡ false
-      none-there true = refl
-      none-there false = refl
-
       at : (w : ℕ) → 1 ≤ w → (u : Bool) → eqb (valueAt values w) (valueFor u) ≡ held values u w
       at zero h u = absurd (omega arith)
       at (suc w) h u = let e : suc w - 1 ≡ w = omega arith in rw e
@@ -64,7 +58,7 @@ module _ (values : List ℕ) (v x y z : ℕ) (hv : 1 ≤ v) (hx : 1 ≤ x) (hy :
       go (suc (suc zero)) u = at x hx u
       go (suc (suc (suc zero))) u = at y hy u
       go (suc (suc (suc (suc zero)))) u = at z hz u
-      go (suc (suc (suc (suc (suc n))))) u = none-there u
+      go (suc (suc (suc (suc (suc n))))) u = nothing-there u
 
   module _ (g : ℕ) {e : ℕ} (h : e ≡ forcedBy g (valueAt values v) (valueAt values x) (valueAt values y) (valueAt values z)) where
     abbrev T : List Clause
@@ -83,8 +77,8 @@ module _ (values : List ℕ) (v x y z : ℕ) (hv : 1 ≤ v) (hx : 1 ≤ x) (hy :
         → ((m : ℕ) (b : Bool) → e ≡ 2 * m + bit b + 2 → 1 ≤ m → m ≤ 4 → u ≡ among v x y z m) → Forces T values (next.Literal u e)
     literal-forced n up low {u} iv ix iy iz len pick =
         let (l, o, q) = coded (firstForced (membersIn (patternOf g)) four) first n in
-        let m1 : 1 ≤ l .variable = omega (arith, bits (l .sign)) in
-        let m4 : l .variable ≤ 4 = omega (arith, bits (l .sign)) in
+        let m1 : 1 ≤ l .variable = omega (arith, bit-le (l .sign)) in
+        let m4 : l .variable ≤ 4 = omega (arith, bit-le (l .sign)) in
         let w = pick (l .variable) (l .sign) q m1 m4 in
         let same : literalOf (entry u e) ≡ renameBy (among v x y z) l = ap₂ literal (ap (λ (e : ℕ). eqb (e % 2) 1) q ∙ parity (l .variable) (l .sign)) w in (
           rw w (within (l .variable) m1 m4),
@@ -156,16 +150,20 @@ pub patterns : (v x y z : ℕ) → (renamed (among v x v v) (patternOf 0) ≡ cl
 unfolding renamed patternOf clausesOf
 patterns v x y z = (refl, refl, refl, refl, refl, refl, refl)
 
-pub settled-named : {T P : List Clause} {v₀ t₀ values trail : List ℕ} {top₀ : ℕ} {r : Ended} → T ≡ P → Settled T v₀ t₀ top₀ values trail r → Settled P v₀ t₀ top₀ values trail r
+pub settled-named : {T P : List Clause} {v₀ t₀ values trail : List ℕ} {top₀ : ℕ} {r : Ended} → T ≡ P →
+    Settled T v₀ t₀ top₀ values trail r → Settled P v₀ t₀ top₀ values trail r
 settled-named {v₀ = v₀} {t₀} {values} {trail} {top₀} {r} e w = subst (λ (P : List Clause). Settled P v₀ t₀ top₀ values trail r) e w
 
 -- ---- how it ended, as one number
 
-pub ended-named : {T : List Clause} {v₀ t₀ values trail : List ℕ} {top₀ : ℕ} {r s : Ended} → r ≡ s → Settled T v₀ t₀ top₀ values trail s → Settled T v₀ t₀ top₀ values trail r
+pub ended-named : {T : List Clause} {v₀ t₀ values trail : List ℕ} {top₀ : ℕ} {r s : Ended} → r ≡ s →
+    Settled T v₀ t₀ top₀ values trail s → Settled T v₀ t₀ top₀ values trail r
 ended-named {T} {v₀} {t₀} {values} {trail} {top₀} e w = subst (λ (r : Ended). Settled T v₀ t₀ top₀ values trail r) (sym e) w
 
-pub calm-ended : {T : List Clause} {v₀ t₀ values trail : List ℕ} {top₀ t : ℕ} → Settled T v₀ t₀ top₀ values trail (record { clash = false; top = t }) → Settled T v₀ t₀ top₀ values trail (endedBy (2 * t))
+pub calm-ended : {T : List Clause} {v₀ t₀ values trail : List ℕ} {top₀ t : ℕ} →
+    Settled T v₀ t₀ top₀ values trail (record { clash = false; top = t }) → Settled T v₀ t₀ top₀ values trail (endedBy (2 * t))
 calm-ended {t = t} w = let e : 2 * t % 2 ≡ 0 = omega arith in let f : 2 * t / 2 ≡ t = omega arith in rw (e, f) w
 
-pub clash-ended : {T : List Clause} {v₀ t₀ values trail : List ℕ} {top₀ t : ℕ} → Settled T v₀ t₀ top₀ values trail (record { clash = true; top = t }) → Settled T v₀ t₀ top₀ values trail (endedBy (2 * t + 1))
+pub clash-ended : {T : List Clause} {v₀ t₀ values trail : List ℕ} {top₀ t : ℕ} →
+    Settled T v₀ t₀ top₀ values trail (record { clash = true; top = t }) → Settled T v₀ t₀ top₀ values trail (endedBy (2 * t + 1))
 clash-ended {t = t} w = let e : (2 * t + 1) % 2 ≡ 1 = omega arith in let f : (2 * t + 1) / 2 ≡ t = omega arith in rw (e, f) w

@@ -10,7 +10,7 @@ use mathlib.Core.Logic.{_⊎_, ⊎-elim}
 use lib.Dec.{eqb, leb}
 use lib.ListN.{getD}
 use borrow.Author.Tests.{eqb-true, leb-true}
-use Rattle.grammar.proofs.Bytes.{both}
+use Rattle.lists.proofs.Tests.{both}
 use Rattle.clauses.specs.Clauses.{clausesOf}
 use Rattle.closure.specs.Closure.{allOpposed, membersOf, membersIn}
 use Rattle.closure.specs.Tree.{firstForced}
@@ -31,7 +31,11 @@ unfoldable pub eitherTable : List ℕ
 eitherTable = 0 ∷ 0 ∷ 6 ∷ 5 ∷ 0 ∷ 5 ∷ 0 ∷ 9 ∷ 8 ∷ 5 ∷ 0 ∷ 6 ∷ 5 ∷ 0 ∷ 5 ∷ 5 ∷ 0 ∷ 5 ∷ 0 ∷ 7 ∷ 6 ∷ 5 ∷ 0 ∷ 5 ∷ 4 ∷ 4 ∷ 0 ∷ []
 
 unfoldable pub stepTable : List ℕ
-stepTable = 0 ∷ 0 ∷ 6 ∷ 5 ∷ 0 ∷ 5 ∷ 0 ∷ 9 ∷ 0 ∷ 0 ∷ 0 ∷ 6 ∷ 5 ∷ 0 ∷ 5 ∷ 0 ∷ 11 ∷ 10 ∷ 0 ∷ 7 ∷ 6 ∷ 5 ∷ 0 ∷ 5 ∷ 4 ∷ 4 ∷ 0 ∷ 0 ∷ 0 ∷ 6 ∷ 5 ∷ 0 ∷ 5 ∷ 0 ∷ 9 ∷ 8 ∷ 5 ∷ 0 ∷ 6 ∷ 5 ∷ 0 ∷ 5 ∷ 5 ∷ 0 ∷ 5 ∷ 0 ∷ 7 ∷ 6 ∷ 5 ∷ 0 ∷ 5 ∷ 4 ∷ 4 ∷ 0 ∷ 0 ∷ 7 ∷ 6 ∷ 5 ∷ 0 ∷ 5 ∷ 4 ∷ 9 ∷ 0 ∷ 0 ∷ 7 ∷ 6 ∷ 5 ∷ 0 ∷ 5 ∷ 4 ∷ 4 ∷ 0 ∷ 0 ∷ 7 ∷ 6 ∷ 5 ∷ 0 ∷ 5 ∷ 4 ∷ 4 ∷ 0 ∷ []
+stepTable =
+    0 ∷ 0 ∷ 6 ∷ 5 ∷ 0 ∷ 5 ∷ 0 ∷ 9 ∷ 0 ∷ 0 ∷ 0 ∷ 6 ∷ 5 ∷ 0 ∷ 5 ∷ 0 ∷ 11 ∷ 10 ∷ 0 ∷ 7 ∷ 6 ∷ 5 ∷ 0 ∷ 5 ∷ 4 ∷
+    4 ∷ 0 ∷ 0 ∷ 0 ∷ 6 ∷ 5 ∷ 0 ∷ 5 ∷ 0 ∷ 9 ∷ 8 ∷ 5 ∷ 0 ∷ 6 ∷ 5 ∷ 0 ∷ 5 ∷ 5 ∷ 0 ∷ 5 ∷ 0 ∷ 7 ∷ 6 ∷ 5 ∷ 0 ∷
+    5 ∷ 4 ∷ 4 ∷ 0 ∷ 0 ∷ 7 ∷ 6 ∷ 5 ∷ 0 ∷ 5 ∷ 4 ∷ 9 ∷ 0 ∷ 0 ∷ 7 ∷ 6 ∷ 5 ∷ 0 ∷ 5 ∷ 4 ∷ 4 ∷ 0 ∷ 0 ∷ 7 ∷
+    6 ∷ 5 ∷ 0 ∷ 5 ∷ 4 ∷ 4 ∷ 0 ∷ []
 
 unfoldable pub lowTable : List ℕ
 lowTable = 4 ∷ 4 ∷ 0 ∷ 4 ∷ 4 ∷ 0 ∷ 4 ∷ 4 ∷ 0 ∷ 4 ∷ 4 ∷ 0 ∷ 4 ∷ 4 ∷ 0 ∷ 4 ∷ 4 ∷ 0 ∷ 4 ∷ 4 ∷ 0 ∷ 4 ∷ 4 ∷ 0 ∷ 4 ∷ 4 ∷ 0 ∷ []
@@ -52,7 +56,19 @@ every (suc n) f = f n && every n f
 
 at : (n : ℕ) (f : ℕ → Bool) → every n f ≡ true → (i : ℕ) → i < n → f i ≡ true
 at zero f e i h = absurd (omega arith)
-at (suc n) f e i h = let w = both (f n) (every n f) e in ⊎-elim (λ (q : suc i ≡ suc n). let p : i ≡ n = omega arith in rw p (w .0)) (λ (q : suc i < suc n). at n f (w .1) i (omega arith)) (eq-or-lt-of-le h)
+at (suc n) f e i h =
+    let w = both (f n) (every n f) e in
+    ⊎-elim (λ (q : suc i ≡ suc n). let p : i ≡ n = omega arith in rw p (w .0)) (λ (q : suc i < suc n). at n f (w .1) i (omega arith))
+    (eq-or-lt-of-le h)
+
+-- a test of four values
+abbrev fours : (ℕ → ℕ → ℕ → ℕ → Bool) → Bool
+fours f = every 3 (λ a. every 3 (λ b. every 3 (λ c. every 3 (λ d. f a b c d))))
+
+at-four : (f : ℕ → ℕ → ℕ → ℕ → Bool) → fours f ≡ true → (a b c d : ℕ) → a ≤ 2 → b ≤ 2 → c ≤ 2 → d ≤ 2 → f a b c d ≡ true
+at-four f t a b c d ha hb hc hd =
+    at 3 (λ d. f a b c d) (at 3 (λ c. every 3 (λ d. f a b c d)) (at 3 (λ b. every 3 (λ c. every 3 (λ d. f a b c d)))
+    (at 3 (λ a. every 3 (λ b. every 3 (λ c. every 3 (λ d. f a b c d)))) t a (omega arith)) b (omega arith)) c (omega arith)) d (omega arith)
 
 -- only a step has a fourth variable
 abbrev entryOf : ℕ → ℕ → ℕ → ℕ → ℕ → ℕ
@@ -64,15 +80,13 @@ fair e = leb e 11 && (eqb e 0 || leb 4 e)
 abbrev right : ℕ → ℕ → ℕ → ℕ → ℕ → Bool
 right g a b c d = eqb (entryOf g a b c d) (forcedBy g a b c d) && fair (entryOf g a b c d)
 
-all-right : every 8 (λ g. every 3 (λ a. every 3 (λ b. every 3 (λ c. every 3 (λ d. right g a b c d))))) ≡ true
+all-right : every 8 (λ g. fours (right g)) ≡ true
 unfolding copyTable inverseTable bothTable eitherTable stepTable lowTable highTable raisedTable forcedBy patternOf clausesOf membersIn membersOf flatMap firstForced allOpposed heldIn
 all-right = refl
 
 module _ (g a b c d : ℕ) (hg : g < 8) (ha : a ≤ 2) (hb : b ≤ 2) (hc : c ≤ 2) (hd : d ≤ 2) where
   here : right g a b c d ≡ true
-  here = at 3 (λ d. right g a b c d) (at 3 (λ c. every 3 (λ d. right g a b c d)) (at 3 (λ b. every 3 (λ c. every 3 (λ d. right g a b c d)))
-      (at 3 (λ a. every 3 (λ b. every 3 (λ c. every 3 (λ d. right g a b c d)))) (at 8 (λ g. every 3 (λ a. every 3 (λ b. every 3 (λ c. every 3 (λ d. right g a b c d))))) all-right g hg)
-      a (omega arith)) b (omega arith)) c (omega arith)) d (omega arith)
+  here = at-four (right g) (at 8 (λ g. fours (right g)) all-right g hg) a b c d ha hb hc hd
 
   found : (entryOf g a b c d ≡ forcedBy g a b c d) × (entryOf g a b c d ≤ 11) × ((entryOf g a b c d ≡ 0 → ⊥) → 4 ≤ entryOf g a b c d)
   found =
@@ -98,7 +112,8 @@ module _ (g a b c d : ℕ) (hg : g < 8) (ha : a ≤ 2) (hb : b ≤ 2) (hc : c �
 up : {n k : ℕ} → n ≤ k → (k ≡ n → ⊥) → suc n ≤ k
 up h f = omega arith
 
-pub last-gate : {g : ℕ} → g < 8 → (g ≡ 0 → ⊥) → (g ≡ 1 → ⊥) → (g ≡ 2 → ⊥) → (g ≡ 3 → ⊥) → (g ≡ 4 → ⊥) → (g ≡ 5 → ⊥) → (g ≡ 6 → ⊥) → g ≡ 7
+pub last-gate : {g : ℕ} → g < 8 → (g ≡ 0 → ⊥) → (g ≡ 1 → ⊥) → (g ≡ 2 → ⊥) → (g ≡ 3 → ⊥) → (g ≡ 4 → ⊥) →
+    (g ≡ 5 → ⊥) → (g ≡ 6 → ⊥) → g ≡ 7
 last-gate h a b c d e f i = omega (arith, h, up (up (up (up (up (up (up zero-le a) b) c) d) e) f) i)
 
 -- ---- where nothing is forced, by the bits
@@ -115,13 +130,12 @@ by-honest m i e h q = eqb-true e 0 (sym (ap (λ (b : Bool). not b || eqb e 0) q)
 
 -- bits for a gate, or for each value of its fourth variable: tried at each four values
 abbrev tried : (ℕ → ℕ) → ℕ → Bool
-tried f g = every 3 (λ a. every 3 (λ b. every 3 (λ c. every 3 (λ d. honest (f d) (a + 3 * b + 9 * c) (forcedBy g a b c d)))))
+tried f g = fours (λ a b c d. honest (f d) (a + 3 * b + 9 * c) (forcedBy g a b c d))
 
-by-tried : (f : ℕ → ℕ) (g : ℕ) → tried f g ≡ true → (a b c d : ℕ) → a ≤ 2 → b ≤ 2 → c ≤ 2 → d ≤ 2 → quiet (f d) (a + 3 * b + 9 * c) ≡ true → forcedBy g a b c d ≡ 0
+by-tried : (f : ℕ → ℕ) (g : ℕ) → tried f g ≡ true → (a b c d : ℕ) → a ≤ 2 → b ≤ 2 → c ≤ 2 → d ≤ 2 →
+    quiet (f d) (a + 3 * b + 9 * c) ≡ true → forcedBy g a b c d ≡ 0
 by-tried f g t a b c d ha hb hc hd =
-    by-honest (f d) (a + 3 * b + 9 * c) (forcedBy g a b c d) (at 3 (λ d. honest (f d) (a + 3 * b + 9 * c) (forcedBy g a b c d)) (at 3 (λ c. every 3 (λ d. honest (f d) (a + 3 * b + 9 * c) (forcedBy g a b c d)))
-    (at 3 (λ b. every 3 (λ c. every 3 (λ d. honest (f d) (a + 3 * b + 9 * c) (forcedBy g a b c d)))) (at 3 (λ a. every 3 (λ b. every 3 (λ c. every 3 (λ d. honest (f d) (a + 3 * b + 9 * c) (forcedBy g a b c d))))) t
-    a (omega arith)) b (omega arith)) c (omega arith)) d (omega arith))
+    by-honest (f d) (a + 3 * b + 9 * c) (forcedBy g a b c d) (at-four (λ a b c d. honest (f d) (a + 3 * b + 9 * c) (forcedBy g a b c d)) t a b c d ha hb hc hd)
 
 abbrev pub bitsOf : ℕ → ℕ
 bitsOf g = getD (71705361 ∷ 42287777 ∷ 76686093 ∷ 71640147 ∷ 71573521 ∷ 76695844 ∷ 38347922 ∷ 122660819 ∷ []) g 0
@@ -140,5 +154,6 @@ step-honest : tried stepMask 4 ≡ true
 unfolding forcedBy patternOf clausesOf membersIn membersOf flatMap firstForced allOpposed heldIn
 step-honest = refl
 
-pub step-bit : (a b c : ℕ) → a ≤ 2 → b ≤ 2 → c ≤ 2 → (d : ℕ) → d ≤ 2 → {p q r m : ℕ} → p ≡ a → q ≡ b → r ≡ c → m ≡ stepMask d → quiet m (p + 3 * q + 9 * r) ≡ true → forcedBy 4 a b c d ≡ 0
+pub step-bit : (a b c : ℕ) → a ≤ 2 → b ≤ 2 → c ≤ 2 → (d : ℕ) → d ≤ 2 → {p q r m : ℕ} → p ≡ a → q ≡ b → r ≡ c →
+    m ≡ stepMask d → quiet m (p + 3 * q + 9 * r) ≡ true → forcedBy 4 a b c d ≡ 0
 step-bit a b c ha hb hc d hd i j k l q = by-tried stepMask 4 step-honest a b c d ha hb hc hd (rw (i, j, k, l) at q)

@@ -1,7 +1,7 @@
 -- A call ends as its questions say, in their order: those of the formula, then 12 to 14 and 18, of the table of the tree that the text
 -- reads as; then the recording is written over the lent array.
 use mathlib.Core.Path.{_≡_, refl, sym, ap, _∙_}
-use mathlib.Core.List.{List, [], _∷_, _++_, map}
+use mathlib.Core.List.{List, [], _∷_, _++_}
 use Prim.Native.Nat.{ℕ, _*_, _≤_}
 use native.Mathlib.Omega.{arith}
 use lib.Dec.{eqb, leb}
@@ -12,30 +12,30 @@ use Rattle.refusal.specs.Asked.{question, asked}
 use Rattle.refusal.specs.declared.Refusal.{Refusal}
 use Rattle.refusal.specs.declared.Reply.{Reply}
 use Rattle.refusal.specs.declared.Reply.the-variants.{Yes, No}
-use Rattle.refusal.proofs.Laws.{asked-append, replied-yes, replied-no}
+use Rattle.refusal.proofs.Laws.{replied-yes, replied-no, test-yes}
+use Rattle.lists.specs.Listing.{All}
 use Rattle.grammar.specs.Trees.{Tree}
-use Rattle.grammar.specs.Reader.{Read}
+use Rattle.grammar.specs.Reader.{Read, onTree, parsed, read}
 use Rattle.grammar.specs.declared.Sort.the-variants.{Formula}
-use Rattle.formula.specs.Nodes.{Node, nodesOf, nodesIn}
-use Rattle.formula.specs.Questions.{formulaQuestions, acceptOf}
-use Rattle.formula.proofs.Asked.{asked-one, test-yes}
-use Rattle.formula.proofs.Laws.{all-yes, accepted, nodes-read}
-use Rattle.rows.specs.Table.{rowOf, tableOf}
+use Rattle.grammar.specs.Nodes.{nodesOf, nodesIn, nodesRead}
+use Rattle.formula.proofs.Asked.{asked-one}
+use Rattle.formula.proofs.Laws.{all-yes}
 use Rattle.rows.specs.declared.NodeTable.{NodeTable}
 use Rattle.nodes.specs.Calls.{tabledOf}
 use Rattle.nodes.specs.declared.Tabled.{Tabled}
-use Rattle.nodes.proofs.Laws.{accepts, table-is}
+use Rattle.nodes.proofs.Called as first
 use Rattle.circuit.specs.Circuit.{variablesOf}
 use Rattle.clauses.specs.Clauses.{clauseTable}
-use Rattle.clause_table.specs.Table.{onTree, over}
-use Rattle.clause_table.specs.Rows.{nodeTableOf, Measured}
-use Rattle.clause_table.specs.declared.Sizes.{Sizes}
+use Rattle.moments.specs.Moments.{over}
+use Rattle.table_layout.specs.declared.Sizes.{Sizes}
+use Rattle.nodes.specs.Rows.{nodeTableOf}
+use Rattle.table_layout.specs.Rows.{Measured}
 use Rattle.assignments.specs.Extension.{valueIn, recordingOf}
 use Rattle.assignments.specs.Calls.{askAssignment, askValues, askClauses, askPlaces, clausesIn, Proposed, notAccepted, proposed}
 use Rattle.assignments.specs.declared.Checked.the-variants.{Accepted}
 use Rattle.assignments.proofs.Recordings.{recording-length}
-use Rattle.proposal.specs.Rows.{clausesFor, TableFor, checkQuestions}
-use Rattle.clause_table.proofs.Call.{variables-known}
+use Rattle.proposal.specs.Rows.{clausesFor, checkQuestions}
+use Rattle.table_layout.proofs.Known.{variables-known}
 use Rattle.proposal.proofs.Table.{clauses-known}
 
 -- question 12, answered with yes
@@ -44,7 +44,8 @@ length-yes A n e = eqb-true (length A) n (test-yes 12 0 _ e)
 
 -- ---- 12 to 14 and 18, of an accepted formula's node table
 
-module _ (C k : ℕ) (f : Tree Formula) {T : NodeTable} (e : T ≡ nodeTableOf f) {F : List ℕ} {s : Sizes} (w : Measured C k (T .kinds) (T .numbers) (T .count) F s) (A : List ℕ) (places : ℕ) where
+module _ (C k : ℕ) (f : Tree Formula) {T : NodeTable} (e : T ≡ nodeTableOf f) {F : List ℕ} {s : Sizes}
+    (w : Measured C k (T .kinds) (T .numbers) (T .count) F s) (A : List ℕ) (places : ℕ) where
   abbrev whole : Reply
   whole = asked (checkQuestions C k f A places) No Yes
 
@@ -78,63 +79,45 @@ module _ (C k : ℕ) (f : Tree Formula) {T : NodeTable} (e : T ≡ nodeTableOf f
 
 -- ---- the whole call
 
--- the node table of an accepted text is a formula's
-pub table-for : (C k : ℕ) (t : List ℕ) (T : Tabled) → T ≡ tabledOf C k t → T .reply ≡ Yes → TableFor C (T .table)
-table-for C k t T e y =
-    let a = accepted C k t (accepts C k t T e y) in
-    record { root = a .root; letters = a .letters; is = table-is C k t T e y ∙ ap (λ (l : List Node). tableOf (map rowOf l)) (nodes-read t (a .root) (a .reads)) }
-
-module _ (C k : ℕ) (t A recording : List ℕ) where
+module _ (C k : ℕ) (t A recording : List ℕ) (T : Tabled) (e : T ≡ tabledOf C k t) where
   abbrev answer : Proposed
   answer = record { answer = Accepted; recording = over (recordingOf C k A) recording }
 
-  abbrev later : List Reply
-  later = askAssignment (variablesOf C k (nodesIn t)) A ∷ askValues A ∷ askClauses (valueIn A) 0 (clausesIn C k t) ∷ askPlaces k (length recording) ∷ []
+  abbrev later : Read Formula → List Reply
+  later f = askAssignment (variablesOf C k (nodesRead f)) A ∷ askValues A ∷ askClauses (valueIn A) 0 (onTree (clauseTable C k) f) ∷ askPlaces k (length recording) ∷ []
 
-  proposed-is : proposed C k t A recording ≡ asked (formulaQuestions C k t) (notAccepted recording) (asked later (notAccepted recording) answer)
-  unfolding proposed
-  proposed-is = asked-append (notAccepted recording) answer (formulaQuestions C k t) later
+  pub refused-first : (r : Refusal) → T .reply ≡ No r → notAccepted recording r ≡ proposed C k t A recording
+  unfolding proposed nodesIn clausesIn
+  refused-first r n = first.refused-first C k t T e (notAccepted recording) answer (later (read t)) n
 
-  pub refused-first : (r : Refusal) → acceptOf C k t ≡ No r → notAccepted recording r ≡ proposed C k t A recording
-  unfolding acceptOf
-  refused-first r e = sym (proposed-is ∙ replied-no (notAccepted recording) _ (formulaQuestions C k t) r e)
+  -- once the formula is accepted, the reply to 12 to 14 and 18 tells the rest
+  module _ (y : T .reply ≡ Yes) {q : Reply} (g : (f : Tree Formula) → T .table ≡ nodeTableOf f → q ≡ asked (checkQuestions C k f A (length recording)) No Yes) where
+    by-reply : {a : Proposed} → ((f : Tree Formula) → q ≡ asked (later (parsed f)) No Yes → a ≡ asked (later (parsed f)) (notAccepted recording) answer) → a ≡ proposed C k t A recording
+    unfolding proposed nodesIn clausesIn
+    by-reply h = first.called C k t T e y (notAccepted recording) (λ f. answer) later (λ f n. h f (g f (n .is)))
 
-  -- once the formula is accepted
-  module _ (T : Tabled) (e : T ≡ tabledOf C k t) (y : T .reply ≡ Yes) where
-    -- the reply to 12 to 14 and 18
-    module _ {q : Reply} (g : (f : Tree Formula) → T .table ≡ nodeTableOf f → q ≡ asked (checkQuestions C k f A (length recording)) No Yes) where
-      reply-known : q ≡ asked later No Yes
-      unfolding clausesIn table-for
-      reply-known =
-          let a = accepted C k t (accepts C k t T e y) in
-          let f = a .root in
-          g f (table-for C k t T e y .is)
-          ∙ ap (λ (l : List Node). asked (askAssignment (variablesOf C k l) A ∷ askValues A ∷ askClauses (valueIn A) 0 (clauseTable C k f) ∷ askPlaces k (length recording) ∷ []) No Yes) (sym (nodes-read t f (a .reads)))
-          ∙ ap (λ (r : Read Formula). asked (askAssignment (variablesOf C k (nodesIn t)) A ∷ askValues A ∷ askClauses (valueIn A) 0 (onTree (clauseTable C k) r) ∷ askPlaces k (length recording) ∷ []) No Yes) (sym (a .reads))
+    pub refused-later : (r : Refusal) → q ≡ No r → notAccepted recording r ≡ proposed C k t A recording
+    refused-later r o = by-reply (λ f p. sym (replied-no (notAccepted recording) answer (later (parsed f)) r (sym p ∙ o)))
 
-      proposed-later : proposed C k t A recording ≡ asked later (notAccepted recording) answer
-      unfolding acceptOf
-      proposed-later = proposed-is ∙ replied-yes (notAccepted recording) _ (formulaQuestions C k t) (accepts C k t T e y)
+    module _ (o : q ≡ Yes) where
+      -- the yeses
+      each-yes : (f : Tree Formula) × All (λ r. r ≡ Yes) (later (parsed f))
+      each-yes = let n = first.table-for C k t T e y in (n .0, all-yes (later (parsed (n .0))) (sym (g (n .0) (n .1 .is)) ∙ o))
 
-      pub refused-later : (r : Refusal) → q ≡ No r → notAccepted recording r ≡ proposed C k t A recording
-      refused-later r o = sym (proposed-later ∙ replied-no (notAccepted recording) answer later r (sym reply-known ∙ o))
+      pub room : k ≤ length recording
+      unfolding askPlaces
+      room = leb-true k (length recording) (test-yes 18 0 _ (each-yes .1 .1 .1 .1 .0))
 
-      module _ (o : q ≡ Yes) where
-        -- what the yeses say
-        pub room : k ≤ length recording
-        unfolding askPlaces
-        room = leb-true k (length recording) (test-yes 18 0 _ (all-yes later (sym reply-known ∙ o) .1 .1 .1 .0))
+      -- the part that is lent has a byte an instant, and the assignment every channel's value
+      pub recorded-fits : (length (take k recording) ≡ k) × (length (take k recording) * C ≤ length A)
+      unfolding askAssignment variablesOf
+      recorded-fits =
+          let n = length-take-le k recording room in
+          let l = length-yes A (variablesOf C k (nodesOf (each-yes .0) 0)) (each-yes .1 .0) in
+          (n, omega (arith, l, ap (λ (n : ℕ). n * C) n))
 
-        -- the part that is lent has a byte an instant, and the assignment every channel's value
-        pub recorded-fits : (length (take k recording) ≡ k) × (length (take k recording) * C ≤ length A)
-        unfolding askAssignment variablesOf
-        recorded-fits =
-            let n = length-take-le k recording room in
-            let l = length-yes A (variablesOf C k (nodesIn t)) (all-yes later (sym reply-known ∙ o) .0) in
-            (n, omega (arith, l, ap (λ (n : ℕ). n * C) n))
-
-        pub accepted-last : {out : List ℕ} → out ≡ recordingOf C (length (take k recording)) A → record { answer = Accepted; recording = out ++ drop k recording } ≡ proposed C k t A recording
-        accepted-last p =
-            ap (λ (l : List ℕ). record { answer = Accepted; recording = l ++ drop k recording }) (p ∙ ap (λ (n : ℕ). recordingOf C n A) (recorded-fits .0))
-            ∙ ap (λ (n : ℕ). record { answer = Accepted; recording = recordingOf C k A ++ drop n recording }) (sym (recording-length C k (valueIn A)))
-            ∙ sym (proposed-later ∙ replied-yes (notAccepted recording) answer later (sym reply-known ∙ o))
+      pub accepted-last : {out : List ℕ} → out ≡ recordingOf C (length (take k recording)) A → record { answer = Accepted; recording = out ++ drop k recording } ≡ proposed C k t A recording
+      accepted-last p =
+          ap (λ (l : List ℕ). record { answer = Accepted; recording = l ++ drop k recording }) (p ∙ ap (λ (n : ℕ). recordingOf C n A) (recorded-fits .0))
+          ∙ ap (λ (n : ℕ). record { answer = Accepted; recording = recordingOf C k A ++ drop n recording }) (sym (recording-length C k (valueIn A)))
+          ∙ by-reply (λ f p. sym (replied-yes (notAccepted recording) answer (later (parsed f)) (sym p ∙ o)))

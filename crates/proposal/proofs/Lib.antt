@@ -1,3 +1,2 @@
-pub mod Channels
 pub mod Table
 pub mod Call

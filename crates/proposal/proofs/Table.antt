@@ -1,18 +1,16 @@
 -- The rows of a formula's node table give its definitions, and then the root; so the clauses that the code asks about, row after row, are
 -- those of the formula's table.
 use mathlib.Core.Path.{_≡_, refl, sym, ap, ap₂, _∙_, subst}
-use mathlib.Core.Logic.{⊎-elim}
 use mathlib.Core.Bool.{Bool, true, false, cond, _||_}
-use mathlib.Core.List.{List, [], _∷_, _++_, append-assoc, append-nil, flatMap}
-use Prim.Native.Nat.{ℕ, zero, suc, _+_, _≤_, _<_}
-use native.Mathlib.Nat.{eq-or-lt-of-le}
-use native.Mathlib.Numerals.{add-one}
+use mathlib.Core.List.{List, [], _∷_, _++_, flatMap}
+use Prim.Native.Nat.{ℕ, _+_, _≤_, _<_}
 use native.Mathlib.Omega.{arith}
 use lib.ListN.{length}
 use Rattle.refusal.specs.declared.Refusal.{Refusal}
 use Rattle.refusal.specs.declared.Reply.{Reply}
 use Rattle.refusal.specs.declared.Reply.the-variants.{Yes, No}
-use Rattle.interval.specs.Listing.{rows}
+use Rattle.lists.specs.Listing.{rows}
+use Rattle.lists.proofs.Listing.{rows-rest, rows-next}
 use Rattle.grammar.specs.Trees.{Tree}
 use Rattle.grammar.specs.declared.Sort.the-variants.{Formula}
 use Rattle.rows.specs.declared.NodeTable.{NodeTable}
@@ -22,31 +20,19 @@ use Rattle.blocks.specs.Blocks.{isChop}
 use Rattle.blocks.specs.declared.Block.{Block}
 use Rattle.weights.specs.Weights.{clauseWeight, weightTo}
 use Rattle.clauses.specs.Clauses.{Clause, plain, clausesBy, clauseTable, meetsClause}
-use Rattle.clauses.proofs.Sizes.{clauses-by}
+use Rattle.weights.proofs.Sizes.{clauses-by}
 use Rattle.node_clauses.specs.Nodes.{nodeBy}
-use Rattle.clause_table.specs.Rows.{nodeTableOf, rowDefinitions, Measured}
-use Rattle.clause_table.specs.declared.Sizes.{Sizes}
-use Rattle.clause_table.proofs.Mentioned.{defined-known, root-known}
-use Rattle.clause_table.proofs.Call.{rows-weigh}
+use Rattle.nodes.specs.Rows.{nodeTableOf}
+use Rattle.table_layout.specs.Rows.{rowDefinitions, Measured}
+use Rattle.table_layout.specs.declared.Sizes.{Sizes}
+use Rattle.table_layout.proofs.Mentioned.{defined-known, root-known}
+use Rattle.table_layout.proofs.Known.{rows-weigh}
 use Rattle.assignments.specs.Calls.{askClauses}
 use Rattle.gates.specs.Mentioned.{AllMentioned}
 use Rattle.unmet.proofs.Walk.{either, ask-append, first-no, then-asked}
 use Rattle.proposal.specs.Rows.{clausesFor}
 
 -- ---- one row after another
-
--- the rows from x on
-rows-rest : (D : ℕ → List Definition) (n x : ℕ) → x ≤ n → (R : List Definition) × (rows x D ++ R ≡ rows n D)
-unfolding rows
-rows-rest D zero zero h = ([], refl)
-rows-rest D zero (suc x) h = absurd (omega arith)
-rows-rest D (suc n) x h =
-    ⊎-elim (λ (e : x ≡ suc n). ([], append-nil (rows x D) ∙ ap (λ (x : ℕ). rows x D) e))
-    (λ (l : x < suc n). let r = rows-rest D n x (omega arith) in (r .0 ++ D n, sym (append-assoc (rows x D) (r .0) (D n)) ∙ ap (λ (l : List Definition). l ++ D n) (r .1)))
-    (eq-or-lt-of-le h)
-
-row-more : (D : ℕ → List Definition) (x : ℕ) → rows x D ++ D x ≡ rows (x + 1) D
-row-more D x = unfold rows in rw add-one
 
 module _ (D : ℕ → List Definition) {n x : ℕ} (h : x < n) where
   -- row x is among all
@@ -56,7 +42,7 @@ module _ (D : ℕ → List Definition) {n x : ℕ} (h : x < n) where
   -- the rows before x are met, and row x is asked about, its first clause having the number m
   module _ (a : Assignment) {m : ℕ} (w : m ≡ 0 + length (clausesBy (rows x D))) (y : Yes ≡ askClauses a 0 (clausesBy (rows x D))) {q : Reply} (o : q ≡ askClauses a m (clausesBy (D x))) where
     row-asked : q ≡ askClauses a 0 (clausesBy (rows (x + 1) D))
-    row-asked = then-asked (rows x D) (D x) (row-more D x) a 0 y refl w o
+    row-asked = then-asked (rows x D) (D x) (rows-next D x) a 0 y refl w o
 
     pub row-met : q ≡ Yes → Yes ≡ askClauses a 0 (clausesBy (rows (x + 1) D))
     row-met e = sym e ∙ row-asked
@@ -72,7 +58,8 @@ pub all-met : (a : Assignment) (D : ℕ → List Definition) {n x : ℕ} → x �
 all-met a D {n} {x} h g y = let e : x ≡ n = omega arith in y ∙ ap (λ (n : ℕ). askClauses a 0 (clausesBy (rows n D))) e
 
 -- the number of a row's first clause
-pub row-number : (C k : ℕ) (kinds numbers sizes firsts : List ℕ) (x : ℕ) {m : ℕ} → m ≡ 0 + weightTo clauseWeight k kinds numbers x → m ≡ 0 + length (clausesBy (rows x (rowDefinitions C k kinds numbers sizes firsts)))
+pub row-number : (C k : ℕ) (kinds numbers sizes firsts : List ℕ) (x : ℕ) {m : ℕ} → m ≡ 0 + weightTo clauseWeight k kinds numbers x →
+    m ≡ 0 + length (clausesBy (rows x (rowDefinitions C k kinds numbers sizes firsts)))
 row-number C k kinds numbers sizes firsts x e =
     omega (arith, e, clauses-by (rows x (rowDefinitions C k kinds numbers sizes firsts)), rows-weigh C k kinds numbers sizes firsts clauseWeight x)
 

@@ -1,17 +1,16 @@
 -- What the code asks of a node table before it looks variables up, and the questions that it then asks. Nothing here need be believed: no
 -- call open to others cites it.
-use mathlib.Core.Path.{_≡_}
 use mathlib.Core.List.{List, [], _∷_, _++_}
 use Prim.Native.Nat.{ℕ, _+_}
 use Rattle.refusal.specs.declared.Reply.{Reply}
-use Rattle.interval.specs.Listing.{rows}
-use Rattle.grammar.specs.Trees.{Tree, Letters}
+use Rattle.lists.specs.Listing.{rows}
+use Rattle.grammar.specs.Trees.{Tree}
 use Rattle.grammar.specs.declared.Sort.the-variants.{Formula}
-use Rattle.formula.specs.Nodes.{nodesOf}
+use Rattle.grammar.specs.Nodes.{nodesOf}
 use Rattle.rows.specs.declared.NodeTable.{NodeTable}
 use Rattle.circuit.specs.Circuit.{Definition, variablesOf}
 use Rattle.clauses.specs.Clauses.{Clause, plain, clausesBy, clauseTable}
-use Rattle.clause_table.specs.Rows.{nodeTableOf, seatBy, rowDefinitions}
+use Rattle.table_layout.specs.Rows.{seatBy, rowDefinitions}
 use Rattle.assignments.specs.Extension.{valueIn}
 use Rattle.assignments.specs.Calls.{askAssignment, askValues, askClauses, askPlaces}
 
@@ -24,12 +23,6 @@ rootIn T firsts k = seatBy (T .kinds) (T .numbers) firsts k 0 + k
 
 abbrev pub clausesFor : ℕ → ℕ → NodeTable → List ℕ → List Clause
 clausesFor C k T firsts = clausesBy (definedIn C k T firsts) ++ (plain (rootIn T firsts k) ∷ []) ∷ []
-
--- a node table of a formula
-pub record TableFor (C : ℕ) (table : NodeTable) : Type 0 where
-  pub root : Tree Formula
-  pub letters : Letters C root
-  pub is : table ≡ nodeTableOf root
 
 -- questions 12 to 14 and 18
 abbrev pub checkQuestions : ℕ → ℕ → Tree Formula → List ℕ → ℕ → List Reply

@@ -5,24 +5,23 @@ use refusal::Refusal;
 use refusal::Reply;
 use rows::NodeTable;
 ghost use mathlib.Core.Path.{_≡_};
-ghost use Prim.Native.Nat.{ℕ, _+_, _*_, _^_, _≤_, _<_};
+ghost use Prim.Native.Nat.{ℕ, _+_, _≤_, _<_};
 ghost use lib.ListN.{length, getD};
 ghost use Rattle.moments.specs.Moments.{old, new};
 ghost use Rattle.refusal.specs.Asked.{asked};
-ghost use Rattle.interval.specs.Listing.{sum};
+ghost use Rattle.lists.specs.Listing.{sum};
 ghost use Rattle.interval.specs.Limits.{maxSteps};
 ghost use Rattle.grammar.specs.Limits.{maxNodes, maxChannels};
 ghost use Rattle.grammar.specs.Trees.{Tree};
 ghost use Rattle.grammar.specs.declared.Sort.the-variants.{Formula};
-ghost use Rattle.meaning.specs.Meaning.{bit};
-ghost use Rattle.circuit.specs.Circuit.{channelOf};
 ghost use Rattle.weights.specs.Weights.{clauseWeight, weightTo};
 ghost use Rattle.clauses.specs.Clauses.{clausesBy};
-ghost use Rattle.clause_table.specs.Rows.{nodeTableOf, Low};
-ghost use Rattle.assignments.specs.Extension.{valueIn, recordingOf};
+ghost use Rattle.nodes.specs.Rows.{nodeTableOf, TableFor};
+ghost use Rattle.table_layout.specs.Rows.{Low};
+ghost use Rattle.assignments.specs.Extension.{valueIn};
 ghost use Rattle.assignments.specs.Calls.{askClauses, proposed};
 ghost use Rattle.gates.specs.Mentioned.{Variable, AllMentioned};
-ghost use Rattle.proposal.specs.Rows.{definedIn, rootIn, clausesFor, TableFor, checkQuestions};
+ghost use Rattle.proposal.specs.Rows.{definedIn, rootIn, clausesFor, checkQuestions};
 
 // Question 14 of the clauses of all nodes, in number order; `numbered` has the number of each node's first clause.
 fn ask_nodes(
@@ -39,7 +38,7 @@ fn ask_nodes(
     ensures { λ r. ⌜ r ≡ askClauses (valueIn (old assignment)) 0 (clausesBy (definedIn c k table (old firsts))) ⌝ }
 {
     for x in 0..table.count {
-        let block = clause_table::block_at(
+        let block = table_layout::block_at(
             &table.kinds,
             &table.numbers,
             &table.sizes,
@@ -80,7 +79,7 @@ fn ask_table(
     if let Reply::No(r) = ask_nodes(assignment, table, firsts, &numbered, c, k) {
         return Reply::No(r);
     }
-    let root = clause_table::seat(&table.kinds, &table.numbers, firsts, k, 0) + k;
+    let root = table_layout::seat(&table.kinds, &table.numbers, firsts, k, 0) + k;
     if unmet_gate::high(assignment, root) {
         return Reply::Yes;
     }
@@ -92,46 +91,23 @@ fn ask_table(
 
 // Questions 12 to 14 and 18, of an accepted formula's node table, with as many places lent for the recording.
 fn ask_proposal(table: NodeTable, c: u32, k: u32, assignment: &[u8], places: usize) -> Reply
-    requires { ⌜ (c ≤ maxChannels) × (k ≤ maxSteps) × (table .count ≤ maxNodes) × TableFor c table ⌝ }
+    requires { ⌜ (c ≤ maxChannels) × (k ≤ maxSteps) × (table .count ≤ maxNodes) × ((f : Tree Formula) × TableFor c f table) ⌝ }
     ensures { λ r. ⌜ ((f : Tree Formula) → table ≡ nodeTableOf f → r ≡ asked (checkQuestions c k f (old assignment) places) Reply.No Reply.Yes) ⌝ }
 {
-    let layout = clause_table::layout_of(table, c, k);
+    let layout = table_layout::layout_of(table, c, k);
     let s = layout.sizes;
     let whole = assignment.len() == s.variables as usize;
     let room = k as usize <= places;
     if let Reply::No(r) = refusal::ask(12, whole) {
         return Reply::No(r);
     }
-    if let Reply::No(r) = evaluator::ask_below(13, 2, assignment) {
+    if let Reply::No(r) = recording_questions::ask_below(13, 2, assignment) {
         return Reply::No(r);
     }
     if let Reply::No(r) = ask_table(assignment, table, &layout.firsts, c, k) {
         return Reply::No(r);
     }
     refusal::ask(18, room)
-}
-
-// The byte of instant t: bit b where channel b is high.
-fn recorded(assignment: &[u8], c: usize, t: usize) -> u8
-    requires { ⌜ (c ≤ maxChannels) × (t ≤ maxSteps) × (t * c + c ≤ length (now assignment)) ⌝ }
-    ensures { λ r. ⌜ r ≡ sum (λ b. bit (valueIn (old assignment) (channelOf c t b)) * 2 ^ b) c ⌝ }
-{
-    let at = t * c;
-    let mut byte: u8 = 0;
-    for b in 0..c {
-        byte += table::byte_of(assignment[at + b] == 1) << b;
-    }
-    byte
-}
-
-// The recording, to all of `out`.
-pub fn put_recording(out: &mut [u8], assignment: &[u8], c: usize)
-    requires { ⌜ (c ≤ maxChannels) × (length (now out) ≤ maxSteps) × (length (now out) * c ≤ length (now assignment)) ⌝ }
-    ensures { λ _. ⌜ new out ≡ recordingOf c (length (old out)) (old assignment) ⌝ }
-{
-    for t in 0..out.len() {
-        out[t] = recorded(assignment, c, t);
-    }
 }
 
 // Whether a proposed assignment meets every clause of a formula of C channels over k steps; the recording is written where it does.
@@ -148,6 +124,6 @@ pub fn check(text: &[u8], c: u32, k: u32, assignment: &[u8], recording: &mut [u8
         return Checked::Refused(r);
     }
     let steps = k as usize;
-    put_recording(&mut recording[..steps], assignment, c as usize);
+    check_recording::put_recording(&mut recording[..steps], assignment, c as usize);
     Checked::Accepted
 }

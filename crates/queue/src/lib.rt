@@ -1,121 +1,14 @@
 // Closing by the trail as a queue: each variable of it in turn, and the gates that mention it. It is unit propagation, without a table of
 // clauses.
-use circuit::Gate;
 use closing::Closed;
 use grammar::MAX_NODES;
 use interval::Interval;
-ghost use mathlib.Core.Path.{_≡_};
-ghost use Prim.Native.Nat.{_*_, _≤_, _<_};
-ghost use lib.ListN.{length};
 ghost use Rattle.moments.specs.Moments.{old};
-ghost use Rattle.interval.specs.Places.{countOf};
-ghost use Rattle.gates.specs.Mentioned.{Variable};
 ghost use Rattle.closing.specs.Values.{Trailing};
 ghost use Rattle.closing.specs.Closing.{Closes};
 ghost use Rattle.sweeps.specs.Sweeps.{tableBy};
 ghost use Rattle.decode.specs.Decode.{Tables};
-ghost use Rattle.fanout.specs.Fanout.{OnGround, Pending, Reaches};
-
-// A node's variable: the gates of its own node, and of the node that it is a part of; the root's is a clause of its own.
-fn reach_row<'a>(
-    values: &mut [u8],
-    trail: &mut [u32],
-    top: usize,
-    kinds: &'a [u8; MAX_NODES],
-    numbers: &'a [u8; MAX_NODES],
-    sizes: &'a [u8; MAX_NODES],
-    firsts: &[u32; MAX_NODES],
-    seats: &[u32; MAX_NODES],
-    parents: &[u8; MAX_NODES],
-    intervals: &[u16],
-    starts: &[u32],
-    count: usize,
-    c: u32,
-    k: u32,
-    all: u32,
-    u: u32,
-) -> Closed
-    requires { ⌜ OnGround c k kinds numbers sizes firsts seats parents count values × Trailing (now values) (now trail) top ⌝ }
-    requires { ⌜ Tables k (now intervals) (now starts) × (all ≡ countOf k) × (k * c < u) × (u ≤ length (now values)) ⌝ }
-    ensures { λ r. ⌜ Reaches (tableBy c k (old kinds) (old numbers) (old sizes) (old firsts) count) u values trail top r ⌝ }
-{
-    let z = decode::last_from(firsts, count, u);
-    let block = letters::block_of(kinds, numbers, sizes, firsts, seats, k, z);
-    let r = own::reach(values, trail, top, intervals, starts, c, k, all, block, u);
-    if r.clash {
-        return r;
-    }
-    if z != 0 {
-        let y = parents[z] as usize;
-        let up = letters::block_of(kinds, numbers, sizes, firsts, seats, k, y);
-        return part::reach(values, trail, r.top, intervals, c, k, all, up, u);
-    }
-    let root = seats[0] + k;
-    if u != root {
-        return r;
-    }
-    visits::visit(values, trail, r.top, root, Gate::Constant(true))
-}
-
-// The gates that mention u.
-fn reach<'a>(
-    values: &mut [u8],
-    trail: &mut [u32],
-    top: usize,
-    kinds: &'a [u8; MAX_NODES],
-    numbers: &'a [u8; MAX_NODES],
-    sizes: &'a [u8; MAX_NODES],
-    firsts: &[u32; MAX_NODES],
-    seats: &[u32; MAX_NODES],
-    parents: &[u8; MAX_NODES],
-    intervals: &[u16],
-    starts: &[u32],
-    count: usize,
-    c: u32,
-    k: u32,
-    all: u32,
-    u: u32,
-) -> Closed
-    requires { ⌜ OnGround c k kinds numbers sizes firsts seats parents count values × Trailing (now values) (now trail) top ⌝ }
-    requires { ⌜ Tables k (now intervals) (now starts) × (all ≡ countOf k) × Variable (length (now values)) u ⌝ }
-    ensures { λ r. ⌜ Reaches (tableBy c k (old kinds) (old numbers) (old sizes) (old firsts) count) u values trail top r ⌝ }
-{
-    if u <= k * c {
-        return letters::reach_channel(
-            values,
-            trail,
-            top,
-            kinds,
-            numbers,
-            sizes,
-            firsts,
-            seats,
-            parents,
-            count,
-            c,
-            k,
-            u,
-        );
-    }
-    reach_row(
-        values,
-        trail,
-        top,
-        kinds,
-        numbers,
-        sizes,
-        firsts,
-        seats,
-        parents,
-        intervals,
-        starts,
-        count,
-        c,
-        k,
-        all,
-        u,
-    )
-}
+ghost use Rattle.fanout.specs.Fanout.{OnGround, Pending};
 
 // Unit propagation: the trail from head on, until all of it is taken or a clash is met. A clash is handed on field by field: where the
 // answer is copied whole, the compiler keeps every answer below it whole, and that is slower.
@@ -145,7 +38,7 @@ pub fn close<'a>(
     let mut h = head;
     while h < t {
         let u = trail[h];
-        let r = reach(
+        let r = search_reach::reach(
             values,
             trail,
             t,

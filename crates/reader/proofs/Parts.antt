@@ -23,7 +23,7 @@ use Rattle.grammar.specs.declared.Joint.the-variants.{And, Or, Chop, Nothing}
 use Rattle.reader.specs.declared.Got.{Got}
 use Rattle.reader.specs.declared.Got.the-variants.{Good, Bad}
 use Rattle.reader.specs.declared.Parse.the-variants.{Reads, Stops}
-use Rattle.grammar.proofs.Bytes.{cond-elim}
+use Rattle.lists.proofs.Tests.{cond-elim}
 use Rattle.grammar.proofs.Printed.{after-negated}
 
 module _ (t : List ℕ) (n : ℕ) where
@@ -51,7 +51,8 @@ module _ (t : List ℕ) (n : ℕ) where
   pub number-zero : n < length t → getD t n 0 ≡ 48 → numberAt n (drop n t) ≡ Good (n + 1)
   number-zero h e = ap (numberAt n) (at-byte h ∙ ap (λ (b : ℕ). b ∷ drop (n + 1) t) e)
 
-  pub number-other : n < length t → eqb (getD t n 0) 48 ≡ false → {c : Bool} → isDigit (getD t n 0) ≡ c → numberAt n (drop n t) ≡ cond c (Good (n + 1 + digitCount (drop (n + 1) t))) (Bad n)
+  pub number-other : n < length t → eqb (getD t n 0) 48 ≡ false → {c : Bool} → isDigit (getD t n 0) ≡ c →
+      numberAt n (drop n t) ≡ cond c (Good (n + 1 + digitCount (drop (n + 1) t))) (Bad n)
   number-other h z e = ap (numberAt n) (at-byte h) ∙ rw (z, e)
 
 -- a byte that is tested is a step
@@ -68,14 +69,16 @@ module _ {r : Sort} (t : List ℕ) where
   test-step n m′ true = refl
   test-step n m′ false = refl
 
-  test-run : (n : ℕ) (m m′ : Reading r) (f : ℕ → Bool) → atEnd m ≡ stops [] → next m (getD t n 0) ≡ cond (f (getD t n 0)) (go m′) stop → run m (drop n t) ≡ resume t m′ (testAt f n (drop n t))
+  test-run : (n : ℕ) (m m′ : Reading r) (f : ℕ → Bool) → atEnd m ≡ stops [] → next m (getD t n 0) ≡ cond (f (getD t n 0)) (go m′) stop →
+      run m (drop n t) ≡ resume t m′ (testAt f n (drop n t))
   test-run n m m′ f e w = by (decLt n (length t))
     where
       by : Dec (n < length t) → run m (drop n t) ≡ resume t m′ (testAt f n (drop n t))
       by (yes h) = step n m h ∙ ap (onward (drop n t) (λ m. run m (drop (n + 1) t))) w ∙ test-step n m′ (f (getD t n 0)) ∙ ap (resume t m′) (sym (tested t n f h refl))
       by (no h) = let l : length t ≤ n = omega arith in stuck n m e l ∙ ap (resume t m′) (sym (at-end t n (testAt f) refl l))
 
-  sign-run : (g : Got) (m m′ : Reading r) (v : ℕ) → atEnd m ≡ stops [] → ((b : ℕ) → next m b ≡ cond (isSign v b) (go m′) stop) → resume t m g ≡ resume t m′ (onGood t (testAt (isSign v)) g)
+  sign-run : (g : Got) (m m′ : Reading r) (v : ℕ) → atEnd m ≡ stops [] → ((b : ℕ) → next m b ≡ cond (isSign v b) (go m′) stop) →
+      resume t m g ≡ resume t m′ (onGood t (testAt (isSign v)) g)
   sign-run (Good n) m m′ v e w = test-run n m m′ (isSign v) e (w (getD t n 0))
   sign-run (Bad p) m m′ v e w = refl
 
@@ -95,7 +98,8 @@ module _ {r : Sort} (x : Tree State) (K : Around r Formula) where
   digits-run (b ∷ q) v = by (isDigit b) (digits-run q (v * 10 + (b - 48)))
     where
       by : (c : Bool) → run (digits x (v * 10 + (b - 48)) K) q ≡ run (after (duration x (valueFrom (v * 10 + (b - 48)) q)) K) (drop (digitCount q) q)
-          → onward (b ∷ q) (λ n. run n q) (cond c (go (digits x (v * 10 + (b - 48)) K)) (follow Formula (duration x v) K b)) ≡ run (after (duration x (cond c (valueFrom (v * 10 + (b - 48)) q) v)) K) (drop (cond c (suc (digitCount q)) 0) (b ∷ q))
+          → onward (b ∷ q) (λ n. run n q) (cond c (go (digits x (v * 10 + (b - 48)) K)) (follow Formula (duration x v) K b)) ≡ run
+          (after (duration x (cond c (valueFrom (v * 10 + (b - 48)) q) v)) K) (drop (cond c (suc (digitCount q)) 0) (b ∷ q))
       by true ih = ih
       by false ih = refl
 
@@ -203,10 +207,12 @@ module _ (t : List ℕ) (s : Sort) (at : ℕ) where
         out r K (Good n) = after-negated (w .tree) K (drop n t)
         out r K (Bad p) = refl
 
-    first-run : {r : Sort} (g : Got) (K : Around r s) → Open ≡ leadOf s (getD t at 0) → (w : PartAt t s (at + 1) g) → run (part s K) (drop at t) ≡ resume t (part s (right (linkRead t s g) (w .tree) K)) (onGood t (testAt (isJoint s)) g)
+    first-run : {r : Sort} (g : Got) (K : Around r s) → Open ≡ leadOf s (getD t at 0) → (w : PartAt t s (at + 1) g) →
+        run (part s K) (drop at t) ≡ resume t (part s (right (linkRead t s g) (w .tree) K)) (onGood t (testAt (isJoint s)) g)
     first-run g K e w = lead K Open e ∙ w .same _ (left K) ∙ joint-run s (w .tree) K t g
 
-    pub part-open : (g : Got) (n : ℕ) (g′ : Got) → Open ≡ leadOf s (getD t at 0) → PartAt t s (at + 1) g → onGood t (testAt (isJoint s)) g ≡ Good n → PartAt t s n g′ → PartAt t s at (onGood t (testAt (isSign 41)) g′)
+    pub part-open : (g : Got) (n : ℕ) (g′ : Got) → Open ≡ leadOf s (getD t at 0) → PartAt t s (at + 1) g →
+        onGood t (testAt (isJoint s)) g ≡ Good n → PartAt t s n g′ → PartAt t s at (onGood t (testAt (isSign 41)) g′)
     unfolding follow endAfter
     part-open g n g′ e w j v =
         let k : Within t (at + 1) (Good n) = subst (Within t (at + 1)) j (tested-within t g (at + 1) (isJoint s) (w .within)) in
@@ -294,7 +300,8 @@ module _ (t : List ℕ) (g : Got) (w : PartAt t Formula 0 g) where
   unfolding parseText read run follow
   check-more n e h =
       let v = subst (PartAt t Formula 0) e w in
-      sym (ap (λ o. parseOf (placed t o)) (v .same Formula whole ∙ ap (run (after (v .tree) whole)) (at-byte t n h)) ∙ ap Stops (sym (in-place t (getD t n 0 ∷ drop (n + 1) t) n (v .within .1) (sym (at-byte t n h)))))
+      sym (ap (λ o. parseOf (placed t o)) (v .same Formula whole ∙ ap (run (after (v .tree) whole)) (at-byte t n h)) ∙
+      ap Stops (sym (in-place t (getD t n 0 ∷ drop (n + 1) t) n (v .within .1) (sym (at-byte t n h)))))
 
   pub check-stops : (p : ℕ) → g ≡ Bad p → Stops p ≡ parseText t
   unfolding parseText read

@@ -43,7 +43,7 @@ fn joined_by(text: &[u8], s: Sort, g: Got) -> Got
         return g;
     };
     if n < text.len() {
-        if grammar::is_joint(s, text[n]) {
+        if formula_bytes::is_joint(s, text[n]) {
             return Got::Good(n + 1);
         }
     }
@@ -57,7 +57,7 @@ fn digits_end(text: &[u8], at: usize) -> usize
 {
     let mut i = at;
     while i < text.len() {
-        if !grammar::is_digit(text[i]) {
+        if !formula_bytes::is_digit(text[i]) {
             return i;
         }
         i += 1;
@@ -77,7 +77,7 @@ pub fn numbered_by(text: &[u8], g: Got) -> Got
         if b == b'0' {
             return Got::Good(n + 1);
         }
-        if grammar::is_digit(b) {
+        if formula_bytes::is_digit(b) {
             return Got::Good(digits_end(text, n + 1));
         }
     }
@@ -93,7 +93,7 @@ fn read_part(text: &[u8], s: Sort, at: usize) -> Got
         return Got::Bad(at);
     }
     let next = at + 1;
-    let l = grammar::lead_of(s, text[at]);
+    let l = formula_bytes::lead_of(s, text[at]);
     match l {
         Lead::Leaf => Got::Good(next),
         Lead::Not => read_part(text, s, next),

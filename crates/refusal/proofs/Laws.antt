@@ -1,10 +1,11 @@
 -- The first no answers: a list of questions either has no no, and then the call gives its answer, or it is some yeses, a no
 -- and the rest, and then the call is refused by that no, whatever the rest would say. Both by induction on the list.
 use mathlib.Core.Path.{_≡_, refl, sym, ap, _∙_}
-use mathlib.Core.Bool.{false≢true}
+use mathlib.Core.Bool.{Bool, true, false, false≢true}
 use mathlib.Core.List.{List, [], _∷_, _++_}
+use Prim.Native.Nat.{ℕ}
 use mathlib.Core.Logic.{_⊎_, inl, inr, ⊎-elim}
-use Rattle.refusal.specs.Asked.{asked, AllYes, none-left, yes-then, FirstNo, here, later}
+use Rattle.refusal.specs.Asked.{question, asked, AllYes, none-left, yes-then, FirstNo, here, later}
 use Rattle.refusal.specs.declared.Refusal.{Refusal}
 use Rattle.refusal.specs.declared.Reply.{Reply}
 use Rattle.refusal.specs.declared.Reply.the-variants.{Yes, No}
@@ -61,3 +62,8 @@ module _ {A : Type 0} (refused : Refusal → A) (answer : A) (questions : List R
 
   pub last-yes : asked questions No Yes ≡ Yes → last ≡ Yes → answer ≡ asked (questions ++ last ∷ []) refused answer
   last-yes e f = sym (last-asked e ∙ ap (λ (q : Reply). asked (q ∷ []) refused answer) f)
+
+-- a question that its test answers with yes
+pub test-yes : (n p : ℕ) (c : Bool) → question n p c ≡ Yes → c ≡ true
+test-yes n p true e = refl
+test-yes n p false e = absurd (false≢true cc)

@@ -18,6 +18,12 @@ pub enum Reply {
     No(Refusal),
 }
 
+// What the call answers.
+pub enum Written {
+    Done,
+    Refused(Refusal),
+}
+
 // The reply to a question that names no place, by its test.
 pub fn ask(number: u32, test: bool) -> Reply
     ensures { λ r. ⌜ r ≡ question number 0 test ⌝ }

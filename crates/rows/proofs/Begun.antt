@@ -12,13 +12,13 @@ use Rattle.grammar.specs.Limits.{maxLength, maxNodes}
 use Rattle.grammar.specs.Trees.{Link, and, or, chop, Tree, constant, letter, negation, pair, duration, throughout, Letters, decimal, linkByte, write, textOf}
 use Rattle.grammar.specs.Reader.{isStart}
 use Rattle.grammar.specs.declared.Sort.{Sort}
-use Rattle.grammar.proofs.Bytes.{at-each}
+use Rattle.lists.proofs.Tests.{at-each}
 use Rattle.grammar.proofs.Decimal.{decimal-digit, decimal-more, by-digits}
 use Rattle.grammar.proofs.Laws.{prints-as-text}
 use Rattle.grammar.proofs.Written.{length-write}
 use Rattle.reader.proofs.Parts.{at-byte}
-use Rattle.formula.specs.Nodes.{nodesOf, nodesIn}
-use Rattle.formula.specs.Questions.{acceptOf}
+use Rattle.grammar.specs.Nodes.{nodesOf, nodesIn}
+use Rattle.grammar.specs.Questions.{acceptOf}
 use Rattle.formula.proofs.Laws.{accepted, nodes-read}
 use Rattle.rows.specs.Table.{sortCode, tableOf}
 use Rattle.rows.specs.Rows.{codeAfter, begunRow, begun}
@@ -78,7 +78,8 @@ begun-tree {s} (pair l x y) at q w =
     ∙ sym (append-assoc (map begun X) (map begun Y) _) ∙ ap (λ (r : List Row). r ++ begunIn (sortCode s) q (at + length (textOf (pair l x y)))) (sym (map-append begun X Y)))
 begun-tree (duration x n) at q w =
     ap (λ (l : List Row). begunRow 16 at ∷ l) (begun-tree x (suc at) (62 ∷ 61 ∷ decimal n ++ q) w
-    ∙ ap (λ (l : List Row). map begun (nodesOf x (suc at)) ++ l) (skip-number n _ q ∙ ap (begunIn 16 q) (omega (arith, length-write x (62 ∷ 61 ∷ decimal n ++ []), length-append (decimal n) []))))
+    ∙ ap (λ (l : List Row). map begun (nodesOf x (suc at)) ++ l)
+    (skip-number n _ q ∙ ap (begunIn 16 q) (omega (arith, length-write x (62 ∷ 61 ∷ decimal n ++ []), length-append (decimal n) []))))
 begun-tree (throughout x) at q w =
     ap (λ (l : List Row). begunRow 16 at ∷ l) (begun-tree x (suc at) (93 ∷ q) w
     ∙ ap (λ (n : ℕ). map begun (nodesOf x (suc at)) ++ begunIn 16 q n) (omega (arith, length-write x (93 ∷ []))))
@@ -148,7 +149,15 @@ module _ (C k : ℕ) (t : List ℕ) (a : acceptOf C k t ≡ Yes) (table : NodeTa
 
     module _ (e : isStart (getD t i 0) ≡ true) where
       room : length (w .done) < maxNodes
-      room = omega (arith, nodes-most C k t a, ap length (left true e), length-append (w .done) (begunRow code i ∷ begunIn code′ (drop (i + 1) t) (i + 1)), ap length (begun-text C k t a), length-map (nodesIn t) begun)
+      room =
+          omega (
+            arith,
+            nodes-most C k t a,
+            ap length (left true e),
+            length-append (w .done) (begunRow code i ∷ begunIn code′ (drop (i + 1) t) (i + 1)),
+            ap length (begun-text C k t a),
+            length-map (nodesIn t) begun,
+          )
 
       pub begun-room : table .count < maxNodes
       unfolding tableOf

@@ -8,13 +8,13 @@ use lib.ListN.{length, getD, take, drop, set, drop-of-length-le, length-append, 
 use lib.Seq.{take-all, drop-at, drop-drop, drop-append-add, length-take-le}
 use Rattle.refusal.specs.declared.Reply.the-variants.{Yes}
 use Rattle.grammar.specs.Limits.{maxNodes, maxNumber}
-use Rattle.grammar.specs.Trees.{Tree, constant, letter, negation, pair, duration, throughout, Numbers, textOf}
+use Rattle.grammar.specs.Trees.{textOf}
 use Rattle.grammar.specs.declared.Sort.{Sort}
 use Rattle.grammar.specs.declared.Sort.the-variants.{State, Formula}
-use Rattle.grammar.proofs.Written.{drop-front}
-use Rattle.formula.specs.Nodes.{Node, node, nodesOf, nodesIn}
-use Rattle.formula.specs.Questions.{acceptOf}
-use Rattle.formula.proofs.Standing.{Stands, StandsNode, end-within, negated-stands, left-stands, right-stands, measured-stands, entered-stands}
+use Rattle.grammar.specs.Nodes.{Node, nodesOf, nodesIn}
+use Rattle.grammar.specs.Questions.{acceptOf}
+use Rattle.formula.proofs.Standing.{StandsNode, end-within, stands-pass}
+use Rattle.grammar.proofs.EachNode.{Begins, Each, Chosen, choose, each-node, both-pass, NumbersNode, numbers-pass, begins-first, parts-map, parts-begin}
 use Rattle.formula.proofs.Found.{root-stands}
 use Rattle.formula.proofs.Laws.{accepted, nodes-read}
 use Rattle.rows.specs.Table.{sortCode, rowOf, padded, tableOf}
@@ -25,73 +25,21 @@ use Rattle.rows.proofs.Steps.{field-at, drop-map, stored-at, kept-at}
 use Rattle.rows.proofs.Begun.{nodes-most, bytes-most}
 use Rattle.rows.proofs.Rows.{PartIs, PartsAre, row-found}
 
--- a state assertion has no numbers
-pub state-numbers : (x : Tree State) → Numbers maxNumber x
-state-numbers (constant v) = tt
-state-numbers (letter c) = tt
-state-numbers (negation x) = state-numbers x
-state-numbers (pair l x y) = (state-numbers x, state-numbers y)
+-- what is known of a node of an accepted text
+abbrev pub Known : List ℕ → Node → Type 0
+Known t w = StandsNode t w × NumbersNode maxNumber w
 
--- the nodes of a node stand in a row, from itself on
-module _ (t : List ℕ) where
-  pub record Own (w : Node) (l : List Node) : Type 0 where
-    pub stands : StandsNode t w
-    pub numbers : Numbers maxNumber (w .part)
-    pub later : List Node
-    pub is : w ∷ l ≡ nodesOf (w .part) (w .first) ++ later
-
-  abbrev Rooted : List Node → Type 0
-  Rooted [] = Unit
-  Rooted (w ∷ l) = Own w l × Rooted l
-
-  rooted : {s : Sort} (x : Tree s) (at : ℕ) (m : List Node) → Stands t x at → Numbers maxNumber x → Rooted m → Rooted (nodesOf x at ++ m)
-  unfolding nodesOf
-  rooted {s} (constant v) at m w n r = (record { stands = w; numbers = n; later = m; is = refl }, r)
-  rooted (letter c) at m w n r = (record { stands = w; numbers = n; later = m; is = refl }, r)
-  rooted (negation x) at m w n r = (record { stands = w; numbers = n; later = m; is = refl }, rooted x (suc at) m (negated-stands t x at w) n r)
-  rooted (pair l x y) at m w n r =
-      let X = nodesOf x (suc at) in
-      let Y = nodesOf y (suc (suc at + length (textOf x))) in
-      let v = rooted x (suc at) (Y ++ m) (left-stands t l x y at w) (n .0) (rooted y _ m (right-stands t l x y at w) (n .1) r) in
-      (record { stands = w; numbers = n; later = m; is = refl }, subst Rooted (sym (append-assoc X Y m)) v)
-  rooted (duration x k) at m w n r = (record { stands = w; numbers = n; later = m; is = refl }, rooted x (suc at) m (measured-stands t x k at w) (state-numbers x) r)
-  rooted (throughout x) at m w n r = (record { stands = w; numbers = n; later = m; is = refl }, rooted x (suc at) m (entered-stands t x at w) (state-numbers x) r)
-
-  -- the node y, from 0
-  pub record Chosen (l : List Node) (y : ℕ) : Type 0 where
-    pub chosen : Node
-    pub own : Own chosen (drop (suc y) l)
-    pub front : take (suc y) l ≡ take y l ++ chosen ∷ []
-    pub back : drop y l ≡ chosen ∷ drop (suc y) l
-
-  choose : (l : List Node) (y : ℕ) → Rooted l → y < length l → Chosen l y
-  choose [] y r h = absurd (omega arith)
-  choose (w ∷ l) zero r h = record { chosen = w; own = r .0; front = refl; back = refl }
-  choose (w ∷ l) (suc y) r h =
-      let c = choose l y (r .1) (omega arith) in
-      record { chosen = c .chosen; own = c .own; front = ap (λ (q : List Node). w ∷ q) (c .front); back = c .back }
-
-  -- an accepted text's
-  pub node-chosen : (C k y : ℕ) → acceptOf C k t ≡ Yes → y < length (nodesIn t) → Chosen (nodesIn t) y
-  node-chosen C k y e h =
-      let a = accepted C k t e in
-      let r = rooted (a .root) 0 [] (root-stands t (a .root) (a .reads)) (a .numbers) tt in
-      choose (nodesIn t) y (subst Rooted (append-nil _ ∙ sym (nodes-read t (a .root) (a .reads))) r) h
-
-nodes-first : {s : Sort} (x : Tree s) (at : ℕ) → (l : List Node) × (nodesOf x at ≡ node x at ∷ l)
-unfolding nodesOf
-nodes-first {s} (constant v) at = ([], refl)
-nodes-first (letter c) at = ([], refl)
-nodes-first (negation x) at = (_, refl)
-nodes-first (pair l x y) at = (_, refl)
-nodes-first (duration x n) at = (_, refl)
-nodes-first (throughout x) at = (_, refl)
+pub node-chosen : (t : List ℕ) (C k y : ℕ) → acceptOf C k t ≡ Yes → y < length (nodesIn t) → Chosen (Known t) (nodesIn t) y
+node-chosen t C k y e h =
+    let a = accepted C k t e in
+    let r = each-node (Known t) (both-pass (stands-pass t) (numbers-pass maxNumber)) (a .root) 0 (root-stands t (a .root) (a .reads), a .numbers) in
+    choose (Known t) (nodesIn t) y (subst (Each (Known t)) (sym (nodes-read t (a .root) (a .reads))) r) h
 
 -- the rows of which those from x on are found
 abbrev pub mixed : ℕ → List Node → List Row
 mixed x l = map begun (take x l) ++ map rowOf (drop x l)
 
-module _ (t : List ℕ) (l : List Node) (y : ℕ) (h : y < length l) (c : Chosen t l y) where
+module _ (t : List ℕ) (l : List Node) (y : ℕ) (h : y < length l) (c : Chosen (Known t) l y) where
   abbrev own : Node
   own = c .chosen
 
@@ -121,7 +69,8 @@ module _ (t : List ℕ) (l : List Node) (y : ℕ) (h : y < length l) (c : Chosen
       let k : ℕ = n - suc y in
       let e : n ≡ length before + suc k = omega (arith, before-count) in
       let f : suc y + k ≡ n = omega arith in
-      ap (λ (n : ℕ). drop n rows) e ∙ drop-append-add before (begun own ∷ after) (suc k) ∙ drop-map rowOf k (drop (suc y) l) ∙ ap (map rowOf) (drop-drop k (suc y) l ∙ ap (λ (n : ℕ). drop n l) f)
+      ap (λ (n : ℕ). drop n rows) e ∙ drop-append-add before (begun own ∷ after) (suc k) ∙ drop-map rowOf k (drop (suc y) l) ∙
+      ap (map rowOf) (drop-drop k (suc y) l ∙ ap (λ (n : ℕ). drop n l) f)
 
   abbrev sizes : List ℕ
   sizes = padded (map (λ (r : Row). r .size) rows)
@@ -129,32 +78,23 @@ module _ (t : List ℕ) (l : List Node) (y : ℕ) (h : y < length l) (c : Chosen
   abbrev lengths : List ℕ
   lengths = padded (map (λ (r : Row). r .length) rows)
 
-  part-is : {s : Sort} (x : Tree s) (n at : ℕ) (m : List Node) → y < n → drop n l ≡ nodesOf x at ++ m → PartIs x at (partAt sizes lengths n)
-  part-is x n at m g e =
-      let f = nodes-first x at in
-      let d : drop n rows ≡ rowOf (node x at) ∷ map rowOf (f .0 ++ m) = rows-later n g ∙ ap (map rowOf) (e ∙ ap (λ (q : List Node). q ++ m) (f .1)) in
-      record { nodes = field-at (λ (r : Row). r .size) rows _ n (rowOf (node x at)) d; bytes = field-at (λ (r : Row). r .length) rows _ n (rowOf (node x at)) d }
+  part-is : (u : Node) (n : ℕ) → y < n → Begins (drop n l) u → PartIs u (partAt sizes lengths n)
+  part-is u n g b =
+      let d : drop n rows ≡ rowOf u ∷ _ = rows-later n g ∙ ap (map rowOf) (begins-first b) in
+      record { nodes = field-at (λ (r : Row). r .size) rows _ n (rowOf u) d; bytes = field-at (λ (r : Row). r .length) rows _ n (rowOf u) d }
 
-  parts-are : {s : Sort} (x : Tree s) (at : ℕ) (m : List Node) → drop y l ≡ nodesOf x at ++ m
-      → PartsAre x at (partAt sizes lengths (y + 1)) (partAt sizes lengths (y + 1 + getD sizes (y + 1) 0))
-  unfolding nodesOf
-  parts-are {s} (constant v) at m e = tt
-  parts-are (letter c) at m e = tt
-  parts-are (negation x) at m e = part-is x (y + 1) (suc at) m (omega arith) (drop-front l y (_ ∷ []) _ e)
-  parts-are (pair k x z) at m e =
-      let X = nodesOf x (suc at) in
-      let Z = nodesOf z (suc (suc at + length (textOf x))) in
-      let d : drop (y + 1) l ≡ X ++ (Z ++ m) = drop-front l y (_ ∷ []) _ e ∙ append-assoc X Z m in
-      let p = part-is x (y + 1) (suc at) (Z ++ m) (omega arith) d in
-      (p, part-is z _ _ m (omega arith) (ap (λ (n : ℕ). drop (y + 1 + n) l) (p .nodes) ∙ drop-front l (y + 1) X (Z ++ m) d))
-  parts-are (duration x n) at m e = part-is x (y + 1) (suc at) m (omega arith) (drop-front l y (_ ∷ []) _ e)
-  parts-are (throughout x) at m e = part-is x (y + 1) (suc at) m (omega arith) (drop-front l y (_ ∷ []) _ e)
+  parts-are : PartsAre (own .part) (own .first) (partAt sizes lengths (y + 1)) (partAt sizes lengths (y + 1 + getD sizes (y + 1) 0))
+  parts-are = parts-map (λ u. part-is u (y + 1) (omega arith)) second (own .part) (own .first) (parts-begin l y (own .part) (own .first) (c .begins))
+    where
+      second : (u w : Node) → Begins (drop (y + 1) l) u → Begins (drop (y + 1 + length (nodesOf (u .part) (u .first))) l) w → PartIs w (partAt sizes lengths (y + 1 + getD sizes (y + 1) 0))
+      second u w b d = part-is w (y + 1 + getD sizes (y + 1) 0) (omega arith) (subst (λ (n : ℕ). Begins (drop (y + 1 + n) l) w) (sym (part-is u (y + 1) (omega arith) b .nodes)) d)
 
   pub row-is : rowAt t (padded (map (λ (r : Row). r .head .kind) rows)) sizes (padded (map (λ (r : Row). r .first) rows)) lengths y ≡ rowOf own
   unfolding rowAt
   row-is =
-      ap₂ (λ (code at : ℕ). rowFrom t (getD t at 0) code at (partAt sizes lengths (y + 1)) (partAt sizes lengths (y + 1 + getD sizes (y + 1) 0))) (own-field (λ (r : Row). r .head .kind)) (own-field (λ (r : Row). r .first))
-      ∙ row-found t (own .part) (own .first) _ _ (c .own .stands) (c .own .numbers) (parts-are (own .part) (own .first) (c .own .later) (c .back ∙ c .own .is))
+      ap₂ (λ (code at : ℕ). rowFrom t (getD t at 0) code at (partAt sizes lengths (y + 1)) (partAt sizes lengths (y + 1 + getD sizes (y + 1) 0)))
+      (own-field (λ (r : Row). r .head .kind)) (own-field (λ (r : Row). r .first))
+      ∙ row-found t (own .part) (own .first) _ _ (c .holds .0) (c .holds .1) parts-are
 
 -- the rows from x on are found
 pub record Found (t : List ℕ) (table : NodeTable) (x : ℕ) : Type 0 where
@@ -168,7 +108,10 @@ found-none t table e =
     let n : table .count ≡ length l = ap (λ (n : NodeTable). n .count) e ∙ length-map l begun in
     record {
       within = omega arith;
-      is = e ∙ ap tableOf (sym (append-nil (map begun l)) ∙ ap₂ (λ (a b : List Node). map begun a ++ map rowOf b) (sym (take-all (table .count) l (omega arith))) (sym (drop-of-length-le l {i = table .count} (omega arith))));
+      is =
+          e ∙ ap tableOf (sym (append-nil (map begun l)) ∙
+          ap₂ (λ (a b : List Node). map begun a ++ map rowOf b) (sym (take-all (table .count) l (omega arith)))
+          (sym (drop-of-length-le l {i = table .count} (omega arith))));
     }
 
 pub found-all : (t : List ℕ) (table : NodeTable) (x : ℕ) → Found t table x → x ≤ 0 → table ≡ tableOf (map rowOf (nodesIn t))
@@ -212,7 +155,7 @@ module _ (C k : ℕ) (t : List ℕ) (a : acceptOf C k t ≡ Yes) (table : NodeTa
   pub found-room : y < maxNodes
   found-room = omega (arith, within, nodes-most C k t a)
 
-  choice : Chosen t (nodesIn t) y
+  choice : Chosen (Known t) (nodesIn t) y
   choice = node-chosen t C k y a within
 
   table-is : table ≡ tableOf (map begun (take y (nodesIn t)) ++ begun (choice .chosen) ∷ map rowOf (drop (suc y) (nodesIn t)))
@@ -227,7 +170,8 @@ module _ (C k : ℕ) (t : List ℕ) (a : acceptOf C k t ≡ Yes) (table : NodeTa
   pub found-code : getD (table .kinds) y 0 ≤ 16
   unfolding tableOf
   found-code =
-      let e : getD (table .kinds) y 0 ≡ sortCode (choice .chosen .sort) = ap (λ (n : NodeTable). getD (n .kinds) y 0) table-is ∙ own-field t (nodesIn t) y within choice (λ (r : Row). r .head .kind) in
+      let e : getD (table .kinds) y 0 ≡ sortCode (choice .chosen .sort) = ap (λ (n : NodeTable). getD (n .kinds) y 0) table-is ∙
+      own-field t (nodesIn t) y within choice (λ (r : Row). r .head .kind) in
       omega (arith, sort-most (choice .chosen .sort))
 
   module _ (r : Row) (e : r ≡ rowAt t (table .kinds) (table .sizes) (table .firsts) (table .lengths) y) where
@@ -238,12 +182,12 @@ module _ (C k : ℕ) (t : List ℕ) (a : acceptOf C k t ≡ Yes) (table : NodeTa
     pub found-fits : (r .size ≤ 255) × (r .length ≤ 255)
     found-fits =
         let c = choice .chosen in
-        let o = choice .own in
+        let b = choice .begins in
         let n = nodesOf (c .part) (c .first) in
         let s : r .size ≡ length n = ap (λ (r : Row). r .size) found-is in
         let m : r .length ≡ length (textOf (c .part)) = ap (λ (r : Row). r .length) found-is in (
-          omega (arith, nodes-most C k t a, ap length (choice .back ∙ o .is), length-append n (o .later), length-drop y (nodesIn t)),
-          omega (arith, bytes-most C k t a, end-within t (c .part) (c .first) (o .stands)),
+          omega (arith, nodes-most C k t a, ap length (b .is), length-append n (b .later), length-drop y (nodesIn t)),
+          omega (arith, bytes-most C k t a, end-within t (c .part) (c .first) (choice .holds .0)),
         )
 
     pub found-more : Found t (withRow table y r) y
@@ -252,5 +196,7 @@ module _ (C k : ℕ) (t : List ℕ) (a : acceptOf C k t ≡ Yes) (table : NodeTa
         let n = before-count t l y within choice in
         record {
           within = omega (arith, within);
-          is = ap₂ (λ (n : NodeTable) (r : Row). withRow n y r) table-is found-is ∙ stored (map begun (take y l)) (map rowOf (drop (suc y) l)) (choice .chosen) y n ∙ ap tableOf (rows-next t l y within choice);
+          is =
+              ap₂ (λ (n : NodeTable) (r : Row). withRow n y r) table-is found-is ∙
+              stored (map begun (take y l)) (map rowOf (drop (suc y) l)) (choice .chosen) y n ∙ ap tableOf (rows-next t l y within choice);
         }

@@ -15,11 +15,12 @@ use Rattle.grammar.specs.declared.Sort.{Sort}
 use Rattle.grammar.specs.declared.Sort.the-variants.{Formula}
 use Rattle.grammar.specs.declared.Lead.{Lead}
 use Rattle.grammar.specs.declared.Lead.the-variants.{Other}
-use Rattle.grammar.proofs.Bytes.{at-each}
+use Rattle.lists.proofs.Tests.{at-each}
 use Rattle.grammar.proofs.Decimal.{decimal-digit, decimal-more}
 use Rattle.grammar.proofs.Written.{length-write}
 use Rattle.scan.specs.Scans.{numberFrom}
-use Rattle.formula.specs.Nodes.{node, nodesOf}
+use Rattle.grammar.specs.Nodes.{node, nodesOf, Node}
+use Rattle.grammar.proofs.EachNode.{OnParts}
 use Rattle.formula.proofs.Standing.{Stands, first-is, link-is, digit-place, number-is}
 use Rattle.formula.proofs.InOrder.{firstByte}
 use Rattle.rows.specs.Table.{sortCode, linkCode, heading, rowOf}
@@ -48,27 +49,24 @@ digits-are n h = go (decLt n 10)
         let e : n ≡ n / 10 * 10 + n % 10 = omega arith in
         rw (le-ltb n 10 (omega arith)) (ap (λ (m : ℕ). length (decimal m)) e ∙ two (n / 10) (n % 10) (omega arith) (omega arith) (omega arith))
 
--- a part's size and length are the tree's
-pub record PartIs {s : Sort} (x : Tree s) (at : ℕ) (p : Part) : Type 0 where
-  pub nodes : p .size ≡ length (nodesOf x at)
-  pub bytes : p .length ≡ length (textOf x)
+-- a part's size and length are the node's
+pub record PartIs (w : Node) (p : Part) : Type 0 where
+  pub nodes : p .size ≡ length (nodesOf (w .part) (w .first))
+  pub bytes : p .length ≡ length (textOf (w .part))
 
 abbrev pub PartsAre : {s : Sort} → Tree s → ℕ → Part → Part → Type 0
-PartsAre (constant v) at p q = Unit
-PartsAre (letter c) at p q = Unit
-PartsAre (negation x) at p q = PartIs x (suc at) p
-PartsAre (pair l x y) at p q = PartIs x (suc at) p × PartIs y (suc (suc at + length (textOf x))) q
-PartsAre (duration x n) at p q = PartIs x (suc at) p
-PartsAre (throughout x) at p q = PartIs x (suc at) p
+PartsAre x at p q = OnParts (λ u. PartIs u p) (λ u w. PartIs w q) x at
 
-pub same-row : (h h′ : Head) (at n n′ m m′ : ℕ) → h ≡ h′ → n ≡ n′ → m ≡ m′ → _≡_ {A = Row} (record { head = h; size = n; first = at; length = m }) (record { head = h′; size = n′; first = at; length = m′ })
+pub same-row : (h h′ : Head) (at n n′ m m′ : ℕ) → h ≡ h′ → n ≡ n′ → m ≡ m′ →
+    _≡_ {A = Row} (record { head = h; size = n; first = at; length = m }) (record { head = h′; size = n′; first = at; length = m′ })
 same-row h h′ at n n′ m m′ e f g = rw (e, f, g)
 
 pub from-lead : (t : List ℕ) (b code at : ℕ) (p q : Part) (l : Lead) → leadOf Formula b ≡ l → rowBy t b code at p q l ≡ rowFrom t b code at p q
 unfolding rowFrom
 from-lead t b code at p q l e = ap (rowBy t b code at p q) (sym e)
 
-pub from-parts : (t K S F L : List ℕ) (x at b code : ℕ) (p q : Part) → at ≡ getD F x 0 → p ≡ partAt S L (x + 1) → q ≡ partAt S L (x + 1 + p .size) → b ≡ getD t at 0 → code ≡ getD K x 0
+pub from-parts : (t K S F L : List ℕ) (x at b code : ℕ) (p q : Part) → at ≡ getD F x 0 → p ≡ partAt S L (x + 1) →
+    q ≡ partAt S L (x + 1 + p .size) → b ≡ getD t at 0 → code ≡ getD K x 0
     → rowFrom t b code at p q ≡ rowAt t K S F L x
 unfolding rowAt
 from-parts t K S F L x at b code p q e f g h i = rw (h, i, g, e, f)
@@ -95,5 +93,7 @@ module _ (t : List ℕ) where
           let e : at + (1 + p .length) + 2 ≡ at + 1 + length (textOf x) + 2 = omega arith in
           let b : numberFrom 0 (drop (at + (1 + p .length) + 2) t) ≡ m =
           ap (λ (i : ℕ). numberFrom 0 (drop i t)) (e ∙ sym (digit-place t x m at w)) ∙ number-is t x m at w ∙ rw (le-leb m maxNumber n) in
-          ap (λ (m : ℕ). durationRow m at p) b ∙ same-row _ _ at _ _ _ _ refl (omega arith) (omega (arith, digits-are m n, length-write x (62 ∷ 61 ∷ decimal m ++ []), length-append (decimal m) []))
+          ap (λ (m : ℕ). durationRow m at p) b ∙
+          same-row _ _ at _ _ _ _ refl (omega arith)
+          (omega (arith, digits-are m n, length-write x (62 ∷ 61 ∷ decimal m ++ []), length-append (decimal m) []))
       own (throughout x) at p q w n u = same-row _ _ at _ _ _ _ refl (omega arith) (omega (arith, length-write x (93 ∷ [])))

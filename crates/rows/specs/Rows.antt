@@ -10,7 +10,7 @@ use Rattle.grammar.specs.declared.Sort.the-variants.{Formula}
 use Rattle.grammar.specs.declared.Lead.{Lead}
 use Rattle.grammar.specs.declared.Lead.the-variants.{Leaf, Not, Open, Measure, Enter, Other}
 use Rattle.scan.specs.Scans.{numberFrom}
-use Rattle.formula.specs.Nodes.{Node}
+use Rattle.grammar.specs.Nodes.{Node}
 use Rattle.rows.specs.Table.{sortCode, constantCode, negationCode, letterCode, durationCode, throughoutCode, heading}
 use Rattle.rows.specs.declared.Part.{Part}
 use Rattle.rows.specs.declared.Row.{Row}

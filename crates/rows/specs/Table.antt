@@ -7,7 +7,7 @@ use Rattle.grammar.specs.Limits.{maxNodes}
 use Rattle.grammar.specs.Trees.{Link, and, or, chop, Tree, constant, letter, negation, pair, duration, throughout, textOf}
 use Rattle.grammar.specs.declared.Sort.{Sort}
 use Rattle.grammar.specs.declared.Sort.the-variants.{State, Formula}
-use Rattle.formula.specs.Nodes.{Node, nodesOf}
+use Rattle.grammar.specs.Nodes.{Node, nodesOf}
 use Rattle.rows.specs.declared.Head.{Head}
 use Rattle.rows.specs.declared.Row.{Row}
 use Rattle.rows.specs.declared.NodeTable.{NodeTable}

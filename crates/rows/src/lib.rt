@@ -10,8 +10,8 @@ ghost use lib.ListN.{length, getD};
 ghost use Rattle.moments.specs.Moments.{old};
 ghost use Rattle.refusal.specs.declared.Reply.the-variants.{Yes};
 ghost use Rattle.grammar.specs.Limits.{maxNodes};
-ghost use Rattle.formula.specs.Nodes.{nodesIn};
-ghost use Rattle.formula.specs.Questions.{acceptOf};
+ghost use Rattle.grammar.specs.Nodes.{nodesIn};
+ghost use Rattle.grammar.specs.Questions.{acceptOf};
 ghost use Rattle.rows.specs.Table.{constantCode, heading, rowOf, tableOf};
 ghost use Rattle.rows.specs.Rows.{codeAfter, begun, linkOf, digitsOf, partAt, rowFrom, rowAt};
 
@@ -120,7 +120,7 @@ fn begun_rows(text: &[u8]) -> NodeTable
         let b = text[i];
         let own = code;
         code = code_after(own, b);
-        if !grammar::is_start(b) {
+        if !formula_bytes::is_start(b) {
             i += 1;
             continue;
         }
@@ -196,7 +196,7 @@ fn row_from(text: &[u8], b: u8, code: u8, at: usize, p: Part, q: Part) -> Row
     let size = 1 + p.size;
     let length = 1 + p.length;
     let end = at + length;
-    let l = grammar::lead_of(Sort::Formula, b);
+    let l = formula_bytes::lead_of(Sort::Formula, b);
     match l {
         Lead::Leaf => row_of(code + constant_code(b), 0, 1, at, 1),
         Lead::Not => row_of(code + NOT, 0, size, at, length),

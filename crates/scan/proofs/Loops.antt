@@ -107,7 +107,8 @@ module _ (most : ℕ) where
       go false e = let k = leb-false v most e in omega (arith, limited-out v v refl k)
 
   module _ (t : List ℕ) (i v : ℕ) where
-    pub number-more : i < length t → isDigit (getD t i 0) ≡ true → cappedAt most (valueFrom (cappedAt most (v * 10 + (getD t i 0 - 48))) (drop (i + 1) t)) ≡ cappedAt most (valueFrom v (drop i t))
+    pub number-more : i < length t → isDigit (getD t i 0) ≡ true →
+        cappedAt most (valueFrom (cappedAt most (v * 10 + (getD t i 0 - 48))) (drop (i + 1) t)) ≡ cappedAt most (valueFrom v (drop i t))
     number-more k e = on-the-way (v * 10 + (getD t i 0 - 48)) (drop (i + 1) t) ∙ sym (ap (λ q. cappedAt most (valueFrom v q)) (at-byte t i k) ∙ rw e)
 
     pub number-none : i < length t → isDigit (getD t i 0) ≡ false → v ≤ suc most → v ≡ cappedAt most (valueFrom v (drop i t))

@@ -41,7 +41,7 @@ pub fn wide(b: u8) -> usize
 fn is_outside(c: u32, b: u8) -> bool
     ensures { λ r. ⌜ r ≡ isOutside c b ⌝ }
 {
-    if !grammar::is_letter(b) {
+    if !formula_bytes::is_letter(b) {
         return false;
     }
     c as usize <= wide(b - b'a')
@@ -65,7 +65,7 @@ pub fn capped_number(text: &[u8], at: usize, most: u64) -> u64
     let mut i = at;
     while i < text.len() {
         let b = text[i];
-        if !grammar::is_digit(b) {
+        if !formula_bytes::is_digit(b) {
             return v;
         }
         v = with_digit(v, b, most);
@@ -123,7 +123,7 @@ fn find_at(text: &[u8], a: Ask, i: usize) -> Find
     match a {
         Ask::Letters(c) => find_if(is_outside(c, text[i]), i),
         Ask::Numbers => number_find(text, i),
-        Ask::Nodes => find_if(grammar::is_start(text[i]), i),
+        Ask::Nodes => find_if(formula_bytes::is_start(text[i]), i),
     }
 }
 

@@ -1,65 +1,96 @@
 -- A call ends as its questions say, in their order: those of the formula, then 18;
 -- then as the tree of the formula that the text reads as.
-use mathlib.Core.Path.{_≡_, sym, ap, _∙_}
-use mathlib.Core.List.{List, [], _∷_, map}
-use Prim.Native.Nat.{ℕ}
+use mathlib.Core.Path.{_≡_, sym, ap, ap₂, _∙_}
+use mathlib.Core.List.{List, [], _∷_}
+use Prim.Native.Nat.{ℕ, _≤_}
 use lib.ListN.{length}
+use lib.Dec.{leb}
+use borrow.Author.Tests.{leb-true}
 use Rattle.refusal.specs.declared.Refusal.{Refusal}
 use Rattle.refusal.specs.declared.Reply.{Reply}
 use Rattle.refusal.specs.declared.Reply.the-variants.{Yes, No}
 use Rattle.refusal.specs.Asked.{asked}
-use Rattle.refusal.proofs.Laws.{asked-append, replied-yes, earlier-no}
 use Rattle.grammar.specs.Trees.{Tree}
-use Rattle.grammar.specs.Reader.{Read, parsed, stopped, read}
+use Rattle.grammar.specs.Reader.{Read, parsed, stopped, read, onTree}
 use Rattle.grammar.specs.declared.Sort.the-variants.{Formula}
-use Rattle.formula.specs.Nodes.{Node, nodesIn}
-use Rattle.formula.specs.Questions.{formulaQuestions, acceptOf}
-use Rattle.formula.proofs.Laws.{accepted, nodes-read}
-use Rattle.rows.specs.Table.{rowOf, tableOf}
+use Rattle.grammar.specs.Nodes.{nodesIn, nodesRead}
+use Rattle.lists.proofs.Tests.{both}
+use Rattle.refusal.proofs.Laws.{test-yes}
+use Rattle.rows.specs.declared.NodeTable.{NodeTable}
 use Rattle.nodes.specs.Calls.{tabledOf}
+use Rattle.nodes.specs.Rows.{nodeTableOf}
 use Rattle.nodes.specs.declared.Tabled.{Tabled}
-use Rattle.nodes.proofs.Laws.{accepts, table-is}
+use Rattle.nodes.proofs.Called as first
 use Rattle.circuit.specs.Circuit.{variablesOf}
 use Rattle.clauses.specs.Clauses.{clauseTable}
-use Rattle.clauses.specs.Entries.{flat}
-use Rattle.clause_table.specs.Table.{onTree, placesIn}
+use Rattle.clauses.specs.Entries.{flat, placesIn}
+use Rattle.table_layout.specs.Rows.{Measured}
+use Rattle.table_layout.specs.declared.Sizes.{Sizes}
+use Rattle.table_layout.proofs.Known.{variables-known, literals-known}
 use Rattle.closure.specs.Runs.{dead}
-use Rattle.closure.specs.Tree.{Trial, trial}
-use Rattle.search.specs.Search.{treeOf, treeIn, Searched, unwritten, limited, askLent, searched}
+use Rattle.closure.specs.Tree.{trial}
+use Rattle.search_answer.specs.Search.{treeOf, treeIn, Searched, unwritten, limited, askLent, searched}
+use Rattle.search_answer.specs.declared.Answer.the-variants.{Refused}
+use Rattle.search_answer.specs.declared.Lent.{Lent}
 use Rattle.search.specs.Rows.{searchedBy}
-use Rattle.search.specs.declared.Answer.the-variants.{Refused}
-use Rattle.search.specs.declared.Lent.{Lent}
-use Rattle.clause_table.specs.Rows.{nodeTableOf}
 
-module _ (C k : ℕ) (t : List ℕ) (B : ℕ) (n : Lent) (recording : List ℕ) where
+-- ---- question 18, answered with yes
+
+pub record Enough (l v k : ℕ) (n : Lent) : Type 0 where
+  pub variables : l ≤ n .variables
+  pub marks : l ≤ n .marks
+  pub values : v ≤ n .values
+  pub trail : v ≤ n .trail
+  pub recording : k ≤ n .recording
+
+pub lent-enough : (l v k : ℕ) (n : Lent) → askLent l v k n ≡ Yes → Enough l v k n
+unfolding askLent
+lent-enough l v k n e =
+    let a = both _ (leb k (n .recording)) (test-yes 18 0 _ e) in
+    let b = both _ (leb v (n .trail)) (a .0) in
+    let c = both _ (leb v (n .values)) (b .0) in
+    let d = both (leb l (n .variables)) (leb l (n .marks)) (c .0) in
+    record {
+      variables = leb-true l (n .variables) (d .0);
+      marks = leb-true l (n .marks) (d .1);
+      values = leb-true v (n .values) (c .1);
+      trail = leb-true v (n .trail) (b .1);
+      recording = leb-true k (n .recording) (a .1);
+    }
+
+-- ---- the formula's node table
+
+module _ (C k : ℕ) (f : Tree Formula) {T : NodeTable} (e : T ≡ nodeTableOf f) {G : List ℕ} {s : Sizes}
+    (w : Measured C k (T .kinds) (T .numbers) (T .count) G s) (B : ℕ) (n : Lent) (recording : List ℕ) where
+  abbrev ending : Reply → Searched
+  ending a = asked (a ∷ []) (λ r. unwritten recording (Refused r)) (limited C k B recording (treeOf C k f))
+
+  lent-known : ending (askLent (s .literals) (s .variables) k n) ≡ searchedBy C k f B n recording
+  unfolding searchedBy
+  lent-known = ap₂ (λ (l v : ℕ). ending (askLent l v k n)) (literals-known C k f e w) (variables-known C k f e w)
+
+  pub lent-refused : {r : Refusal} → askLent (s .literals) (s .variables) k n ≡ No r → unwritten recording (Refused r) ≡ searchedBy C k f B n recording
+  lent-refused q = sym (ap ending q) ∙ lent-known
+
+  pub lent-searched : askLent (s .literals) (s .variables) k n ≡ Yes → limited C k B recording (treeOf C k f) ≡ searchedBy C k f B n recording
+  lent-searched q = sym (ap ending q) ∙ lent-known
+
+-- ---- the whole call
+
+module _ (C k : ℕ) (t : List ℕ) (B : ℕ) (n : Lent) (recording : List ℕ) (T : Tabled) (e : T ≡ tabledOf C k t) where
   abbrev refused : Refusal → Searched
   refused r = unwritten recording (Refused r)
 
-  abbrev answer : Searched
-  answer = limited C k B recording (treeIn C k t)
+  abbrev answer : Read Formula → Searched
+  answer r = limited C k B recording (elim r [ parsed f ↦ treeOf C k f | stopped p ↦ trial dead 0 ])
 
-  abbrev lent : Reply
-  lent = askLent (length (placesIn C k t)) (variablesOf C k (nodesIn t)) k n
+  abbrev later : Read Formula → List Reply
+  later f = askLent (length (onTree (λ f. flat (clauseTable C k f)) f)) (variablesOf C k (nodesRead f)) k n ∷ []
 
-  -- of the tree that the text reads as
-  abbrev onRead : Read Formula → Trial
-  onRead r = elim r [ parsed f ↦ treeOf C k f | stopped p ↦ trial dead 0 ]
+  pub first-refused : {r : Refusal} → T .reply ≡ No r → refused r ≡ searched C k t B n recording
+  unfolding searched treeIn placesIn nodesIn
+  first-refused w = first.refused-first C k t T e refused (answer (read t)) (later (read t)) w
 
-  pub first-refused : {r : Refusal} → acceptOf C k t ≡ No r → refused r ≡ searched C k t B n recording
-  unfolding searched acceptOf
-  first-refused e = earlier-no refused answer (formulaQuestions C k t) lent e
-
-  -- once the formula is accepted, the call is what it does with the node table of the tree that the text reads as
-  of-tree : acceptOf C k t ≡ Yes → (f : Tree Formula) → read t ≡ parsed f → searchedBy C k f B n recording ≡ searched C k t B n recording
-  unfolding searched searchedBy acceptOf treeIn placesIn
-  of-tree e f q =
-      ap (λ (l : List Node). asked (askLent (length (flat (clauseTable C k f))) (variablesOf C k l) k n ∷ []) refused (limited C k B recording (treeOf C k f))) (sym (nodes-read t f q))
-      ∙ ap (λ (r : Read Formula). asked (askLent (length (onTree (λ f. flat (clauseTable C k f)) r)) (variablesOf C k (nodesIn t)) k n ∷ []) refused (limited C k B recording (onRead r))) (sym q)
-      ∙ sym (asked-append refused answer (formulaQuestions C k t) (lent ∷ []) ∙ replied-yes refused _ (formulaQuestions C k t) e)
-
-  pub called : (T : Tabled) → T ≡ tabledOf C k t → T .reply ≡ Yes → {x : Searched}
-      → ((f : Tree Formula) → T .table ≡ nodeTableOf f → x ≡ searchedBy C k f B n recording) → x ≡ searched C k t B n recording
-  called T e y g =
-      let w = accepts C k t T e y in
-      let a = accepted C k t w in
-      g (a .root) (table-is C k t T e y ∙ ap (λ (l : List Node). tableOf (map rowOf l)) (nodes-read t (a .root) (a .reads))) ∙ of-tree w (a .root) (a .reads)
+  pub called : T .reply ≡ Yes → {x : Searched} → ((f : Tree Formula) → T .table ≡ nodeTableOf f → x ≡ searchedBy C k f B n recording) → x ≡ searched C k t B n recording
+  unfolding searched searchedBy treeIn placesIn nodesIn
+  called y g = first.called C k t T e y refused answer later (λ f w. g f (w .is))

@@ -5,13 +5,13 @@ use lib.ListN.{length}
 use Rattle.refusal.specs.Asked.{asked}
 use Rattle.grammar.specs.Trees.{Tree}
 use Rattle.grammar.specs.declared.Sort.the-variants.{Formula}
-use Rattle.formula.specs.Nodes.{nodesOf}
+use Rattle.grammar.specs.Nodes.{nodesOf}
 use Rattle.circuit.specs.Circuit.{variablesOf}
 use Rattle.clauses.specs.Clauses.{clauseTable}
 use Rattle.clauses.specs.Entries.{flat}
-use Rattle.search.specs.Search.{treeOf, Searched, unwritten, limited, askLent}
-use Rattle.search.specs.declared.Answer.the-variants.{Refused}
-use Rattle.search.specs.declared.Lent.{Lent}
+use Rattle.search_answer.specs.Search.{treeOf, Searched, unwritten, limited, askLent}
+use Rattle.search_answer.specs.declared.Answer.the-variants.{Refused}
+use Rattle.search_answer.specs.declared.Lent.{Lent}
 
 -- the lengths of the lent arrays, those of the first two as numbers
 abbrev pub lentBy : ℕ → ℕ → List ℕ → List ℕ → List ℕ → Lent

@@ -3,24 +3,25 @@
 use mathlib.Core.Path.{refl}
 use mathlib.Core.List.{flatMap}
 use Rattle.interval.specs.Limits.{askSteps, askInterval}
-use Rattle.interval.specs.Listing.{rows, placeIn, sum, All}
+use Rattle.lists.specs.Listing.{rows, placeIn, sum, All}
 use Rattle.interval.specs.Places.{countOf, intervalsOf, placeOf, triplesOf, triplePlaceOf, tripleCountOf}
 use Rattle.grammar.specs.Ascii.{ascii}
 use Rattle.grammar.specs.Reader.{follow, endAfter, run, read}
-use Rattle.formula.specs.Nodes.{nodesOf, nodesIn}
-use Rattle.formula.specs.Questions.{askChannels, askLength, askGrammar, askLetters, askNumbers, askNodes}
+use Rattle.grammar.specs.Nodes.{nodesOf, nodesIn}
+use Rattle.grammar.specs.Questions.{askChannels, askLength, askGrammar, askLetters, askNumbers, askNodes}
 use Rattle.meaning.specs.Meaning.{bitAt, channelAt, highs, every, any, lasts, fills, chops, truth}
 use Rattle.circuit.specs.Circuit.{widthOf, blocksOf, variablesOf, truthOf, ownBy, ownOf, definedFrom, definitionsOf, rootOf}
 use Rattle.clauses.specs.Clauses.{clausesOf, clausesBy, clauseTable}
-use Rattle.clauses.specs.Entries.{entriesOf, flat}
-use Rattle.clause_table.specs.Table.{sizesOf, sizesIn, placesIn, askRoom, tabled}
+use Rattle.clauses.specs.Entries.{entriesOf, flat, placesIn}
+use Rattle.clause_table.specs.Table.{sizesOf, sizesIn, askRoom, tabled}
 use Rattle.file_numbers.specs.File.{bytesOf, fileOf}
-use Rattle.evaluator.specs.Evaluation.{askRecording, notBelow, askBelow, evaluated}
+use Rattle.meaning.specs.Recording.{askRecording, notBelow, askBelow}
+use Rattle.evaluator.specs.Evaluation.{evaluated}
 use Rattle.assignments.specs.Extension.{recordingBy}
 use Rattle.closure.specs.Closure.{add, allOpposed, membersOf, membersIn}
 use Rattle.closure.specs.Runs.{clashes, isOpen}
 use Rattle.closure.specs.Tree.{firstForced, forced, closure, lowestOpen, treeBelow, tree}
-use Rattle.search.specs.Search.{treeOf, treeIn, limited, askLent, searched}
+use Rattle.search_answer.specs.Search.{treeOf, treeIn, limited, askLent, searched}
 use Rattle.file_line.specs.Line.{digits, number, readLine}
 use Rattle.file_line.specs.Output.{outputFor, outputOf}
 use Rattle.starred.specs.Edges.{edges, Holds}

@@ -6,18 +6,19 @@ use Prim.Native.Nat.{ℕ, _-_, _^_}
 use Prim.Native.String.{String}
 use lib.ListN.{length, replicate}
 use Rattle.grammar.specs.Ascii.{ascii}
-use Rattle.formula.specs.Nodes.{nodesIn}
+use Rattle.grammar.specs.Nodes.{nodesIn}
 use Rattle.circuit.specs.Circuit.{variablesOf}
-use Rattle.clause_table.specs.Table.{placesIn, After, tabled}
-use Rattle.clause_table.specs.declared.Written.the-variants.{Done}
+use Rattle.clauses.specs.Entries.{placesIn}
+use Rattle.clause_table.specs.Table.{After, tabled}
+use Rattle.refusal.specs.declared.Written.the-variants.{Done}
 use Rattle.file_numbers.specs.File.{fileOf}
 use Rattle.evaluator.specs.Evaluation.{evaluated}
 use Rattle.evaluator.specs.declared.Verdict.{Verdict}
 use Rattle.evaluator.specs.declared.Verdict.the-variants.{No, Yes}
-use Rattle.search.specs.Search.{searched}
-use Rattle.search.specs.declared.Answer.{Answer}
-use Rattle.search.specs.declared.Answer.the-variants.{Found, None, Spent}
-use Rattle.search.specs.declared.Lent.{Lent}
+use Rattle.search_answer.specs.Search.{searched}
+use Rattle.search_answer.specs.declared.Answer.{Answer}
+use Rattle.search_answer.specs.declared.Answer.the-variants.{Found, None, Spent}
+use Rattle.search_answer.specs.declared.Lent.{Lent}
 use Rattle.file_line.specs.Output.{outputOf}
 
 -- a whole file: text, C and k, the line that the file program is given, what it writes as numbers, and how many bytes that is

@@ -5,15 +5,15 @@ use mathlib.Core.Bool.{true}
 use mathlib.Core.List.{List, _++_, flatMap}
 use Prim.Native.Nat.{ℕ, zero, suc, _+_, _<_}
 use lib.ListN.{length, getD}
-use Rattle.interval.specs.Listing.{rows}
+use Rattle.lists.specs.Listing.{rows}
 use Rattle.grammar.specs.Trees.{Tree}
 use Rattle.grammar.specs.declared.Sort.the-variants.{Formula}
-use Rattle.formula.specs.Nodes.{nodesOf}
+use Rattle.grammar.specs.Nodes.{nodesOf}
 use Rattle.circuit.specs.Circuit.{Definition}
 use Rattle.circuit.specs.declared.Gate.the-variants.{Constant}
 use Rattle.clauses.specs.Clauses.{Clause, clausesOf, clausesBy, clauseTable}
 use Rattle.node_clauses.proofs.Nodes.{clauses-join}
-use Rattle.clause_table.proofs.Places.{kinds, numbers, sizes, start, rows-defined, root-at}
+use Rattle.table_layout.proofs.Places.{kinds, numbers, sizes, start, rows-defined, root-at}
 use Rattle.sweeps.specs.Sweeps.{tableBy}
 
 clauses-rows : (f : ℕ → List Definition) (n : ℕ) → rows n (λ x. clausesBy (f x)) ≡ clausesBy (rows n f)
@@ -24,4 +24,6 @@ clauses-rows f (suc n) = ap (λ (T : List Clause). T ++ clausesBy (f n)) (clause
 module _ (C k : ℕ) (f : Tree Formula) (firsts : List ℕ) (h : (y : ℕ) → y < length (nodesOf f 0) → getD firsts y 0 ≡ start (nodesOf f 0) C k y) where
   pub table-is : tableBy C k (kinds (nodesOf f 0)) (numbers (nodesOf f 0)) (sizes (nodesOf f 0)) firsts (length (nodesOf f 0)) ≡ clauseTable C k f
   unfolding tableBy clauseTable clausesOf
-  table-is = ap₂ (λ (T P : List Clause). T ++ P) (clauses-rows _ (length (nodesOf f 0)) ∙ ap clausesBy (rows-defined C k f firsts h)) (ap (λ (v : ℕ). clausesOf v (Constant true)) (root-at C k f firsts h))
+  table-is =
+      ap₂ (λ (T P : List Clause). T ++ P) (clauses-rows _ (length (nodesOf f 0)) ∙ ap clausesBy (rows-defined C k f firsts h))
+      (ap (λ (v : ℕ). clausesOf v (Constant true)) (root-at C k f firsts h))

@@ -4,11 +4,11 @@ use mathlib.Core.Path.{_≡_, ap}
 use mathlib.Core.Bool.{true, false}
 use mathlib.Core.List.{List}
 use Prim.Native.Nat.{ℕ, _+_}
-use Rattle.interval.specs.Listing.{rows}
+use Rattle.lists.specs.Listing.{rows}
 use Rattle.circuit.specs.declared.Gate.the-variants.{Constant}
 use Rattle.clauses.specs.Clauses.{clausesOf}
 use Rattle.closing.specs.declared.Closed.{Closed as Ended}
-use Rattle.clause_table.specs.Rows.{seatBy}
+use Rattle.table_layout.specs.Rows.{seatBy}
 use Rattle.visits.specs.Visits.{Visited}
 use Rattle.visits.proofs.Parts.{visited-named, visited-stop, visited-then}
 use native.Mathlib.Omega.{arith}
@@ -21,7 +21,8 @@ module _ (C k : ℕ) (kinds numbers sizes firsts : List ℕ) (n : ℕ) {v₀ t�
   unfolding tableBy
   nodes-clash e = visited-stop w (clausesOf (seatBy kinds numbers firsts k 0 + k) (Constant true)) e
 
-  pub nodes-root : {v₂ t₂ : List ℕ} {s : Ended} {m : ℕ} → r .clash ≡ false → m ≡ seatBy kinds numbers firsts k 0 → Visited (clausesOf (m + k) (Constant true)) v₁ t₁ (r .top) v₂ t₂ s
+  pub nodes-root : {v₂ t₂ : List ℕ} {s : Ended} {m : ℕ} → r .clash ≡ false → m ≡ seatBy kinds numbers firsts k 0 →
+      Visited (clausesOf (m + k) (Constant true)) v₁ t₁ (r .top) v₂ t₂ s
       → Visited (tableBy C k kinds numbers sizes firsts n) v₀ t₀ top₀ v₂ t₂ s
   unfolding tableBy
   nodes-root {m = m} e f u = visited-then w (clausesOf (seatBy kinds numbers firsts k 0 + k) (Constant true)) e

@@ -5,12 +5,12 @@ use mathlib.Core.List.{List, [], _∷_, _++_, flatMap}
 use Prim.Native.Nat.{ℕ, _+_, _≤_, _<_}
 use native.Mathlib.Omega.{arith}
 use lib.ListN.{length}
-use Rattle.interval.specs.Listing.{rows}
+use Rattle.lists.specs.Listing.{rows}
 use Rattle.interval.specs.Limits.{maxCount}
 use Rattle.interval.proofs.Shape.{place-lt}
 use Rattle.circuit.specs.Circuit.{Definition}
 use Rattle.circuit.specs.declared.Gate.{Gate}
-use Rattle.blocks.specs.Blocks.{shapeOf, gateOf, definedBy, Placed, Bounded}
+use Rattle.blocks.specs.Blocks.{shapeOf, gateOf, definedBy, Placed, Bounded, isChop}
 use Rattle.blocks.specs.declared.Block.{Block}
 use Rattle.clauses.specs.Clauses.{Clause, clausesOf, clausesBy}
 use Rattle.gates.specs.Within.{Within}
@@ -20,11 +20,10 @@ use Rattle.node_clauses.specs.declared.cursor.Cursor.{Cursor}
 use Rattle.node_clauses.proofs.Walk.{rows-first, all-defined, definition-here, defined-at}
 use mathlib.Core.Bool.{Bool}
 use Rattle.interval.specs.Places.{countOf}
-use Rattle.blocks.specs.Blocks.{isChop}
 use Rattle.node_clauses.specs.Nodes.{choppedBy, nodeBy}
 use Rattle.node_clauses.proofs.Nodes.{clauses-join, Halves, chopped, node-known}
 use Rattle.gates.specs.Mentioned.{Variable, InputsIn, Mentioned, AllMentioned}
-use Rattle.clause_table.specs.Rows.{blockBy, rowDefinitions}
+use Rattle.table_layout.specs.Rows.{blockBy, rowDefinitions}
 use Rattle.sweeps.specs.Sweeps.{clausesAt, rowClauses}
 
 pub by-rows : (D : List Definition) → rows (length D) (clausesAt D) ≡ clausesBy D

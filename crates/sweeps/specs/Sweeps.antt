@@ -2,11 +2,11 @@
 use mathlib.Core.Bool.{true}
 use mathlib.Core.List.{List, _++_}
 use Prim.Native.Nat.{ℕ, _+_}
-use Rattle.interval.specs.Listing.{rows}
+use Rattle.lists.specs.Listing.{rows}
 use Rattle.circuit.specs.Circuit.{Definition}
 use Rattle.circuit.specs.declared.Gate.the-variants.{Constant}
 use Rattle.clauses.specs.Clauses.{Clause, clausesOf, clausesBy}
-use Rattle.clause_table.specs.Rows.{seatBy, rowDefinitions}
+use Rattle.table_layout.specs.Rows.{seatBy, rowDefinitions}
 use Rattle.node_clauses.specs.Walk.{definitionIn}
 
 -- the clauses of the definition in place x

@@ -8,13 +8,13 @@ ghost use Prim.Native.Nat.{ℕ, _+_, _≤_, _<_};
 ghost use lib.ListN.{length};
 ghost use Rattle.moments.specs.Moments.{old};
 ghost use Rattle.interval.specs.Limits.{maxSteps, maxCount};
-ghost use Rattle.interval.specs.Listing.{rows};
+ghost use Rattle.lists.specs.Listing.{rows};
 ghost use Rattle.interval.specs.Places.{countOf};
 ghost use Rattle.grammar.specs.Limits.{maxNodes, maxChannels};
 ghost use Rattle.blocks.specs.Blocks.{isChop, definedBy, Bounded};
 ghost use Rattle.clauses.specs.Clauses.{clausesBy};
 ghost use Rattle.node_clauses.specs.Nodes.{choppedBy, nodeBy, Fine};
-ghost use Rattle.clause_table.specs.Rows.{Low, rowDefinitions, seatBy};
+ghost use Rattle.table_layout.specs.Rows.{Low, rowDefinitions, seatBy};
 ghost use Rattle.gates.specs.Mentioned.{Variable, AllMentioned};
 ghost use Rattle.closing.specs.Values.{Trailing};
 ghost use Rattle.visits.specs.Visits.{Visits};
@@ -37,7 +37,7 @@ fn sweep_block(
     let mut t = top;
     while cursor.place < cursor.end {
         let gate = blocks::gate_at(c, k, cursor.all, block, cursor.place, cursor.position);
-        let r = visits::visit(values, trail, t, block.first + cursor.place, gate);
+        let r = search_gate::visit(values, trail, t, block.first + cursor.place, gate);
         if r.clash {
             return r;
         }
@@ -112,7 +112,7 @@ fn sweep_nodes<'a>(
 {
     let mut t = top;
     for x in 0..count {
-        let block = clause_table::block_at(kinds, numbers, sizes, firsts, k, x);
+        let block = table_layout::block_at(kinds, numbers, sizes, firsts, k, x);
         let r = sweep_node(values, trail, t, c, k, block);
         if r.clash {
             return r;
@@ -158,6 +158,6 @@ pub fn sweep<'a>(
     if r.clash {
         return r;
     }
-    let root = clause_table::seat(kinds, numbers, firsts, k, 0) + k;
-    visits::visit(values, trail, r.top, root, Gate::Constant(true))
+    let root = table_layout::seat(kinds, numbers, firsts, k, 0) + k;
+    search_gate::visit(values, trail, r.top, root, Gate::Constant(true))
 }

@@ -14,7 +14,7 @@ use Rattle.interval.proofs.Counts.{count-le}
 use Rattle.interval.proofs.Laws.{intervals-numbered}
 use Rattle.meaning.specs.Meaning.{bit, bitAt, highs, lasts, fills}
 use Rattle.meaning.proofs.Laws.{every-highs}
-use Rattle.word.specs.Word.{WordOf}
+use Rattle.meaning.specs.Words.{WordOf}
 use Rattle.word.proofs.Words.{word-highs}
 use Rattle.table.specs.Table.{TableOf, leastOn, measured}
 use Rattle.table.specs.declared.Measure.{Measure}

@@ -3,7 +3,7 @@
 use mathlib.Core.Path.{_≡_, refl, sym, ap, ap₂, _∙_}
 use mathlib.Core.Bool.{Bool, true, false}
 use mathlib.Core.List.{List, _++_}
-use Prim.Native.Nat.{ℕ, zero, suc, _+_, _-_, _≤_, _<_}
+use Prim.Native.Nat.{ℕ, suc, _+_, _-_, _≤_, _<_}
 use native.Mathlib.Omega.{arith}
 use native.Mathlib.Nat.{eq-or-lt-of-le}
 use mathlib.Core.Logic.{⊎-elim}
@@ -13,12 +13,13 @@ use lib.ListN.{length, getD, take, drop, replicate, length-append, length-take, 
 use lib.Seq.{length-take-le, getD-take, getD-drop, getD-append-add}
 use borrow.Author.Tests.{ltb-true, ltb-false}
 use borrow.Rule.Slice.PartMut.{midOf, putMid, mid-len}
-use Rattle.interval.specs.Listing.{sum}
+use Rattle.lists.specs.Listing.{sum}
 use Rattle.interval.specs.Limits.{IntervalOf}
 use Rattle.interval.specs.Places.{countOf, placeOf}
 use Rattle.interval.specs.declared.Interval.{Interval}
-use Rattle.interval.proofs.Listing.{sum-lt}
+use Rattle.lists.proofs.Listing.{sum-lt}
 use Rattle.interval.proofs.Counts.{intervals-count, interval-place}
+use Rattle.interval.proofs.Fill.{zeros}
 use Rattle.meaning.specs.Meaning.{bit}
 use Rattle.table.specs.Table.{TableOf, RowOf, startOf}
 
@@ -93,11 +94,6 @@ row-length N k i start end t w e = mid-len start end t (omega (arith, w .whole, 
 pub row-zeros : (N k i start end : ℕ) (t : List ℕ) → Filled N k i start t → (y : ℕ) → y < length (midOf start (end - start) t) → getD (midOf start (end - start) t) y 0 ≡ 0
 row-zeros N k i start end t w y h =
     part-entry start (end - start) t y (omega (arith, length-take (end - start) (drop start t))) ∙ w .rest (start + y) (omega arith)
-
-pub zeros : (n y : ℕ) → getD {A = ℕ} (replicate n 0) y 0 ≡ 0
-zeros zero y = refl
-zeros (suc n) zero = refl
-zeros (suc n) (suc y) = zeros n y
 
 pub filled-begun : (N k : ℕ) (t : List ℕ) → countOf k ≤ N → t ≡ replicate N 0 → Filled N k 0 0 t
 unfolding sum

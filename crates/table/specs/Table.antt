@@ -7,7 +7,7 @@ use Prim.Native.Nat.{ℕ, suc, _+_, _-_, _<_}
 use lib.Bits.{bitAnd, bitOr}
 use lib.Dec.{eqb}
 use lib.ListN.{length, getD}
-use Rattle.interval.specs.Listing.{sum}
+use Rattle.lists.specs.Listing.{sum}
 use Rattle.interval.specs.Limits.{IntervalOf}
 use Rattle.interval.specs.Places.{placeOf}
 use Rattle.interval.specs.declared.Interval.{Interval}

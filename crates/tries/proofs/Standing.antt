@@ -120,7 +120,14 @@ module _ (T : List Clause) (channels : ℕ) where
         here P p = subst P (sym (s .holding .calm c)) p
 
         pub low-found : v ≡ 0 → Started T variables channels limit values (Found n)
-        low-found z = record { result = (whole-found T variables channels n (s .due) (heldIn values) (never-clashes values variables) (o .none z) (here (Whole T variables channels n (s .due)) (s .whole)), s .few) }
+        low-found z =
+            record {
+              result = (
+                whole-found T variables channels n (s .due) (heldIn values) (never-clashes values variables) (o .none z)
+                    (here (Whole T variables channels n (s .due)) (s .whole)),
+                s .few,
+              );
+            }
 
         module _ (i : v ≡ 0 → ⊥) where
           abbrev low-due : List Literals
@@ -220,7 +227,8 @@ module _ (T : List Clause) (channels : ℕ) where
 
           pub high-ready : Undoable T values trail from (last .top)
           high-ready =
-              let b = innermost .since in let r = innermost .choice .ready in let t = s .holding .trailing in subst (λ (from : ℕ). Undoable T values trail from (last .top)) (innermost .top) (record {
+              let b = innermost .since in let r = innermost .choice .ready in let t = s .holding .trailing in
+              subst (λ (from : ℕ). Undoable T values trail from (last .top)) (innermost .top) (record {
                 on = b .more;
                 room = omega (arith, held-le values, t .full, t .room);
                 ranged = b .grown .ranged;

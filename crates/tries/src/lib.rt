@@ -5,7 +5,7 @@ use grammar::MAX_CHANNELS;
 use grammar::MAX_NODES;
 use interval::Interval;
 use rows::NodeTable;
-ghost use Prim.Native.Nat.{_*_, _^_, _≤_, _<_};
+ghost use Prim.Native.Nat.{_*_};
 ghost use lib.ListN.{length};
 ghost use Rattle.moments.specs.Moments.{old, new};
 ghost use Rattle.closure.specs.Closure.{nothing};
@@ -26,7 +26,7 @@ pub enum Below {
 // The tree from the closure of nothing, within a limit: found where no channel variable is open, else the lowest open one is tried low;
 // after a clash the last one that is still to be tried high is. No try is made that the limit does not allow. `levels` are the tops of
 // the trail before each try low that is still to be tried high, `depth` of them.
-fn descend(
+pub fn descend(
     values: &mut [u8],
     trail: &mut [u32],
     closed: Closed,
@@ -107,54 +107,4 @@ fn descend(
         );
         n += 1;
     }
-}
-
-// The whole tree, whatever values and trail held before.
-pub fn start(
-    values: &mut [u8],
-    trail: &mut [u32],
-    table: NodeTable,
-    firsts: &[u32; MAX_NODES],
-    seats: &[u32; MAX_NODES],
-    parents: &[u8; MAX_NODES],
-    intervals: &[u16],
-    starts: &[u32],
-    c: u32,
-    k: u32,
-    limit: u32,
-) -> Below
-    requires { ⌜ GroundOf c k table firsts seats parents values × Tables k (now intervals) (now starts) ⌝ }
-    requires { ⌜ (length (now values) ≤ length (now trail)) × (length (now values) < 2 ^ 32) ⌝ }
-    ensures { λ r. ⌜ Started (tableClauses c k table (old firsts)) (length (old values)) (k * c) limit (new values) r ⌝ }
-{
-    attempts::clear(values);
-    let closed = queue::start(
-        values,
-        trail,
-        &table.kinds,
-        &table.numbers,
-        &table.sizes,
-        firsts,
-        seats,
-        parents,
-        intervals,
-        starts,
-        table.count,
-        c,
-        k,
-    );
-    descend(
-        values,
-        trail,
-        closed,
-        table,
-        firsts,
-        seats,
-        parents,
-        intervals,
-        starts,
-        c,
-        k,
-        limit,
-    )
 }

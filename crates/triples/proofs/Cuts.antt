@@ -1,16 +1,16 @@
 -- A triple's gate is its definition's, by its place and those of its two parts. The next in order of j stands after the triples of [i, j],
 -- and the next in order of i as many places further as triples start at i, less those of [i, j].
-use mathlib.Core.Path.{_≡_, refl, sym, ap, ap₂, _∙_, subst}
+use mathlib.Core.Path.{_≡_, sym, ap, ap₂, _∙_, subst}
 use mathlib.Core.List.{List}
 use Prim.Native.Nat.{ℕ, suc, _+_, _-_, _^_, _≤_, _<_}
-use native.Mathlib.Numerals.{add-one}
 use native.Mathlib.Omega.{arith}
 use lib.ListN.{length}
-use Rattle.interval.specs.Listing.{sum}
+use Rattle.lists.specs.Listing.{sum}
 use Rattle.interval.specs.Places.{countOf, tripleCountOf, placeOf, triplePlaceOf}
 use Rattle.interval.specs.Limits.{maxSteps, maxCount}
 use Rattle.interval.specs.declared.Triple.{Triple}
-use Rattle.interval.proofs.Counts.{triangle-count, interval-place, triple-count-le}
+use Rattle.lists.proofs.Listing.{sum-next}
+use Rattle.interval.proofs.Counts.{triangle-count, interval-place, triple-count-le, few-intervals}
 use Rattle.interval.proofs.Laws.{triple-place, triples-numbered}
 use Rattle.circuit.specs.declared.Gate.the-variants.{Both}
 use Rattle.blocks.specs.Blocks.{gateOf, definedBy, Placed, Bounded, bound}
@@ -23,7 +23,7 @@ use Rattle.gates.specs.Mentioned.{Variable, InputsIn}
 use Rattle.sweeps.specs.Sweeps.{clausesAt}
 use Rattle.sweeps.proofs.Walk.{clauses-here, visit-asks}
 use Rattle.fanout.specs.Walks.{Standing}
-use Rattle.walks.proofs.Places.{interval-small, count-small}
+use Rattle.walks.proofs.Places.{interval-small}
 
 module _ (C k : ℕ) (b : Block) (cut : b .rule ≡ Cut) (i m j : ℕ) (o : i ≤ m) (p : m ≤ j) (q : j ≤ k) where
   abbrev t : Triple
@@ -55,10 +55,6 @@ triple-small k i m j h o p q = omega (arith, triples-numbered k .below (record {
 
 -- ---- the next triple
 
-next-sum : (w : ℕ → ℕ) (n : ℕ) → sum w (n + 1) ≡ sum w n + w n
-unfolding sum
-next-sum w n = rw (add-one n) refl
-
 first-next : (k i m e : ℕ) → i ≤ m → m + (e + 1) ≤ k → triplePlaceOf k (record { i = i; m = m; j = m + e }) + (m - i + 1 + e) ≡ triplePlaceOf k (record { i = i; m = m; j = m + (e + 1) })
 first-next k i m e o h =
     let n : m + (e + 1) - i ≡ m + e - i + 1 = omega arith in
@@ -67,7 +63,7 @@ first-next k i m e o h =
       triple-place k (record { i = i; m = m; j = m + e }) (record { starts = o; cut = omega arith; ends = omega arith }),
       triple-place k (record { i = i; m = m; j = m + (e + 1) }) (record { starts = o; cut = omega arith; ends = h }),
       ap (sum suc) n,
-      next-sum suc (m + e - i),
+      sum-next suc (m + e - i),
     )
 
 start-next : (k m e : ℕ) → placeOf k (record { i = m; j = m + e }) ≡ placeOf k (record { i = m; j = m }) + e
@@ -83,7 +79,8 @@ pub record Firsts (k : ℕ) (b : Block) (i m x y v e : ℕ) : Type 0 where
   pub right : y ≡ placeOf k (record { i = m; j = m })
   pub here : e ≤ k - m → v ≡ b .first + triplePlaceOf k (record { i = i; m = m; j = m + e })
 
-pub first-begun : {k : ℕ} {b : Block} {i m p y v : ℕ} → b .rule ≡ Cut → i ≤ m → m ≤ k → p ≡ placeOf k (record { i = i; j = i + (m - i) }) → y ≡ placeOf k (record { i = m; j = m + 0 })
+pub first-begun : {k : ℕ} {b : Block} {i m p y v : ℕ} → b .rule ≡ Cut → i ≤ m → m ≤ k →
+    p ≡ placeOf k (record { i = i; j = i + (m - i) }) → y ≡ placeOf k (record { i = m; j = m + 0 })
     → v ≡ triplePlaceOf k (record { i = i; m = m; j = m }) → Firsts k b i m (b .left + p) y (b .first + v) 0
 first-begun {k} {b} {i} {m} c o h e f g =
     let a : i + (m - i) ≡ m = omega arith in
@@ -135,12 +132,12 @@ from-next : (k i : ℕ) → i ≤ k → from k i ≡ from k (i + 1) + (k - i + 1
 from-next k i h =
     let a : suc k - i ≡ k - i + 1 = omega arith in
     let b : suc k - (i + 1) ≡ k - i = omega arith in
-    omega (arith, ap (sum suc) a, ap (sum suc) b, next-sum suc (k - i))
+    omega (arith, ap (sum suc) a, ap (sum suc) b, sum-next suc (k - i))
 
 from-small : (k i : ℕ) → k ≤ maxSteps → i ≤ k → (from k i ≤ maxCount) × (k - i + 1 ≤ from k i)
 from-small k i h o =
     let a : suc k - i ≡ suc (k - i) = omega arith in
-    (omega (arith, ap (sum suc) a, triangle-count (k - i), count-small (k - i) (omega arith)), omega (arith, from-next k i o))
+    (omega (arith, ap (sum suc) a, triangle-count (k - i), few-intervals (k - i) (omega arith)), omega (arith, from-next k i o))
 
 start-place : (k i m : ℕ) → i + 1 ≤ m → m ≤ k → placeOf k (record { i = i; j = m }) + (k - i) ≡ placeOf k (record { i = i + 1; j = m })
 start-place k i m o h =
@@ -148,7 +145,7 @@ start-place k i m o h =
       arith,
       interval-place k (record { i = i; j = m }) (record { starts = omega arith; ends = h }),
       interval-place k (record { i = i + 1; j = m }) (record { starts = o; ends = h }),
-      next-sum (λ i. suc k - i) i,
+      sum-next (λ i. suc k - i) i,
     )
 
 start-triple : (k i m j : ℕ) → i + 1 ≤ m → m ≤ j → j ≤ k
@@ -159,9 +156,9 @@ start-triple k i m j o p h =
       arith,
       triple-place k (record { i = i; m = m; j = j }) (record { starts = omega arith; cut = p; ends = h }),
       triple-place k (record { i = i + 1; m = m; j = j }) (record { starts = o; cut = p; ends = h }),
-      next-sum (from k) i,
+      sum-next (from k) i,
       ap (sum suc) a,
-      next-sum suc (j - (i + 1)),
+      sum-next suc (j - (i + 1)),
     )
 
 -- the loop over i: v is the triple, x its first part, y the second's place, and so many start at i
@@ -211,7 +208,8 @@ module _ {k : ℕ} {b : Block} {m j y x v row i : ℕ} (f : Seconds k b m j y x 
       from-small′ : j - i + 1 ≤ from k i
       from-small′ = omega (arith, from-next k i (omega (arith, f .starts, f .ends)), f .ends)
 
-  pub second-small : {C : ℕ} → Bounded C k b → (y < maxCount) × (x < bound + maxCount) × (v < bound + 2 ^ 23) × (row ≤ maxCount) × (k - i + 1 ≤ row) × (j ≤ k) × (k ≤ maxSteps) × (i ≤ j)
+  pub second-small : {C : ℕ} → Bounded C k b → (y < maxCount) × (x < bound + maxCount) × (v < bound + 2 ^ 23) × (row ≤ maxCount) ×
+      (k - i + 1 ≤ row) × (j ≤ k) × (k ≤ maxSteps) × (i ≤ j)
   second-small s =
       let w = from-small k i (s .steps) (omega (arith, f .starts, f .ends)) in (
         omega (arith, f .right, interval-small k m j (s .steps) (f .starts) (f .ends)),

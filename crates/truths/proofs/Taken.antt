@@ -10,7 +10,7 @@ use lib.Dec.{eqb}
 use lib.ListN.{length, getD, List·getD-eq-default}
 use Rattle.interval.proofs.Fill.{Upto}
 use Rattle.meaning.specs.Meaning.{bit}
-use Rattle.word.proofs.Words.{high-bit}
+use Rattle.meaning.proofs.Words.{high-bit}
 use Rattle.table.specs.Table.{highAt, Binary}
 
 is-bit : (x : ℕ) (b : Bool) → x ≡ bit b → x ≡ bit (eqb x 1)

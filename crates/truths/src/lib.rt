@@ -5,7 +5,7 @@ ghost use mathlib.Core.Bool.{not};
 ghost use Prim.Native.Nat.{ℕ, _+_, _-_, _≤_, _<_, min};
 ghost use lib.ListN.{length, getD};
 ghost use Rattle.moments.specs.Moments.{old, new};
-ghost use Rattle.interval.specs.Listing.{tab};
+ghost use Rattle.lists.specs.Listing.{tab};
 ghost use Rattle.interval.specs.Limits.{maxCount};
 ghost use Rattle.grammar.specs.Limits.{maxChannels};
 ghost use Rattle.meaning.specs.Meaning.{bit, channelAt};

@@ -5,8 +5,8 @@ use Prim.Native.Nat.{ℕ}
 use Rattle.clause_table.specs.Table.{After}
 use Rattle.assignments.specs.Calls.{Extended, Proposed}
 use Rattle.clause_file.specs.Calls.{FileAfter}
-use Rattle.search.specs.Search.{Arrays, Searched, unwritten, Unchanged}
-use Rattle.search.specs.declared.Answer.{Answer}
+use Rattle.search_answer.specs.Search.{Arrays, Searched, unwritten, Unchanged}
+use Rattle.search_answer.specs.declared.Answer.{Answer}
 use Rattle.answers.specs.Answers.{packWritten, packChecked, packAnswer}
 use Rattle.tuvenikar.specs.Left.{TableLeft, AssignmentLeft, RecordingLeft, FileLeft, SearchLeft}
 

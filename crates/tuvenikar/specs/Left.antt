@@ -5,7 +5,7 @@ use Prim.Native.Nat.{ℕ}
 use Rattle.clause_table.specs.Table.{After}
 use Rattle.assignments.specs.Calls.{Extended, Proposed}
 use Rattle.clause_file.specs.Calls.{FileAfter}
-use Rattle.search.specs.Search.{Arrays, lentOf, searched, Searched, Unchanged}
+use Rattle.search_answer.specs.Search.{Arrays, lentOf, searched, Searched, Unchanged}
 use Rattle.answers.specs.Answers.{packWritten, packChecked, packAnswer}
 
 -- a table written, or read from a file: its sizes and its two arrays

@@ -1,6 +1,6 @@
 // The calls for C, on numbers and slices. Each answers with one number: its low half says what, its high half the place or the
 // value; include/tuvenikar.h has the same for C.
-use clause_table::Sizes;
+use table_layout::Sizes;
 ghost use mathlib.Core.Path.{_≡_};
 ghost use mathlib.Core.List.{[], _∷_};
 ghost use Rattle.moments.specs.Moments.{old, new};

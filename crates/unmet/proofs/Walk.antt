@@ -13,8 +13,8 @@ use Rattle.refusal.specs.declared.Reply.{Reply}
 use Rattle.refusal.specs.declared.Reply.the-variants.{Yes, No}
 use Rattle.interval.specs.Places.{countOf}
 use Rattle.interval.specs.Limits.{maxCount}
-use Rattle.interval.specs.Listing.{rows, sum}
-use Rattle.interval.proofs.Listing.{rows-same, length-tab, getD-tab}
+use Rattle.lists.specs.Listing.{rows, sum}
+use Rattle.lists.proofs.Listing.{rows-same, length-tab, getD-tab}
 use Rattle.circuit.specs.Gates.{Assignment, valueOf}
 use Rattle.circuit.specs.Circuit.{Definition, define}
 use Rattle.circuit.specs.declared.Gate.{Gate}
@@ -26,7 +26,7 @@ use Rattle.weights.specs.Weights.{clauseWeight, weightOf, weightBy, maxWeight, 
 use Rattle.weights.specs.declared.Weight.{Weight}
 use Rattle.weights.proofs.Weights.{block-weight, weighed}
 use Rattle.clauses.specs.Clauses.{Clause, clausesOf, clausesBy, meetsClause}
-use Rattle.clauses.proofs.Sizes.{gate-clauses, clauses-by}
+use Rattle.weights.proofs.Sizes.{gate-clauses, clauses-by}
 use Rattle.gates.specs.Within.{Within}
 use Rattle.node_clauses.specs.Nodes.{choppedBy, nodeBy}
 use Rattle.node_clauses.specs.Walk.{definitionIn, DefinedAt, Walks}
@@ -113,7 +113,15 @@ module _ {a : Assignment} {n : ℕ} {D : List Definition} where
 
       -- no number is more than all clauses come to
       pub met-few : m + weightOf clauseWeight gate ≤ n + length (clausesBy D)
-      met-few = omega (arith, t .next, length-joined (take x D) (define v gate ∷ []) one-more, ap length one, gate-clauses v gate, length-joined (take (x + 1) D) (drop (x + 1) D) (take-append-drop (x + 1) D))
+      met-few =
+          omega (
+            arith,
+            t .next,
+            length-joined (take x D) (define v gate ∷ []) one-more,
+            ap length one,
+            gate-clauses v gate,
+            length-joined (take (x + 1) D) (drop (x + 1) D) (take-append-drop (x + 1) D),
+          )
 
 -- ---- a block, as the code walks it
 
@@ -126,7 +134,8 @@ module _ {C k : ℕ} {block : Block} (s : Bounded C k block × (block .points �
       let l = light (walkable (s .0) (s .1)) {v = clauseWeight} refl (omega arith) (omega arith) (omega arith) in
       omega (arith, block-clauses C k block, weighed l (block .rule) refl refl .1)
 
-  module _ {a : Assignment} {n m : ℕ} {c : Cursor} (w : Walks k block c) (t : Met a n (definedBy C k block) m (c .place)) (h : c .place < c .end) {gate : Gate} (g : DefinedAt C k block (c .place) gate) where
+  module _ {a : Assignment} {n m : ℕ} {c : Cursor} (w : Walks k block c) (t : Met a n (definedBy C k block) m (c .place))
+      (h : c .place < c .end) {gate : Gate} (g : DefinedAt C k block (c .place) gate) where
     inside : c .place < length (definedBy C k block)
     inside = omega (arith, all-defined C w)
 
@@ -179,7 +188,8 @@ module _ (C k : ℕ) (b : Block) {up : Bool} (e : b .rule ≡ Fixed up) where
   constants-defined : constants (b .first) (b .points) up ≡ definedBy C k b
   unfolding definedBy gateOf rows sum
   constants-defined =
-      let same : record { rule = Fixed up; points = b .points; first = b .first; left = b .left; right = b .right } ≡ b = λ i. record { rule = sym e i; points = b .points; first = b .first; left = b .left; right = b .right } in
+      let same : record { rule = Fixed up; points = b .points; first = b .first; left = b .left; right = b .right } ≡ b =
+      λ i. record { rule = sym e i; points = b .points; first = b .first; left = b .left; right = b .right } in
       rows-same (b .points) _ _ (λ p h. ap (λ (q : ℕ). define (b .first + q) (Constant up) ∷ []) (omega arith)) ∙ ap (definedBy C k) same
 
   pub constants-mentioned : {l : ℕ} → AllMentioned l (definedBy C k b) → (x : ℕ) → x < b .points → Variable l (b .first + x)

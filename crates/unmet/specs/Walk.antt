@@ -2,7 +2,7 @@
 use mathlib.Core.Bool.{Bool}
 use mathlib.Core.List.{List}
 use Prim.Native.Nat.{ℕ, _+_}
-use Rattle.interval.specs.Listing.{tab}
+use Rattle.lists.specs.Listing.{tab}
 use Rattle.circuit.specs.Circuit.{Definition, define}
 use Rattle.circuit.specs.declared.Gate.the-variants.{Constant}
 

@@ -8,9 +8,9 @@ use native.Mathlib.Omega.{arith}
 use borrow.Author.Tests.{not-true, ltb-true, ltb-false}
 use lib.Dec.{ltb}
 use lib.ListN.{length, getD}
-use Rattle.interval.specs.Listing.{tab}
-use Rattle.interval.proofs.Listing.{length-tab, getD-tab}
-use Rattle.grammar.proofs.Bytes.{both}
+use Rattle.lists.specs.Listing.{tab}
+use Rattle.lists.proofs.Listing.{length-tab, getD-tab}
+use Rattle.lists.proofs.Tests.{both}
 use Rattle.meaning.specs.Meaning.{any}
 use Rattle.meaning.proofs.Laws.{some-one}
 use Rattle.circuit.specs.Gates.{Assignment, valueOf}
@@ -18,7 +18,7 @@ use Rattle.circuit.specs.declared.Gate.{Gate}
 use Rattle.circuit.specs.declared.Gate.the-variants.{Constant, Copy, Inverse, Both, Either, AnyOf, Step}
 use Rattle.weights.specs.Weights.{weightOf, clauseWeight}
 use Rattle.clauses.specs.Clauses.{plain, negated, Clause, clausesOf, meetsClause, meetsAll}
-use Rattle.clauses.proofs.Sizes.{gate-clauses}
+use Rattle.weights.proofs.Sizes.{gate-clauses}
 use Rattle.clauses.proofs.Meets.{beq-exactly, by-table, any-some, meets-exactly}
 use Rattle.refusal.specs.declared.Reply.{Reply}
 use Rattle.refusal.specs.declared.Reply.the-variants.{Yes, No}
@@ -166,6 +166,7 @@ module _ (a : Assignment) where
       settled v (Step p q s) h d (by-table 4 (λ x y z t. test (bits (x ∷ y ∷ z ∷ t ∷ [])) 0 (Step 1 2 3) (cond x (cond z 1 0) (cond y 2 3))) (λ x y z t. true) refl (a v) (a p) (a q) (a s))
 
   -- of a gate that is known to be g
-  pub unmet-known : {gate g : Gate} {up : Bool} (r : ℕ) → gate ≡ g → At a up g r → (v n : ℕ) → up ≡ a v → (up ≡ valueOf a gate → ⊥) → no (n + r) ≡ askClauses a n (clausesOf v gate)
+  pub unmet-known : {gate g : Gate} {up : Bool} (r : ℕ) → gate ≡ g → At a up g r → (v n : ℕ) → up ≡ a v → (up ≡ valueOf a gate → ⊥) →
+      no (n + r) ≡ askClauses a n (clausesOf v gate)
   unmet-known {g = g} r e h v n u d =
       rw e (answered a n (clausesOf v g) r (unmet-at v g r (rw u at h) (λ q. d (u ∙ q ∙ ap (valueOf a) (sym e)))))

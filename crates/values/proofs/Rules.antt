@@ -6,9 +6,9 @@ use mathlib.Core.List.{List, [], _∷_}
 use Prim.Native.Nat.{ℕ, _≤_}
 use native.Mathlib.Omega.{arith}
 use lib.ListN.{getD, replicate, getD-replicate}
-use Rattle.interval.specs.Listing.{tab}
+use Rattle.lists.specs.Listing.{tab}
 use Rattle.interval.specs.Limits.{maxCount}
-use Rattle.interval.proofs.Listing.{rows-same}
+use Rattle.lists.proofs.Listing.{rows-same}
 use Rattle.blocks.specs.declared.Rule.{Rule}
 use Rattle.values.specs.Values.{valuesBy}
 

@@ -3,27 +3,20 @@
 use mathlib.Core.Path.{_≡_, refl, sym, ap, _∙_}
 use mathlib.Core.Bool.{Bool, true, false}
 use mathlib.Core.List.{List}
-use Prim.Native.Nat.{ℕ, _/_, _%_, _≤_}
+use Prim.Native.Nat.{ℕ, _/_, _%_}
 use lib.Dec.{eqb}
 use lib.ListN.{getD}
-use Rattle.interval.specs.Listing.{tab}
+use Rattle.lists.specs.Listing.{tab}
 use Rattle.interval.specs.Places.{countOf, placeOf}
-use Rattle.interval.specs.Limits.{maxSteps, maxCount}
 use Rattle.interval.specs.declared.Interval.{Interval}
-use Rattle.interval.proofs.Counts.{count-le}
 use Rattle.interval.proofs.Laws.{intervals-numbered}
 use Rattle.grammar.specs.declared.Sort.the-variants.{Formula}
 use Rattle.meaning.specs.Meaning.{bit, bitAt, channelAt}
-use Rattle.word.specs.Word.{WordOf}
+use Rattle.meaning.specs.Words.{WordOf}
 use Rattle.table.specs.Table.{highAt, Binary, TableOf}
 use Rattle.assignments.specs.Extension.{truthValues}
 use Rattle.assignments.proofs.Values.{truth-tab}
 use Rattle.cuts.specs.Cuts.{onPlaces}
-
--- a table holds all intervals
-pub few-intervals : (k : ℕ) → k ≤ maxSteps → countOf k ≤ maxCount
-unfolding countOf
-few-intervals k h = count-le maxSteps k h
 
 pub table-values : (k : ℕ) (f : Interval → Bool) {n : ℕ} {t : List ℕ} → n ≡ countOf k → TableOf k f t → tab n (λ e. getD t e 0) ≡ truthValues Formula k f
 table-values k f {n} {t} c T =

@@ -4,7 +4,7 @@ use mathlib.Core.Path.{_≡_}
 use mathlib.Core.Bool.{Bool, not, _&&_, _||_}
 use mathlib.Core.List.{List, _++_}
 use Prim.Native.Nat.{ℕ, suc, _+_, _*_, _%_, _≤_}
-use Rattle.interval.specs.Listing.{rows, tab}
+use Rattle.lists.specs.Listing.{rows, tab}
 use Rattle.interval.specs.Places.{countOf, tripleCountOf}
 use Rattle.interval.specs.Limits.{maxCount}
 use Rattle.grammar.specs.Limits.{maxChannels}

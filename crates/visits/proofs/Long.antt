@@ -7,7 +7,8 @@ use Prim.Native.Nat.{ℕ, _+_, _≤_, _<_}
 use native.Mathlib.Numerals.{add-one}
 use native.Mathlib.Omega.{arith}
 use lib.ListN.{length}
-use Rattle.interval.specs.Listing.{rows, tab, All}
+use Rattle.lists.specs.Listing.{rows, tab, All}
+use Rattle.lists.proofs.Listing.{rows-rest}
 use Rattle.clauses.specs.Clauses.{Literal, Clause, plain, negated}
 use Rattle.closure.specs.Closure.{Literals, opposite, membersIn, add, membersOf}
 use Rattle.closure.specs.Tree.{closure}
@@ -25,7 +26,6 @@ use lib.Arith.{lt-of-le-ne}
 use Rattle.clauses.specs.Entries.{entry, literalOf}
 use Rattle.gates.specs.Mentioned.{Variable}
 use Rattle.visits.proofs.Parts.{one-closed, calm-or-touched}
-use Rattle.visits.proofs.Loops.{rows-rest}
 
 -- ---- the free literals of a clause
 
@@ -103,7 +103,8 @@ pub record Reading (values : List ℕ) (v w e free last mark : ℕ) : Type 0 whe
   pub few : free ≤ 1
   pub within : Variable (length values) last
 
-pub reading-none : {values : List ℕ} {v w f : ℕ} → Variable (length values) v → ((f ≡ 0) × (heldIn values (opposite (negated v)) ≡ true)) ⊎ ((f ≡ 1) × (heldIn values (opposite (negated v)) ≡ false))
+pub reading-none : {values : List ℕ} {v w f : ℕ} → Variable (length values) v →
+    ((f ≡ 0) × (heldIn values (opposite (negated v)) ≡ true)) ⊎ ((f ≡ 1) × (heldIn values (opposite (negated v)) ≡ false))
     → Reading values v w 0 f v 0
 unfolding freeOf rows
 reading-none i (inl (z, o)) = record { tally = rw (z, o) (record { none = λ _. refl; one = λ e. absurd (omega arith); more = λ a b. absurd (a refl) }); few = omega arith; within = i }

@@ -1,30 +1,20 @@
 -- Visits one after another: of the clauses f 0, .., f (n - 1) the first x lists are visited.
 -- A turn visits one list more; a clash ends the loop.
-use mathlib.Core.Path.{_≡_, refl, sym, ap, _∙_, subst}
-use mathlib.Core.Logic.{_⊎_, inl, inr, ⊎-elim}
-use mathlib.Core.Bool.{Bool, true, false}
-use mathlib.Core.List.{List, [], _∷_, _++_, append-nil, append-assoc}
-use Prim.Native.Nat.{ℕ, zero, suc, _+_, _≤_, _<_}
-use native.Mathlib.Nat.{eq-or-lt-of-le}
+use mathlib.Core.Path.{_≡_, refl, sym, ap, subst}
+use mathlib.Core.Bool.{true, false}
+use mathlib.Core.List.{List, [], _∷_, _++_}
+use Prim.Native.Nat.{ℕ, _+_, _≤_, _<_}
 use native.Mathlib.Numerals.{add-one}
 use native.Mathlib.Omega.{arith}
-use Rattle.interval.specs.Listing.{rows}
-use Rattle.interval.proofs.Listing.{map-rows}
-use Rattle.circuit.specs.declared.Gate.{Gate}
-use Rattle.circuit.specs.declared.Gate.the-variants.{Constant, AnyOf}
+use Rattle.lists.specs.Listing.{rows}
+use Rattle.lists.proofs.Listing.{map-rows, rows-rest}
+use Rattle.circuit.specs.declared.Gate.the-variants.{AnyOf}
 use Rattle.clauses.specs.Clauses.{Clause, plain, negated, clausesOf}
 use Rattle.closing.specs.Values.{Trailing}
 use Rattle.closing.specs.declared.Closed.{Closed as Ended}
 use Rattle.patterns.specs.Patterns.{among, renamed, patternOf}
 use Rattle.visits.specs.Visits.{Visited, raisedBy, longBy}
-use Rattle.patterns.proofs.Steps.{patterns}
 use Rattle.visits.proofs.Parts.{visited-none, visited-named, visited-stop, visited-then}
-
-pub rows-rest : {A : Type 0} (f : ℕ → List A) (n x : ℕ) → x ≤ n → (R : List A) × (rows x f ++ R ≡ rows n f)
-unfolding rows
-rows-rest f zero x h = let e : x ≡ 0 = omega arith in ([], rw e refl)
-rows-rest {A} f (suc n) x h = ⊎-elim (λ (e : x ≡ suc n). ([], rw e (append-nil _)))
-    (λ (l : x < suc n). let w = rows-rest f n x (omega arith) in (w .0 ++ f n, sym (append-assoc (rows x f) (w .0) (f n)) ∙ ap (λ (k : List A). k ++ f n) (w .1))) (eq-or-lt-of-le h)
 
 -- a calm answer
 pub calm-known : {T : List Clause} {v₀ t₀ values trail : List ℕ} {top₀ : ℕ} {r : Ended} → r .clash ≡ false → Visited T v₀ t₀ top₀ values trail r
@@ -52,7 +42,8 @@ module _ (f : ℕ → List Clause) (x : ℕ) {v₀ t₀ values trail : List ℕ}
       let q = rows-rest f n (x + 1) (omega arith) in
       visited-named (q .1) (visited-stop (visited-named one-more (visited-then w P refl u)) (q .0) c)
 
-pub loop-done : (f : ℕ → List Clause) (n x : ℕ) {v₀ t₀ values trail : List ℕ} {top₀ : ℕ} {r : Ended} → x ≤ n → n ≤ x → Visited (rows x f) v₀ t₀ top₀ values trail r → Visited (rows n f) v₀ t₀ top₀ values trail r
+pub loop-done : (f : ℕ → List Clause) (n x : ℕ) {v₀ t₀ values trail : List ℕ} {top₀ : ℕ} {r : Ended} → x ≤ n → n ≤ x →
+    Visited (rows x f) v₀ t₀ top₀ values trail r → Visited (rows n f) v₀ t₀ top₀ values trail r
 loop-done f n x h k w = let e : x ≡ n = omega arith in visited-named (ap (λ (m : ℕ). rows m f) e) w
 
 -- any of n variables: each clause of two literals, then the long one
@@ -60,17 +51,6 @@ pub any-clauses : (v w n : ℕ) → rows n (raisedBy v w) ++ longBy v w n ∷ []
 unfolding clausesOf
 any-clauses v w n = ap (λ (T : List Clause). T ++ longBy v w n ∷ []) (sym (map-rows (λ w. plain v ∷ negated w ∷ []) (λ e. (w + e) ∷ []) n))
 
--- ---- the patterns are the gates
-
 pub raised-pattern : (v w e : ℕ) → renamed (among v (w + e) v v) (patternOf 7) ≡ raisedBy v w e
 unfolding renamed patternOf
 raised-pattern v w e = refl
-
--- a gate that is known to be g
-pub visited-known : (v : ℕ) {gate g : Gate} {P : List Clause} {v₀ t₀ values trail : List ℕ} {top₀ : ℕ} {r : Ended} → gate ≡ g → P ≡ clausesOf v g
-    → Visited P v₀ t₀ top₀ values trail r → Visited (clausesOf v gate) v₀ t₀ top₀ values trail r
-visited-known v e f w = visited-named (f ∙ ap (clausesOf v) (sym e)) w
-
-pub constant-known : (v : ℕ) {up : Bool} {g : ℕ} → ((g ≡ 6) × (up ≡ true)) ⊎ ((g ≡ 5) × (up ≡ false)) → (g < 8) × (renamed (among v v v v) (patternOf g) ≡ clausesOf v (Constant up))
-constant-known v (inl (e, u)) = (omega arith, rw (e, u) (patterns v v v v .6))
-constant-known v (inr (e, u)) = (omega arith, rw (e, u) (patterns v v v v .5))

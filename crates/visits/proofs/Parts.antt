@@ -4,12 +4,12 @@ use mathlib.Core.Path.{_≡_, refl, sym, ap₂, _∙_, subst}
 use mathlib.Core.Logic.{_⊎_, inl, inr, ⊎-elim}
 use mathlib.Core.Bool.{Bool, true, false, _&&_, true≢false, false≢true}
 use mathlib.Core.List.{List, [], _∷_, _++_, flatMap}
-use Prim.Native.Nat.{ℕ, _+_, zero, suc, _-_}
+use Prim.Native.Nat.{ℕ, zero, suc, _-_}
 use lib.ListN.{length, getD, set}
-use Rattle.grammar.proofs.Bytes.{both}
+use Rattle.lists.proofs.Tests.{both}
 use Rattle.meaning.proofs.Laws.{some-one}
-use Rattle.interval.specs.Listing.{All}
-use Rattle.formula.proofs.Lists.{all-append, flat-append}
+use Rattle.lists.specs.Listing.{All}
+use Rattle.lists.proofs.Lists.{all-append, flat-append, all-mapped}
 use Rattle.clauses.specs.Clauses.{Literal, Clause, plain, negated}
 use Rattle.closure.specs.Closure.{Literals, opposite, Member, membersOf, membersIn}
 use Rattle.closure.specs.Tree.{closure}
@@ -17,7 +17,6 @@ use Rattle.closure.specs.Runs.{clashes}
 use Rattle.closure.proofs.Sets.{either-way, In, Below, Opposed, same-set}
 use Rattle.closure.proofs.Closure.{Keeps, Closed, closed-parts, closed-whole, closure-contains, closure-closed, closure-least, closed-same}
 use Rattle.closure.proofs.Gates.{closed-split}
-use Rattle.circuit.proofs.Lists.{all-mapped}
 use Rattle.closing.specs.Values.{heldIn, undone, Trailing, Grown, valueFor, held}
 use Rattle.closing.specs.declared.Closed.{Closed as Ended}
 use Rattle.closing.proofs.Trail.{grown-none, grown-length, grown-more}
@@ -125,7 +124,7 @@ module _ (Q R S : Literals) (a : Below Q (In R)) (b : Below R (In S)) where
   touched-still (l ∷ c) (inl w) = inl (b (opposite l) (w .0), w .1)
   touched-still (l ∷ c) (inr t) = inr (touched-still c t)
 
-  touched-before : (c : Clause) → Touched R S c → Touched Q S c
+  pub touched-before : (c : Clause) → Touched R S c → Touched Q S c
   touched-before [] t = t
   touched-before (l ∷ c) (inl w) = inl (w .0, either-way (Q (opposite l)) (λ e. absurd (true≢false (sym (a (opposite l) e) ∙ w .1))) (λ e. e))
   touched-before (l ∷ c) (inr t) = inr (touched-before c t)

@@ -6,7 +6,7 @@ use mathlib.Core.List.{List, [], _∷_, map}
 use Prim.Native.Nat.{ℕ, _+_, _≤_, _<_}
 use lib.ListN.{length}
 use Rattle.moments.specs.Moments.{old, new, Slice}
-use Rattle.interval.specs.Listing.{tab}
+use Rattle.lists.specs.Listing.{tab}
 use Rattle.literals.specs.Written.{limit}
 use Rattle.clauses.specs.Clauses.{plain, negated, Clause}
 use Rattle.closure.specs.Closure.{Literals, opposite}

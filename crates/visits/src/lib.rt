@@ -1,5 +1,5 @@
-// A gate visited: every literal that its clauses force, one after another, or a clash: unit propagation, a gate at a time.
-use circuit::Gate;
+// Clauses visited: every literal that they force, one after another, or a clash: unit propagation, a gate at a time. Here those of the gate
+// that no pattern fits: v is any of n variables.
 use closing::Closed;
 ghost use mathlib.Core.Path.{_≡_};
 ghost use mathlib.Core.Bool.{true, false};
@@ -8,13 +8,11 @@ ghost use lib.ListN.{length};
 ghost use Rattle.moments.specs.Moments.{old};
 ghost use Rattle.clauses.specs.Clauses.{clausesOf, Clause};
 ghost use Rattle.closing.specs.Values.{Trailing, heldIn};
-ghost use Rattle.gates.specs.Within.{Within};
-ghost use Rattle.patterns.specs.Patterns.{lowPattern, highPattern};
 ghost use Rattle.visits.specs.Visits.{Row, raisedBy, longBy, Visits};
-ghost use Rattle.gates.specs.Mentioned.{Variable, InputsIn};
+ghost use Rattle.gates.specs.Mentioned.{Variable};
 ghost use mathlib.Core.Logic.{_⊎_};
 ghost use mathlib.Core.List.{[], _∷_, _++_};
-ghost use Rattle.interval.specs.Listing.{rows};
+ghost use Rattle.lists.specs.Listing.{rows};
 ghost use Rattle.circuit.specs.declared.Gate.the-variants.{AnyOf};
 ghost use Rattle.clauses.specs.Entries.{entry, literalOf};
 ghost use Rattle.closure.specs.Closure.{opposite};
@@ -105,7 +103,7 @@ fn visit_long(values: &mut [u8], trail: &mut [u32], top: usize, v: u32, w: u32, 
 }
 
 // v is any of n variables from w on.
-fn visit_any(values: &mut [u8], trail: &mut [u32], top: usize, v: u32, w: u32, n: u32) -> Closed
+pub fn visit_any(values: &mut [u8], trail: &mut [u32], top: usize, v: u32, w: u32, n: u32) -> Closed
     requires { ⌜ Trailing (now values) (now trail) top × Variable (length (now values)) v × Row (length (now values)) w n ⌝ }
     ensures { λ r. ⌜ Visits (clausesOf v (AnyOf w n)) values trail top r ⌝ }
 {
@@ -134,27 +132,4 @@ pub fn visit_one(
         return r;
     }
     visit_long(values, trail, r.top, v, w, n)
-}
-
-// The pattern of a constant.
-pub fn constant(up: bool) -> usize
-    ensures { λ r. ⌜ ((r ≡ highPattern) × (up ≡ true)) ⊎ ((r ≡ lowPattern) × (up ≡ false)) ⌝ }
-{
-    if up { patterns::HIGH } else { patterns::LOW }
-}
-
-// The gate that defines v.
-pub fn visit(values: &mut [u8], trail: &mut [u32], top: usize, v: u32, gate: Gate) -> Closed
-    requires { ⌜ Trailing (now values) (now trail) top × Variable (length (now values)) v × InputsIn (length (now values)) gate × Within gate ⌝ }
-    ensures { λ r. ⌜ Visits (clausesOf v gate) values trail top r ⌝ }
-{
-    match gate {
-        Gate::Constant(up) => patterns::settle_by(values, trail, top, constant(up), v, v, v, v),
-        Gate::Copy(u) => patterns::settle_by(values, trail, top, patterns::COPY, v, u, v, v),
-        Gate::Inverse(x) => patterns::settle_by(values, trail, top, patterns::INVERSE, v, x, v, v),
-        Gate::Both(x, y) => patterns::settle_both(values, trail, top, v, x, y),
-        Gate::Either(x, y) => patterns::settle_by(values, trail, top, patterns::EITHER, v, x, y, v),
-        Gate::AnyOf(w, n) => visit_any(values, trail, top, v, w, n),
-        Gate::Step(p, q, s) => patterns::settle_step(values, trail, top, v, p, q, s),
-    }
 }

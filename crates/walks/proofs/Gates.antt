@@ -26,7 +26,8 @@ use Rattle.walks.specs.declared.Inputs.{Inputs}
 use Rattle.walks.specs.Lines.{GoesBy}
 
 module _ (C k : ℕ) (b : Block) (x a i d : ℕ) where
-  pub cut-gate : b .rule ≡ Cut → {p q : ℕ} → p ≡ placeOf k (record { i = a; j = a + d }) → q ≡ placeOf k (record { i = a + d; j = a + i }) → Both (b .left + p) (b .right + q) ≡ gateOf C k b x a i d
+  pub cut-gate : b .rule ≡ Cut → {p q : ℕ} → p ≡ placeOf k (record { i = a; j = a + d }) → q ≡ placeOf k (record { i = a + d; j = a + i }) →
+      Both (b .left + p) (b .right + q) ≡ gateOf C k b x a i d
   cut-gate r e f = ap₂ (λ (p q : ℕ). Both (b .left + p) (b .right + q)) e f ∙ gate-by C k b x a i d r
 
 -- ---- its visit
@@ -44,10 +45,12 @@ module _ {C k : ℕ} {b : Block} {values trail : List ℕ} {top x a i d : ℕ} (
 
 -- ---- a line's gate, its rule being known
 
-pub goes-by : (C k : ℕ) (b : Block) (x v : ℕ) {g : Gate} → g ≡ gateOf C k b x 0 0 x → (r : Inputs) → r .gate < 8 → renamed (among v (r .x) (r .y) v) (patternOf (r .gate)) ≡ clausesOf v g
+pub goes-by : (C k : ℕ) (b : Block) (x v : ℕ) {g : Gate} → g ≡ gateOf C k b x 0 0 x → (r : Inputs) → r .gate < 8 →
+    renamed (among v (r .x) (r .y) v) (patternOf (r .gate)) ≡ clausesOf v g
     → ((l : ℕ) → Variable l v → InputsIn l g → Variable l (r .x) × Variable l (r .y)) → GoesBy C k b x v r
 goes-by C k b x v {g} e r h c f =
-    subst (λ (g : Gate). (renamed (among v (r .x) (r .y) v) (patternOf (r .gate)) ≡ clausesOf v g) × ((l : ℕ) → Variable l v → InputsIn l g → Variable l (r .x) × Variable l (r .y)) → GoesBy C k b x v r) (sym e)
+    subst (λ (g : Gate). (renamed (among v (r .x) (r .y) v) (patternOf (r .gate)) ≡ clausesOf v g) ×
+    ((l : ℕ) → Variable l v → InputsIn l g → Variable l (r .x) × Variable l (r .y)) → GoesBy C k b x v r) (sym e)
     (λ w. record { gate = h; clauses = w .0; inputs = w .1 }) (c, f)
 
 pub no-line : {X : Type 0} {r q : Rule} → r ≡ q → formOf r ≡ Line → (formOf q ≡ Line → X) → X

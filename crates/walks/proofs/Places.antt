@@ -4,9 +4,9 @@ use mathlib.Core.Path.{_≡_, refl, sym, subst}
 use mathlib.Core.List.{List}
 use Prim.Native.Nat.{ℕ, _≤_, _<_}
 use native.Mathlib.Omega.{arith}
-use Rattle.interval.specs.Places.{countOf, placeOf}
+use Rattle.interval.specs.Places.{placeOf}
 use Rattle.interval.specs.Limits.{maxSteps, maxCount}
-use Rattle.interval.proofs.Counts.{count-le}
+use Rattle.interval.proofs.Counts.{few-intervals}
 use Rattle.interval.proofs.Laws.{intervals-numbered}
 use lib.ListN.{length}
 use Rattle.interval.proofs.Shape.{place-lt}
@@ -39,11 +39,7 @@ before-there points k p f e = subst (λ (r : Rule). Before points k r p) (sym e)
 pub stands : {C k : ℕ} {b : Block} {values trail v t : List ℕ} {top n : ℕ} → Standing C k b values trail top → length v ≡ length values → Trailing v t n → Standing C k b v t n
 stands {C} {k} {b} s e t = record { bounded = s .bounded; points = s .points; mentioned = still (definedBy C k b) e (s .mentioned); trailing = t }
 
--- ---- how many intervals there are, and their places
-
-pub count-small : (k : ℕ) → k ≤ maxSteps → countOf k ≤ maxCount
-unfolding countOf
-count-small k h = count-le maxSteps k h
+-- ---- the places of intervals
 
 pub interval-small : (k i j : ℕ) → k ≤ maxSteps → i ≤ j → j ≤ k → placeOf k (record { i = i; j = j }) < maxCount
-interval-small k i j h o p = omega (arith, intervals-numbered k .below (record { i = i; j = j }) (record { starts = o; ends = p }), count-small k h)
+interval-small k i j h o p = omega (arith, intervals-numbered k .below (record { i = i; j = j }) (record { starts = o; ends = p }), few-intervals k h)

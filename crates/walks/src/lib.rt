@@ -32,7 +32,7 @@ pub fn visit_at(
 {
     let first = block.first;
     let gate = blocks::gate_at(c, k, all, block, x, p);
-    visits::visit(values, trail, top, first + x, gate)
+    search_gate::visit(values, trail, top, first + x, gate)
 }
 
 // The gate of the triple in place x of a chop's triples, which starts at i, has d steps and is cut after e.
@@ -76,7 +76,7 @@ fn inputs_of(c: u32, k: u32, block: Block, x: u32, v: u32) -> Inputs
     let right = block.right + x;
     match rule {
         Rule::Fixed(up) => Inputs {
-            gate: visits::constant(up),
+            gate: search_gate::constant(up),
             x: v,
             y: v,
         },

@@ -1,35 +1,37 @@
 -- A row weighs what its node's own definitions weigh, since its kind and number tell their rule and how many there are. So the sum over
 -- the rows of nodes that follow each other is what the definitions of these nodes weigh, and in variables it is their blocks.
 use mathlib.Core.Path.{_≡_, refl, sym, ap, ap₂, _∙_, subst}
-use mathlib.Core.Bool.{Bool, cond, true, false, false≢true}
-use mathlib.Core.Logic.{⊎-elim}
+use mathlib.Core.Bool.{Bool, cond, true, false}
 use mathlib.Core.List.{List, [], _∷_, _++_, append-nil}
-use Prim.Native.Nat.{ℕ, zero, suc, _+_, _*_, _%_, _≤_, _<_}
-use native.Mathlib.Nat.{mul-one, suc-mul, zero-add, not-suc-le-zero, eq-or-lt-of-le}
+use Prim.Native.Nat.{ℕ, suc, _+_, _*_, _≤_, _<_}
+use native.Mathlib.Nat.{mul-one, suc-mul, zero-add}
 use native.Mathlib.Numerals.{add-one}
 use native.Mathlib.Decide.{decLt}
 use native.Mathlib.Omega.{arith}
 use lib.ListN.{length, getD, drop}
 use borrow.Author.Tests.{lt-ltb, le-ltb}
-use Rattle.interval.specs.Listing.{sum}
+use Rattle.lists.specs.Listing.{sum}
 use Rattle.interval.specs.Places.{countOf}
 use Rattle.interval.specs.Limits.{maxSteps, maxCount}
 use Rattle.interval.proofs.Fill.{Upto}
+use Rattle.lists.proofs.Listing.{sum-le}
 use Rattle.grammar.specs.Limits.{maxNodes}
 use Rattle.grammar.specs.Trees.{and, or, chop, Tree, constant, letter, negation, pair, duration, throughout}
 use Rattle.grammar.proofs.Written.{drop-front}
 use Rattle.grammar.specs.declared.Sort.{Sort}
 use Rattle.grammar.specs.declared.Sort.the-variants.{State, Formula}
-use Rattle.formula.specs.Nodes.{Node}
+use Rattle.grammar.specs.Nodes.{Node}
 use Rattle.rows.specs.Table.{sortCode, headOf}
+use Rattle.rows.proofs.Forms.{form-of}
 use Rattle.rows.specs.declared.Row.{Row}
 use Rattle.nodes.proofs.Laws.{field-after}
 use Rattle.nodes.proofs.Standing.{column}
 use Rattle.circuit.specs.Circuit.{pointsOf, widthOf, blocksOf, Seats, seatsOf, ownBy, ownOf, definedFrom}
-use Rattle.blocks.specs.Blocks.{numberOf, isChop, rulesFor, ruleOf, ruleBy, definedBy, blockOf}
+use Rattle.blocks.specs.Blocks.{numberOf, isChop, ruleOf, ruleBy, definedBy, blockOf}
 use Rattle.blocks.specs.declared.Rule.{Rule}
-use Rattle.blocks.specs.declared.Rule.the-variants.{Chop, Throughout, Cut}
+use Rattle.blocks.specs.declared.Rule.the-variants.{Chop, Cut}
 use Rattle.blocks.proofs.Positions.{rule-number}
+use Rattle.blocks.proofs.Heads.{rule-head, chop-or-not}
 use Rattle.blocks.proofs.Own.{tripled, own-defined, chop-defined}
 use Rattle.weights.specs.Weights.{weightAll, variableWeight, longerBy, weightBy, Light, Small, pointsBy, rowWeight, weightTo, maxSum, Summed}
 use Rattle.weights.specs.declared.Weight.{Weight}
@@ -46,56 +48,53 @@ module _ (k kind : ℕ) where
   unfolding pointsBy
   points-formula h = rw (le-ltb kind 16 h)
 
+pub points-head : (k : ℕ) {s : Sort} (x : Tree s) → pointsBy k (headOf x .kind) ≡ pointsOf s k
+points-head k {s} x = let (op, h, e, f) = form-of x in ap (pointsBy k) e ∙ go s op h
+  where
+    go : (s : Sort) (op : ℕ) → op < 16 → pointsBy k (sortCode s + op) ≡ pointsOf s k
+    go State op h = sym (points-state k (0 + op) (omega arith))
+    go Formula op h = sym (points-formula k (16 + op) (omega arith))
+
 module _ (w : Weight) (k : ℕ) where
-  -- by the kind less its sort
-  abbrev rowBy : ℕ → ℕ → ℕ → ℕ
-  rowBy points op n = let r = getD (rulesFor n) op Throughout in let own = weightBy w k points r in cond (isChop r) (own + weightBy w k points Cut) own
+  -- by its node's rule
+  abbrev rowBy : ℕ → Rule → ℕ
+  rowBy points r = let own = weightBy w k points r in cond (isChop r) (own + weightBy w k points Cut) own
 
-  row-by : (s : Sort) (op n : ℕ) → op < 16 → rowWeight w k (sortCode s + op) n ≡ rowBy (pointsOf s k) op n
-  unfolding rowWeight ruleBy
-  row-by s op n h = ap₂ (λ (p o : ℕ). rowBy p o n) (points s) (code s)
-    where
-      points : (s : Sort) → pointsBy k (sortCode s + op) ≡ pointsOf s k
-      points State = sym (points-state k (0 + op) (omega arith))
-      points Formula = sym (points-formula k (16 + op) (omega arith))
-
-      code : (s : Sort) → (sortCode s + op) % 16 ≡ op
-      code State = omega arith
-      code Formula = omega arith
+  row-by : {s : Sort} (x : Tree s) → rowWeight w k (headOf x .kind) (headOf x .number) ≡ rowBy (pointsOf s k) (ruleOf x)
+  unfolding rowWeight
+  row-by x = ap₂ (λ (p : ℕ) (r : Rule). rowBy p r) (points-head k x) (rule-head x)
 
   module _ (C b : ℕ) (S : Seats) where
-    own-weight : {s : Sort} (x : Tree s) → (ruleOf x ≡ Chop → ⊥) → weightBy w k (pointsOf s k) (ruleOf x) ≡ weightAll w (ownBy C k b S x)
-    own-weight x n = sym (ap (weightAll w) (own-defined C k b S x n) ∙ block-weight w C k (blockOf k b (S .left) (S .right) x))
+    chop-weight : (x y : Tree Formula) → rowBy (countOf k) Chop ≡ weightAll w (ownBy C k b S (pair chop x y))
+    chop-weight x y =
+        let m = tripled k b (S .left) (S .right) in
+        let n = blockOf k b (b + countOf k) (S .right) (pair chop x y) in
+        omega (arith, ap (weightAll w) (chop-defined C k b S x y), weight-append w (definedBy C k m) (definedBy C k n), block-weight w C k m, block-weight w C k n)
+
+    other-weight : (s : Sort) (x : Tree s) → isChop (ruleOf x) ≡ false → rowBy (pointsOf s k) (ruleOf x) ≡ weightAll w (ownBy C k b S x)
+    other-weight s x n =
+        let own = weightBy w k (pointsOf s k) (ruleOf x) in
+        ap (λ (c : Bool). cond c (own + weightBy w k (pointsOf s k) Cut) own) n
+        ∙ sym (ap (weightAll w) (own-defined C k b S x n) ∙ block-weight w C k (blockOf k b (S .left) (S .right) x))
 
     -- weighs what its node's own definitions weigh
     pub row-weight : {s : Sort} (x : Tree s) → rowWeight w k (headOf x .kind) (headOf x .number) ≡ weightAll w (ownBy C k b S x)
-    row-weight {s} (constant false) = row-by s 0 0 (omega arith) ∙ own-weight {s = s} (constant false) (λ e. false≢true cc)
-    row-weight {s} (constant true) = row-by s 1 0 (omega arith) ∙ own-weight {s = s} (constant true) (λ e. false≢true cc)
-    row-weight (letter c) = row-by State 6 c (omega arith) ∙ own-weight (letter c) (λ e. false≢true cc)
-    row-weight {s} (negation x) = row-by s 2 0 (omega arith) ∙ own-weight (negation x) (λ e. false≢true cc)
-    row-weight {s} (pair and x y) = row-by s 3 0 (omega arith) ∙ own-weight (pair and x y) (λ e. false≢true cc)
-    row-weight {s} (pair or x y) = row-by s 4 0 (omega arith) ∙ own-weight (pair or x y) (λ e. false≢true cc)
-    row-weight (pair chop x y) =
-        let m = tripled k b (S .left) (S .right) in
-        let n = blockOf k b (b + countOf k) (S .right) (pair chop x y) in
-        omega (arith, row-by Formula 5 0 (omega arith), ap (weightAll w) (chop-defined C k b S x y), weight-append w (definedBy C k m) (definedBy C k n), block-weight w C k m, block-weight w C k n)
-    row-weight (duration x n) = row-by Formula 7 n (omega arith) ∙ own-weight (duration x n) (λ e. false≢true cc)
-    row-weight (throughout x) = row-by Formula 8 0 (omega arith) ∙ own-weight (throughout x) (λ e. false≢true cc)
+    row-weight x = row-by x ∙ chop-or-not (λ s x. rowBy (pointsOf s k) (ruleOf x) ≡ weightAll w (ownBy C k b S x)) chop-weight other-weight x
 
 -- in variables, as many as its node's block
-pub row-width : (k : ℕ) {s : Sort} (x : Tree s) → rowWeight variableWeight k (headOf x .kind) (headOf x .number) ≡ widthOf k x
+width-by : (k : ℕ) {s : Sort} (x : Tree s) → rowBy variableWeight k (pointsOf s k) (ruleOf x) ≡ widthOf k x
 unfolding weightBy widthOf
-row-width k {s} (constant false) = row-by variableWeight k s 0 0 (omega arith)
-row-width k {s} (constant true) = row-by variableWeight k s 1 0 (omega arith)
-row-width k (letter c) = row-by variableWeight k State 6 c (omega arith) ∙ mul-one k
-row-width k {s} (negation x) = row-by variableWeight k s 2 0 (omega arith) ∙ mul-one (pointsOf s k)
-row-width k {s} (pair and x y) = row-by variableWeight k s 3 0 (omega arith) ∙ mul-one (pointsOf s k)
-row-width k {s} (pair or x y) = row-by variableWeight k s 4 0 (omega arith) ∙ mul-one (pointsOf s k)
-row-width k (pair chop x y) = row-by variableWeight k Formula 5 0 (omega arith) ∙ omega arith
-row-width k (duration x n) =
-    let e : longerBy k 1 ≡ countOf k = omega (arith, suc-le-count k) in
-    row-by variableWeight k Formula 7 n (omega arith) ∙ omega (arith, ap (λ (m : ℕ). n * m) e, suc-mul n (countOf k))
-row-width k (throughout x) = row-by variableWeight k Formula 8 0 (omega arith) ∙ omega (arith, suc-le-count k)
+width-by k (constant v) = refl
+width-by k (letter c) = mul-one k
+width-by k {s} (negation x) = mul-one (pointsOf s k)
+width-by k {s} (pair and x y) = mul-one (pointsOf s k)
+width-by k {s} (pair or x y) = mul-one (pointsOf s k)
+width-by k (pair chop x y) = omega arith
+width-by k (duration x n) = let e : longerBy k 1 ≡ countOf k = omega (arith, suc-le-count k) in omega (arith, ap (λ (m : ℕ). n * m) e, suc-mul n (countOf k))
+width-by k (throughout x) = omega (arith, suc-le-count k)
+
+pub row-width : (k : ℕ) {s : Sort} (x : Tree s) → rowWeight variableWeight k (headOf x .kind) (headOf x .number) ≡ widthOf k x
+row-width k x = row-by variableWeight k x ∙ width-by k x
 
 -- ---- rows
 
@@ -171,19 +170,14 @@ module _ (w : Weight) (k kind number : ℕ) {points : ℕ} {r : Rule} (p : point
   unfolding rowWeight
   row-other f g h = rw (← p, ← e, ← f, g, ← h) refl
 
-sum-le : (u : ℕ → ℕ) (n i : ℕ) → i ≤ n → sum u i ≤ sum u n
-unfolding sum
-sum-le u zero zero h = omega arith
-sum-le u zero (suc i) h = absurd (not-suc-le-zero h)
-sum-le u (suc n) i h = ⊎-elim (λ (e : i ≡ suc n). omega (arith, ap (sum u) e)) (λ (l : i < suc n). omega (arith, sum-le u n i (omega arith))) (eq-or-lt-of-le h)
-
 module _ (w : Weight) (k : ℕ) (kinds numbers : List ℕ) (start : ℕ) where
   -- the total before the first row, and before the next
   pub total-first : start ≡ start + weightTo w k kinds numbers 0
   unfolding weightTo sum
   total-first = omega arith
 
-  pub total-next : (x : ℕ) {t v : ℕ} → t ≡ start + weightTo w k kinds numbers x → v ≡ rowWeight w k (getD kinds x 0) (getD numbers x 0) → t + v ≡ start + weightTo w k kinds numbers (x + 1)
+  pub total-next : (x : ℕ) {t v : ℕ} → t ≡ start + weightTo w k kinds numbers x → v ≡ rowWeight w k (getD kinds x 0) (getD numbers x 0) →
+      t + v ≡ start + weightTo w k kinds numbers (x + 1)
   total-next x e f = omega (arith, weight-next w k kinds numbers x)
 
   -- all rows are passed

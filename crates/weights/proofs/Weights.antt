@@ -10,12 +10,12 @@ use mir.Val.{Fits}
 use native.Mathlib.Omega.{arith}
 use lib.Dec.{eqb·suc-zero}
 use lib.ListN.{length}
-use Rattle.interval.specs.Listing.{rows, sum}
+use Rattle.lists.specs.Listing.{rows, sum}
 use Rattle.interval.specs.Places.{countOf, tripleCountOf}
 use Rattle.interval.specs.Limits.{maxSteps, maxCount}
-use Rattle.interval.proofs.Listing.{sum-ones, sum-after, sum-linear, sum-times, measure-rows}
+use Rattle.lists.proofs.Listing.{sum-ones, sum-after, sum-linear, sum-times, measure-rows}
 use Rattle.interval.proofs.Shape.{Shape, line, stack, Entry, count, place, per, intervals, triples, length-per}
-use Rattle.interval.proofs.Counts.{intervals-count, triples-count, count-le, triple-count-le}
+use Rattle.interval.proofs.Counts.{intervals-count, triples-count, few-intervals, triple-count-le}
 use Rattle.circuit.specs.Circuit.{Definition, define}
 use Rattle.circuit.specs.declared.Gate.{Gate}
 use Rattle.circuit.specs.declared.Gate.the-variants.{Constant, Copy, Inverse, Both, Either, AnyOf, Step}
@@ -157,19 +157,15 @@ pub points-le : (points c : ℕ) → points ≤ maxCount → c ≤ 11 → points
 points-le points c h g = mul-le-mul {n₂ = maxCount} {m₂ = 11} h g
 
 module _ (k c : ℕ) (h : k ≤ maxSteps) (g : c ≤ 11) where
-  counts : countOf k ≤ maxCount
-  unfolding countOf
-  counts = count-le maxSteps k h
-
   pub longer-le : longerBy k c ≤ maxCount * 12
-  longer-le = omega (arith, points-le (countOf k - suc k) c (omega (arith, counts)) g, suc-le-count k, counts)
+  longer-le = omega (arith, points-le (countOf k - suc k) c (omega (arith, few-intervals k h)) g, suc-le-count k, few-intervals k h)
 
   pub levels-le : (n : ℕ) → n ≤ 255 → countOf k + n * longerBy k c ≤ maxWeight
-  levels-le n l = omega (arith, counts, mul-le-mul {n₁ = n} {n₂ = 255} {m₂ = maxCount * 12} l longer-le)
+  levels-le n l = omega (arith, few-intervals k h, mul-le-mul {n₁ = n} {n₂ = 255} {m₂ = maxCount * 12} l longer-le)
 
   pub triples-le : countOf k + tripleCountOf k * c ≤ maxWeight
   unfolding tripleCountOf
-  triples-le = omega (arith, counts, mul-le-mul {m₂ = 11} (triple-count-le maxSteps k h) g)
+  triples-le = omega (arith, few-intervals k h, mul-le-mul {m₂ = 11} (triple-count-le maxSteps k h) g)
 
 -- a duration's n is its rule's number
 pub level-le : {r : Rule} {n : ℕ} → numberOf r ≤ 255 → r ≡ Duration n → n ≤ 255

@@ -5,7 +5,7 @@ use mathlib.Core.List.{List, [], _∷_}
 use Prim.Native.Nat.{ℕ, suc, _+_, _-_, _*_, _^_, _≤_, _<_}
 use lib.Dec.{ltb}
 use lib.ListN.{length, getD}
-use Rattle.interval.specs.Listing.{sum}
+use Rattle.lists.specs.Listing.{sum}
 use Rattle.interval.specs.Places.{countOf, tripleCountOf}
 use Rattle.interval.specs.Limits.{maxSteps, maxCount}
 use Rattle.grammar.specs.Limits.{maxNodes}

@@ -9,8 +9,7 @@ ghost use lib.ListN.{length};
 ghost use Rattle.moments.specs.Moments.{old, new};
 ghost use Rattle.interval.specs.Limits.{maxSteps, maxCount};
 ghost use Rattle.grammar.specs.Limits.{maxNodes};
-ghost use Rattle.weights.specs.Weights.{variableWeight, clauseWeight, literalWeight, longerBy, weightBy, maxWeight, Light, Small};
-ghost use Rattle.weights.specs.Weights.{pointsBy, rowWeight, Summed};
+ghost use Rattle.weights.specs.Weights.{variableWeight, clauseWeight, literalWeight, longerBy, weightBy, maxWeight, Light, Small, pointsBy, rowWeight, Summed};
 
 // What gates count: of a copy or an inverse, for each input of the others, and of a step.
 pub struct Weight {

@@ -3,32 +3,22 @@
 use mathlib.Core.Path.{_≡_, refl, sym, ap, ap₂, _∙_}
 use mathlib.Core.Bool.{Bool, true, false, not, cond, _&&_, _||_}
 use Prim.Native.Nat.{ℕ, zero, suc, _+_, _-_, _*_, _/_, _%_, _^_, _≤_, _<_}
-use native.Mathlib.Nat.{add-comm, add-zero, mod-lt, mod-one, mod-eq-of-lt, mul-le-mul-right, zero-div, zero-lt-suc}
+use native.Mathlib.Nat.{add-comm, add-zero, mod-lt, mod-one, zero-div}
 use native.Mathlib.Numerals.{one-add}
 use native.Mathlib.Omega.{arith}
-use borrow.Author.Count.{below-more}
 use lib.Dec.{eqb}
-use lib.Pow.{pow-pos, pow-add, shl-exact, shr-shr, high, low, mod-pow-add, field, mod-mod-pow, ones-lt, ones-split}
+use lib.Pow.{pow-pos, shl-exact, shr-shr, high, low, mod-pow-add, ones-lt, ones-split}
 use lib.Bits.{bitAnd, bitOr, bitXor, and-shr, or-shr, xor-shr, and-mod, or-mod, xor-mod, and-high}
 use lib.Count.{ones, onesIn, ones-cat}
 use Rattle.meaning.specs.Meaning.{bitAt, bit, highs}
 use Rattle.meaning.proofs.Laws.{highs-le, highs-agree}
-use Rattle.word.specs.Word.{WordOf, joined}
+use Rattle.meaning.specs.Words.{WordOf}
+use Rattle.meaning.proofs.Words.{digit, high-bit, bit-lt, Packed, packed-add}
+use Rattle.word.specs.Word.{joined}
 
 -- a word's bits: WIDTH of the code
 abbrev pub width : ℕ
 width = 32
-
--- what is 0 or 1 is a bit
-pub as-bit : (x : ℕ) → x < 2 → x ≡ bit (eqb x 1)
-as-bit zero h = refl
-as-bit (suc zero) h = refl
-as-bit (suc (suc x)) h = omega arith
-
--- digit t is 1 where bit t is
-pub digit : (w t : ℕ) → w / 2 ^ t % 2 ≡ bit (bitAt w t)
-unfolding bitAt
-digit w t = as-bit (w / 2 ^ t % 2) (mod-lt (w / 2 ^ t) (zero-lt-suc 1))
 
 ones-bit : (b : Bool) → ones (bit b) ≡ bit b
 unfolding ones onesIn
@@ -62,10 +52,6 @@ ones-window w {i} {j} {x} h e =
 pub word-highs : {k : ℕ} {f : ℕ → Bool} {w : ℕ} (i n : ℕ) → WordOf k f w → i + n ≤ k → highs (bitAt w) i n ≡ highs f i n
 word-highs {k} {f} {w} i n p h = highs-agree (bitAt w) f i n (λ t l m. p .at t (omega arith))
 
-pub high-bit : (b : Bool) → eqb (bit b) 1 ≡ b
-high-bit true = refl
-high-bit false = refl
-
 -- an operation on numbers that goes digit by digit, and the operation on truths that it does on each
 module _ (op : ℕ → ℕ → ℕ) (o : Bool → Bool → Bool)
     (shr : (a b t : ℕ) → op a b / 2 ^ t ≡ op (a / 2 ^ t) (b / 2 ^ t)) (rem : (a b n : ℕ) → op a b % 2 ^ n ≡ op (a % 2 ^ n) (b % 2 ^ n))
@@ -83,37 +69,6 @@ module _ (op : ℕ → ℕ → ℕ) (o : Bool → Bool → Bool)
         ap (λ (x : ℕ). eqb x 1) (ap (λ (x : ℕ). x % 2) (shr a b t) ∙ rem (a / 2 ^ t) (b / 2 ^ t) 1 ∙ ap₂ op (digit a t) (digit b t) ∙ on-bits (bitAt a t) (bitAt b t))
         ∙ high-bit (o (bitAt a t) (bitAt b t)) ∙ ap₂ o (p .at t h) (q .at t h);
   }
-
--- the digits below n are those of the remainder
-below : (x n t : ℕ) → t < n → bitAt (x % 2 ^ n) t ≡ bitAt x t
-unfolding bitAt
-below x n t h =
-    let j : ℕ = n - t - 1 in
-    let e : n ≡ j + 1 + t = omega arith in
-    ap (λ (y : ℕ). eqb (y % 2) 1) (ap (λ (m : ℕ). x % 2 ^ m / 2 ^ t) e ∙ field x (j + 1) t) ∙ ap (λ (y : ℕ). eqb y 1) (mod-mod-pow (x / 2 ^ t) j 1)
-
-pub bit-lt : (b : Bool) → bit b < 2
-bit-lt true = omega arith
-bit-lt false = omega arith
-
--- w is the word of f's first k instants, and has nothing beyond them
-abbrev pub Packed : ℕ → (ℕ → Bool) → ℕ → Type 0
-Packed k f w = (w < 2 ^ k) × WordOf k f w
-
--- one instant more
-pub packed-add : (k : ℕ) {f : ℕ → Bool} {w : ℕ} → Packed k f w → Packed (k + 1) f (w + bit (f k) * 2 ^ k)
-unfolding bitAt
-packed-add k {f} {w} p =
-    let b : ℕ = bit (f k) in
-    let y : ℕ = b * 2 ^ k + w in
-    rw (add-comm w (b * 2 ^ k)) (
-      omega (arith, p .0, pow-add 2 k 1, mul-le-mul-right {m = b} {n = 1} (2 ^ k) (omega (arith, bit-lt (f k)))),
-      record {
-        at = below-more (λ (t : ℕ). bitAt y t ≡ f t) k
-            (λ t l. sym (below y k t l) ∙ ap (λ (d : ℕ). bitAt d t) (low b k (p .0)) ∙ p .1 .at t l)
-            (ap (λ (d : ℕ). eqb d 1) (ap (λ (d : ℕ). d % 2) (high b k (p .0)) ∙ mod-eq-of-lt (bit-lt (f k))) ∙ high-bit (f k));
-      },
-    )
 
 -- in n bits
 pub packed-more : (n k : ℕ) {f : ℕ → Bool} {w x : ℕ} → k < n → x ≡ bit (f k) → Packed k f w → Packed (k + 1) f (w + x * 2 ^ k % 2 ^ n)

@@ -1,16 +1,10 @@
--- A truth at each instant as one number, and what `&` and `|` make of their parts. Nothing here need be believed: no call open to others
--- cites it.
+-- The words of the first instants, and what `&` and `|` make of their parts. Nothing here need be believed: no call open to others cites it.
 use mathlib.Core.Path.{_≡_}
 use mathlib.Core.Bool.{Bool, cond, _&&_, _||_}
 use mathlib.Core.List.{List}
-use Prim.Native.Nat.{ℕ, _-_, _^_, _≤_, _<_}
+use Prim.Native.Nat.{ℕ, _-_, _^_, _≤_}
 use lib.ListN.{getD}
 use Rattle.interval.specs.Limits.{maxSteps}
-use Rattle.meaning.specs.Meaning.{bitAt}
-
--- w has, at each instant below k, 1 where f is true
-pub record WordOf (k : ℕ) (f : ℕ → Bool) (w : ℕ) : Type 0 where
-  pub at : (t : ℕ) → t < k → bitAt w t ≡ f t
 
 -- for each n the word of the instants before n
 pub record Lows (lows : List ℕ) : Type 0 where

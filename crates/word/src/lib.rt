@@ -8,7 +8,8 @@ ghost use Rattle.moments.specs.Moments.{old};
 ghost use Rattle.interval.specs.Limits.{maxSteps};
 ghost use Rattle.grammar.specs.Limits.{maxChannels};
 ghost use Rattle.meaning.specs.Meaning.{bit, bitAt, channelAt, highs};
-ghost use Rattle.word.specs.Word.{WordOf, Lows, joined};
+ghost use Rattle.meaning.specs.Words.{WordOf};
+ghost use Rattle.word.specs.Word.{Lows, joined};
 
 // A word's bits. The contracts are over the most steps, so that these must fit.
 pub const WIDTH: usize = 32;

@@ -3,7 +3,6 @@
 //! is read-only, so there a byte written anywhere is one.
 
 use std::ffi::{c_char, c_int, c_uint, c_void};
-use std::mem::size_of;
 use std::ptr::null_mut;
 
 extern "C" {
@@ -33,21 +32,23 @@ pub enum Side {
 impl Side {
     pub const BOTH: [Side; 2] = [Side::Start, Side::End];
 
-    /// Where so many places begin in a room.
-    fn first(self, places: usize, room: usize) -> usize {
-        assert!(places <= room);
+    /// Where so many bytes begin in the room.
+    fn first(self, bytes: usize) -> usize {
+        assert!(bytes <= ROOM);
         match self {
             Side::Start => 0,
-            Side::End => room - places,
+            Side::End => ROOM - bytes,
         }
     }
 }
 
+/// More bytes than any array has that is tried, but for those of `vast`: the file of the largest table has 26,632,090.
+const ROOM: usize = 30_000_000_usize.next_multiple_of(PAGES);
+
 /// One memory seen twice: here it is filled, there it is lent.
-pub struct Fence<T> {
-    filled: *mut T,
-    lent: *const T,
-    room: usize,
+pub struct Fence {
+    filled: *mut u8,
+    lent: *const u8,
 }
 
 fn map(at: *mut u8, length: usize, rights: c_int, flags: c_int, file: c_int) -> *mut u8 {
@@ -71,53 +72,38 @@ fn memory_file(length: usize) -> c_int {
     file
 }
 
-impl<T: Copy> Fence<T> {
-    /// Room for this many places, of which a page is only there once it is used.
-    pub fn new(room: usize) -> Self {
-        let length = (room * size_of::<T>()).next_multiple_of(PAGES);
-        let file = memory_file(length);
-        let filled = map(null_mut(), length, READ | WRITE, SHARED, file);
-        let lent = map(between_fences(length), length, READ, SHARED | FIXED, file);
-        Fence { filled: filled.cast(), lent: lent.cast(), room: length / size_of::<T>() }
+impl Fence {
+    /// Of its room a page is only there once it is used.
+    pub fn new() -> Self {
+        let file = memory_file(ROOM);
+        let filled = map(null_mut(), ROOM, READ | WRITE, SHARED, file);
+        let lent = map(between_fences(ROOM), ROOM, READ, SHARED | FIXED, file);
+        Fence { filled, lent }
     }
 
     /// Lends a copy of the values on a side. (Nothing, lent on a side, is an address in or beside the
     /// fence, and not null.)
-    pub fn lend(&mut self, values: &[T], side: Side) -> *const T {
-        let at = side.first(values.len(), self.room);
+    pub fn lend<T: Copy>(&mut self, values: &[T], side: Side) -> *const T {
+        let at = side.first(size_of_val(values));
         // SAFETY: within the room, which no reference points to.
-        unsafe { self.filled.add(at).copy_from_nonoverlapping(values.as_ptr(), values.len()) };
-        self.lent.wrapping_add(at)
+        unsafe { self.filled.add(at).cast::<T>().copy_from_nonoverlapping(values.as_ptr(), values.len()) };
+        self.lent.wrapping_add(at).cast()
     }
 }
 
 /// Memory to be written, of numbers that any bytes are.
-pub struct Output<T> {
-    lent: *mut T,
-    room: usize,
-}
+pub struct Output(*mut u8);
 
-impl<T: Copy> Output<T> {
-    /// Room for this many places, of which a page is only there once it is used.
-    pub fn new(room: usize) -> Self {
-        let length = (room * size_of::<T>()).next_multiple_of(PAGES);
+impl Output {
+    /// Of its room a page is only there once it is used.
+    pub fn new() -> Self {
         let flags = PRIVATE | FIXED | ANONYMOUS | NO_RESERVE;
-        let lent = map(between_fences(length), length, READ | WRITE, flags, -1);
-        Output { lent: lent.cast(), room: length / size_of::<T>() }
-    }
-
-    /// Lends so many places on a side, each of them filled.
-    pub fn lend(&mut self, length: usize, fill: T, side: Side) -> &mut [T] {
-        let lent = self.lend_again(length, side);
-        lent.fill(fill);
-        lent
+        Output(map(between_fences(ROOM), ROOM, READ | WRITE, flags, -1))
     }
 
     /// Lends so many places on a side with what was left there.
-    pub fn lend_again(&mut self, length: usize, side: Side) -> &mut [T] {
-        let at = side.first(length, self.room);
-        // SAFETY: within the room, which holds numbers throughout, and nothing else points to.
-        unsafe { std::slice::from_raw_parts_mut(self.lent.add(at), length) }
+    pub fn lend<T: Copy>(&mut self, length: usize, side: Side) -> *mut T {
+        self.0.wrapping_add(side.first(length * size_of::<T>())).cast()
     }
 }
 

@@ -1,74 +1,56 @@
-//! What is lent to a call, on a side of a fence, and what of it is compared afterwards.
+//! What is lent to a call, on a side of the fences, and what of it is compared afterwards.
 
 use std::ptr::{null, null_mut};
 
 use crate::fence::{Fence, Output, Side};
-use crate::reference::{packed, Answer, Refusal};
-use crate::table::Table;
 
-/// More literals than the largest table has.
-pub const TABLE_ROOM: usize = 6_000_000;
-
-/// What a call should come to: its answer, and what it writes.
-pub struct Wanted {
-    pub answer: Answer,
-    pub written: Written,
+/// Lends the arrays of a call one after another, each between fences of its own.
+pub struct Lender {
+    side: Side,
+    to_read: Vec<Fence>,
+    to_write: Vec<Output>,
+    /// How many are lent.
+    read: usize,
+    written: usize,
 }
 
-pub enum Written {
-    Nothing,
-    Table(Table),
-    File(Vec<u8>),
-    Assignment(Vec<u8>),
-    Recording(Vec<u8>),
-}
-
-impl From<Answer> for Wanted {
-    fn from(answer: Answer) -> Self {
-        Wanted { answer, written: Written::Nothing }
+impl Lender {
+    pub fn new() -> Self {
+        Lender { side: Side::Start, to_read: vec![], to_write: vec![], read: 0, written: 0 }
     }
-}
 
-impl From<Result<Written, Refusal>> for Wanted {
-    fn from(result: Result<Written, Refusal>) -> Self {
-        match result {
-            Ok(written @ Written::Recording(_)) => Wanted { answer: (67, 0), written },
-            Ok(written) => Wanted { answer: (66, 0), written },
-            Err(refusal) => packed(Err(refusal)).into(),
+    /// For one call: all that was lent before is given back.
+    pub fn begin(&mut self, side: Side) {
+        (self.side, self.read, self.written) = (side, 0, 0);
+    }
+
+    /// A copy of these values, to be read. None are null on the one side, and the fence itself on the other.
+    pub fn lend<T: Copy>(&mut self, values: &[T]) -> *const T {
+        if self.read == self.to_read.len() {
+            self.to_read.push(Fence::new());
         }
-    }
-}
-
-impl Wanted {
-    pub fn table(&self) -> Option<&Table> {
-        match &self.written {
-            Written::Table(table) => Some(table),
-            _ => None,
+        self.read += 1;
+        match self.side {
+            Side::Start if values.is_empty() => null(),
+            side => self.to_read[self.read - 1].lend(values, side),
         }
     }
 
-    /// Of a call that writes one array of bytes.
-    pub fn bytes(&self) -> &[u8] {
-        match &self.written {
-            Written::File(bytes) | Written::Assignment(bytes) | Written::Recording(bytes) => bytes,
-            Written::Nothing | Written::Table(_) => &[],
-        }
+    /// Places to be written, each of them filled.
+    pub fn output<T: Number>(&mut self, length: usize) -> Places<T> {
+        let mut places = self.left(length);
+        places.all().fill(T::of(fill(self.side)));
+        places
     }
-}
 
-pub fn unpacked(answer: u64) -> Answer {
-    (answer as u32, (answer >> 32) as u32)
-}
-
-pub fn wrong_answer(got: Answer, wanted: &Wanted) -> Option<String> {
-    let wanted = wanted.answer;
-    (got != wanted).then(|| format!("answered {got:?}, wanted {wanted:?} (code, value)"))
-}
-
-/// The same for several calls whose answers have the value 0.
-pub fn wrong_answers<const N: usize>(answers: [u64; N], wanted: [u32; N]) -> Option<String> {
-    let (answers, wanted) = (answers.map(unpacked), wanted.map(|code| (code, 0)));
-    (answers != wanted).then(|| format!("answered {answers:?}, wanted {wanted:?}"))
+    /// Places with what was left there by a call before.
+    pub fn left<T: Number>(&mut self, length: usize) -> Places<T> {
+        if self.written == self.to_write.len() {
+            self.to_write.push(Output::new());
+        }
+        self.written += 1;
+        Places { first: self.to_write[self.written - 1].lend(length, self.side), length, side: self.side }
+    }
 }
 
 /// What outputs are filled with: not the same on either side, so that what goes by it differs, and a place that is not
@@ -80,8 +62,57 @@ pub fn fill(side: Side) -> u8 {
     }
 }
 
-/// The first place of an array that is not what was wanted there, or beyond that not what it was filled with.
-pub fn wrong_places<T: Copy + PartialEq + std::fmt::Display>(name: &str, got: &[T], wanted: &[T], fill: T) -> Option<String> {
+/// A number that any bytes are.
+pub trait Number: Copy + PartialEq + std::fmt::Display {
+    /// All of its bytes are this one.
+    fn of(byte: u8) -> Self;
+}
+
+impl Number for u8 {
+    fn of(byte: u8) -> Self {
+        byte
+    }
+}
+
+impl Number for u32 {
+    fn of(byte: u8) -> Self {
+        u32::from_ne_bytes([byte; 4])
+    }
+}
+
+/// Places that are lent until the lender begins anew.
+pub struct Places<T> {
+    first: *mut T,
+    length: usize,
+    side: Side,
+}
+
+impl<T: Number> Places<T> {
+    /// What a call is handed.
+    pub fn start(&mut self) -> *mut T {
+        match self.side {
+            Side::Start if self.length == 0 => null_mut(),
+            _ => self.first,
+        }
+    }
+
+    pub fn all(&mut self) -> &mut [T] {
+        // SAFETY: an output of so many places, lent once, and between fences as long as the lender lives.
+        unsafe { std::slice::from_raw_parts_mut(self.first, self.length) }
+    }
+
+    pub fn now(&self) -> &[T] {
+        // SAFETY: as above.
+        unsafe { std::slice::from_raw_parts(self.first, self.length) }
+    }
+
+    /// The first place that is not what was wanted there, or beyond that not what it was filled with.
+    pub fn wrong(&self, name: &str, wanted: &[T]) -> Option<String> {
+        wrong_places(name, self.now(), wanted, T::of(fill(self.side)))
+    }
+}
+
+pub fn wrong_places<T: Number>(name: &str, got: &[T], wanted: &[T], fill: T) -> Option<String> {
     let (written, beyond) = got.split_at(wanted.len());
     if written == wanted && beyond.iter().all(|value| *value == fill) {
         return None;
@@ -92,73 +123,4 @@ pub fn wrong_places<T: Copy + PartialEq + std::fmt::Display>(name: &str, got: &[
         Some(value) => format!("{name}[{at}] is {}, wanted {value}", got[at]),
         None => format!("{name}[{at}] is written ({}), and should not be", got[at]),
     })
-}
-
-/// No values are null on the one side, and the fence itself on the other.
-pub fn lend<T: Copy>(fence: &mut Fence<T>, values: &[T], side: Side) -> *const T {
-    match side {
-        Side::Start if values.is_empty() => null(),
-        _ => fence.lend(values, side),
-    }
-}
-
-/// The same for places to be written.
-pub fn start<T>(places: &mut [T], side: Side) -> *mut T {
-    match side {
-        Side::Start if places.is_empty() => null_mut(),
-        _ => places.as_mut_ptr(),
-    }
-}
-
-/// Room for a table to be written.
-pub struct TableOutput {
-    sizes: Output<u32>,
-    variables: Output<u32>,
-    marks: Output<u8>,
-}
-
-/// The three arrays that are lent for a table.
-pub struct LentTable<'a> {
-    pub sizes: &'a mut [u32],
-    pub variables: &'a mut [u32],
-    pub marks: &'a mut [u8],
-    fill: u8,
-}
-
-impl TableOutput {
-    pub fn new() -> Self {
-        TableOutput { sizes: Output::new(TABLE_ROOM), variables: Output::new(TABLE_ROOM), marks: Output::new(TABLE_ROOM) }
-    }
-
-    pub fn lend(&mut self, [sizes, variables, marks]: [usize; 3], side: Side) -> LentTable<'_> {
-        let fill = fill(side);
-        let number = u32::from_ne_bytes([fill; 4]);
-        LentTable {
-            sizes: self.sizes.lend(sizes, number, side),
-            variables: self.variables.lend(variables, number, side),
-            marks: self.marks.lend(marks, fill, side),
-            fill,
-        }
-    }
-}
-
-impl LentTable<'_> {
-    /// The table that was written.
-    pub fn table(&self) -> Table {
-        let sizes = *self.sizes.first_chunk().expect("five sizes");
-        let l = sizes[4] as usize;
-        Table { sizes, variables: self.variables[..l].to_vec(), marks: self.marks[..l].to_vec() }
-    }
-
-    /// Every place is compared, those that are written and those that are not.
-    pub fn wrong(&self, wanted: Option<&Table>) -> Option<String> {
-        let number = u32::from_ne_bytes([self.fill; 4]);
-        let (sizes, variables, marks): (&[u32], &[u32], &[u8]) = match wanted {
-            Some(table) => (&table.sizes, &table.variables, &table.marks),
-            None => (&[], &[], &[]),
-        };
-        wrong_places("sizes", self.sizes, sizes, number)
-            .or_else(|| wrong_places("variables", self.variables, variables, number))
-            .or_else(|| wrong_places("marks", self.marks, marks, self.fill))
-    }
 }

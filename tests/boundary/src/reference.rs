@@ -1,4 +1,4 @@
-//! Document 01 written down a second time, from the paper alone: plain, slow and unlike an engine.
+//! What of document 01 the calls share, written down a second time from the paper alone: plain, slow and unlike an engine.
 //! Trees are boxed, meaning is direct recursion over [i, j] and instants, and the place of question 4
 //! is found by its own definition. What it shares with the engine is the paper.
 
@@ -7,14 +7,6 @@ pub type Answer = (u32, u32);
 
 /// A question's number and the place.
 pub type Refusal = (u32, usize);
-
-pub fn evaluate(text: &[u8], c: u32, k: u32, i: u32, j: u32, recording: &[u8]) -> Answer {
-    packed(evaluated(text, c, k, i, j, recording))
-}
-
-pub fn node_text(text: &[u8], c: u32, k: u32, node: u32) -> Answer {
-    packed(node_found(text, c, k, node))
-}
 
 pub fn packed(answer: Result<Answer, Refusal>) -> Answer {
     answer.unwrap_or_else(|(number, place)| (number, place as u32))
@@ -48,25 +40,10 @@ pub fn accepted(text: &[u8], c: u32, k: u32) -> Result<Reading, Refusal> {
     Ok(reading)
 }
 
-fn node_found(text: &[u8], c: u32, k: u32, node: u32) -> Result<Answer, Refusal> {
-    let nodes = accepted(text, c, k)?.nodes;
-    yes(1 <= node && node as usize <= nodes.len(), 8)?;
-    let (start, length) = nodes[node as usize - 1];
-    Ok((71, (start + 256 * length) as u32))
-}
-
 /// Questions 10 and 11.
 pub fn recorded(recording: &[u8], c: u32, k: u32) -> Result<(), Refusal> {
     yes(recording.len() == k as usize, 10)?;
     none(11, (0..recording.len()).filter(|t| u32::from(recording[*t]) >= 1 << c))
-}
-
-fn evaluated(text: &[u8], c: u32, k: u32, i: u32, j: u32, recording: &[u8]) -> Result<Answer, Refusal> {
-    let reading = accepted(text, c, k)?;
-    yes(i <= j && j <= k, 9)?;
-    recorded(recording, c, k)?;
-    let holds = Meaning::new(recording, reading.formulas).holds(&reading.root, i as usize, j as usize);
-    Ok((if holds { 65 } else { 64 }, 0))
 }
 
 // Formula text
@@ -97,7 +74,7 @@ pub enum Kind {
 pub struct Reading {
     pub root: Formula,
     pub formulas: usize,
-    nodes: Vec<(usize, usize)>,
+    pub nodes: Vec<(usize, usize)>,
     letters: Vec<(usize, u32)>,
     numbers: Vec<(usize, u64)>,
 }

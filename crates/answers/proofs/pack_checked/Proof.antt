@@ -6,18 +6,6 @@ use borrow.Author.Needs.{needs}
 use Rattle.answers.proofs.pack_checked.Statement.{statement}
 use Rattle.answers.proofs.pack_checked.Tie as tie
 
-enum-told : tie.Need-enum-told
-enum-told c = search needs
-
-pack-requires : tie.Need-pack-requires
-pack-requires c κs = search needs
-
-enum-known-a : tie.Need-enum-known-a
-enum-known-a c = search needs
-
-pack-refusal-requires : tie.Need-pack-refusal-requires
-pack-refusal-requires c κs = search needs
-
 returns : tie.Need-returns
 unfolding packChecked
 returns c = c .pack .ensures ∙ sym (ap packChecked (c .before .enum-told .given .1))
@@ -28,4 +16,4 @@ returns-2 c = c .pack-refusal .ensures ∙ sym (ap packChecked (c .before .befor
 
 pub pack-checked-spec : {M : Type 1} → statement M
 pack-checked-spec =
-    tie.close (tie.spec enum-told pack-requires enum-known-a pack-refusal-requires returns returns-2)
+    tie.close (tie.spec (λ c. search needs) (λ c κs. search needs) (λ c. search needs) (λ c κs. search needs) returns returns-2)

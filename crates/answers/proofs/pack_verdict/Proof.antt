@@ -6,24 +6,6 @@ use borrow.Author.Needs.{needs}
 use Rattle.answers.proofs.pack_verdict.Statement.{statement}
 use Rattle.answers.proofs.pack_verdict.Tie as tie
 
-enum-told : tie.Need-enum-told
-enum-told c = search needs
-
-pack-requires : tie.Need-pack-requires
-pack-requires c κs = search needs
-
-enum-told-2 : tie.Need-enum-told-2
-enum-told-2 c = search needs
-
-pack-requires-2 : tie.Need-pack-requires-2
-pack-requires-2 c κs = search needs
-
-enum-known-a : tie.Need-enum-known-a
-enum-known-a c = search needs
-
-pack-refusal-requires : tie.Need-pack-refusal-requires
-pack-refusal-requires c κs = search needs
-
 returns : tie.Need-returns
 unfolding packVerdict
 returns c = c .pack .ensures ∙ sym (ap packVerdict (c .before .enum-told .given .1))
@@ -40,12 +22,12 @@ pub pack-verdict-spec : {M : Type 1} → statement M
 pack-verdict-spec =
     tie.close
     (tie.spec
-    enum-told
-    pack-requires
-    enum-told-2
-    pack-requires-2
-    enum-known-a
-    pack-refusal-requires
+    (λ c. search needs)
+    (λ c κs. search needs)
+    (λ c. search needs)
+    (λ c κs. search needs)
+    (λ c. search needs)
+    (λ c κs. search needs)
     returns
     returns-2
     returns-3)

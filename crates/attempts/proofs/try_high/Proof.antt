@@ -6,37 +6,26 @@ use Rattle.attempts.proofs.Attempts.{undone-ready, undone-tried}
 use Rattle.attempts.proofs.try_high.Statement.{statement}
 use Rattle.attempts.proofs.try_high.Tie as tie
 
-undo-requires : tie.Need-undo-requires
-undo-requires c κs = search needs
-
-mul-v : tie.Need-mul-v
-mul-v c = search needs
-
-slice-read-v : tie.Need-slice-read-v
-slice-read-v c = search needs
+-- the places that the needs speak of
+abbrev after-undo : tie.After-try-literal-arg2 → tie.After-undo
+after-undo c = c .before .before .before .before .before
 
 try-literal-requires : tie.Need-try-literal-requires
 try-literal-requires c κs =
-    let p = c .before .before .before .before .before .before .before .before .before .before .before .before .pre in let u = c .before .before .before .before .before .undo in
+    let undo = after-undo c in let p = undo .before .before .before .before .before .before .before .pre in let u = undo .undo in
     ((ground-still (u .kept .0) (p .0 .0), p .0 .1), undone-ready (u .ensures) (p .1))
 
-same-length : tie.Need-same-length
-same-length c = search needs
-
-same-length-2 : tie.Need-same-length-2
-same-length-2 c = search needs
-
 returns : tie.Need-returns
-returns c = undone-tried (c .before .before .before .before .before .before .before .before .before .before .undo .ensures) (c .before .before .before .before .try-literal .ensures)
+returns c = let t = c .before .before .before .before in undone-tried (after-undo (t .before) .undo .ensures) (t .try-literal .ensures)
 
 pub try-high-spec : {M : Type 1} → statement M
 try-high-spec =
     tie.close
     (tie.spec
-    undo-requires
-    mul-v
-    slice-read-v
+    (λ c κs. search needs)
+    (λ c. search needs)
+    (λ c. search needs)
     try-literal-requires
-    same-length
-    same-length-2
+    (λ c. search needs)
+    (λ c. search needs)
     returns)

@@ -8,65 +8,29 @@ use borrow.Author.Needs.{needs}
 use Rattle.blocks.proofs.gate_at.Statement.{statement}
 use Rattle.blocks.proofs.gate_at.Tie as tie
 
-enum-known-rule : tie.Need-enum-known-rule
-enum-known-rule c = search needs
-
-enum-known-rule-2 : tie.Need-enum-known-rule-2
-enum-known-rule-2 c = search needs
+-- the places that the needs speak of
+abbrev start : tie.After-enum-told4 → tie.Start
+start c = c .before .before
 
 channel-variable-requires : tie.Need-channel-variable-requires
-channel-variable-requires c κs = let s = c .before .before .before in
-    omega (arith, letter-fits (c .before .rule2 .given .1) (s .pre .0 .0 .number), s .pre .0 .0 .channels, s .pre .0 .1)
-
-enum-told : tie.Need-enum-told
-enum-told c = search needs
-
-add-t15 : tie.Need-add-t15
-add-t15 c = search needs
-
-enum-told-2 : tie.Need-enum-told-2
-enum-told-2 c = search needs
-
-add-t16 : tie.Need-add-t16
-add-t16 c = search needs
-
-add-t17 : tie.Need-add-t17
-add-t17 c = search needs
-
-enum-told-3 : tie.Need-enum-told-3
-enum-told-3 c = search needs
-
-add-t18 : tie.Need-add-t18
-add-t18 c = search needs
-
-add-t19 : tie.Need-add-t19
-add-t19 c = search needs
-
-enum-told-4 : tie.Need-enum-told-4
-enum-told-4 c = search needs
+channel-variable-requires c κs =
+    let s = c .before .before .before in omega (arith, letter-fits (c .before .rule2 .given .1) (s .pre .0 .0 .number), s .pre .0 .0 .channels, s .pre .0 .1)
 
 add-t20 : tie.Need-add-t20
-add-t20 c = let s = c .before .before .before in omega (arith, chop-before (s .args .p) (s .pre .1 .0) (s .pre .1 .1 (c .before .enum-told4 .given .1)) (c .before .enum-told4 .given .1) (s .pre .0 .0 .steps), s .pre .0 .0 .left)
+add-t20 c =
+    let e = c .before in let s = start e in
+    omega (arith, chop-before (s .args .p) (s .pre .1 .0) (s .pre .1 .1 (e .enum-told4 .given .1)) (e .enum-told4 .given .1) (s .pre .0 .0 .steps), s .pre .0 .0 .left)
 
 add-t21 : tie.Need-add-t21
-add-t21 c = let s = c .before .before .before .before in omega (arith, chop-position (s .pre .1 .0) (c .before .before .enum-told4 .given .1), s .pre .0 .0 .steps)
-
-enum-told-5 : tie.Need-enum-told-5
-enum-told-5 c = search needs
+add-t21 c = let e = c .before .before in let s = start e in omega (arith, chop-position (s .pre .1 .0) (e .enum-told4 .given .1), s .pre .0 .0 .steps)
 
 level-gate-requires : tie.Need-level-gate-requires
-level-gate-requires c κs = let s = c .before .before in
-    let p = level-position (s .pre .1 .0) (c .enum-told5 .given .1) in
+level-gate-requires c κs =
+    let s = c .before .before in let p = level-position (s .pre .1 .0) (c .enum-told5 .given .1) in
     (s .pre .0 .0 .steps, s .pre .0 .2, s .pre .0 .0 .first, s .pre .0 .0 .left, omega arith, p .0, p .1)
-
-enum-told-6 : tie.Need-enum-told-6
-enum-told-6 c = search needs
 
 throughout-gate-requires : tie.Need-throughout-gate-requires
 throughout-gate-requires c κs = omega (arith, throughout-position (c .before .before .pre .1 .0) (c .enum-told6 .given .1))
-
-enum-told-7 : tie.Need-enum-told-7
-enum-told-7 c = search needs
 
 triple-gate-requires : tie.Need-triple-gate-requires
 triple-gate-requires c κs = omega (arith, triple-position (c .before .before .pre .1 .0) (c .enum-told7 .given .1))
@@ -87,8 +51,8 @@ returns-5 : tie.Need-returns-5
 returns-5 c = gate-by _ _ _ _ _ _ _ (c .enum-told3 .given .1)
 
 returns-6 : tie.Need-returns-6
-returns-6 c = let s = c .before .before .before .before in
-    let e = c .before .before .enum-told4 .given .1 in
+returns-6 c =
+    let et = c .before .before in let s = start et in let e = et .enum-told4 .given .1 in
     ap₂ AnyOf (omega (arith, chop-before (s .args .p) (s .pre .1 .0) (s .pre .1 .1 e) e (s .pre .0 .0 .steps))) (omega arith) ∙ gate-by _ _ _ _ _ _ _ e
 
 returns-7 : tie.Need-returns-7
@@ -104,25 +68,25 @@ pub gate-at-spec : {M : Type 1} → statement M
 gate-at-spec =
     tie.close
     (tie.spec
-    enum-known-rule
-    enum-known-rule-2
+    (λ c. search needs)
+    (λ c. search needs)
     channel-variable-requires
-    enum-told
-    add-t15
-    enum-told-2
-    add-t16
-    add-t17
-    enum-told-3
-    add-t18
-    add-t19
-    enum-told-4
+    (λ c. search needs)
+    (λ c. search needs)
+    (λ c. search needs)
+    (λ c. search needs)
+    (λ c. search needs)
+    (λ c. search needs)
+    (λ c. search needs)
+    (λ c. search needs)
+    (λ c. search needs)
     add-t20
     add-t21
-    enum-told-5
+    (λ c. search needs)
     level-gate-requires
-    enum-told-6
+    (λ c. search needs)
     throughout-gate-requires
-    enum-told-7
+    (λ c. search needs)
     triple-gate-requires
     returns
     returns-2

@@ -6,6 +6,10 @@ use borrow.Author.Needs.{needs}
 use Rattle.blocks.proofs.level_gate.Statement.{statement}
 use Rattle.blocks.proofs.level_gate.Tie as tie
 
+-- the places that the needs speak of
+abbrev start : tie.Else2 → tie.Start
+start c = c .before .before
+
 returns : tie.Need-returns
 returns c = simp (eq-eqb _ _ (c .if1 .taken))
 
@@ -13,28 +17,13 @@ returns-2 : tie.Need-returns-2
 returns-2 c = simp (ne-eqb _ _ (c .before .if1 .left), eq-eqb _ _ (c .if2 .taken))
 
 sub-p : tie.Need-sub-p
-sub-p c = omega (arith, c .before .before .pre .6 (omega (arith, c .before .if1 .left)) (omega (arith, c .if2 .left)))
+sub-p c = omega (arith, start c .pre .6 (omega (arith, c .before .if1 .left)) (omega (arith, c .if2 .left)))
 
 sub-q : tie.Need-sub-q
-sub-q c = omega (arith, c .before .before .pre .6 (omega (arith, c .before .if1 .left)) (omega (arith, c .if2 .left)))
-
-add-t12 : tie.Need-add-t12
-add-t12 c = search needs
-
-add-t13 : tie.Need-add-t13
-add-t13 c = search needs
-
-sub-t14 : tie.Need-sub-t14
-sub-t14 c = search needs
-
-add-t15 : tie.Need-add-t15
-add-t15 c = search needs
-
-add-t16 : tie.Need-add-t16
-add-t16 c = search needs
+sub-q c = omega (arith, start c .pre .6 (omega (arith, c .before .if1 .left)) (omega (arith, c .if2 .left)))
 
 returns-3 : tie.Need-returns-3
-returns-3 c = simp (ne-eqb _ _ (c .before .if1 .left), ne-eqb _ _ (c .if2 .left), c .before .before .pre .1)
+returns-3 c = simp (ne-eqb _ _ (c .before .if1 .left), ne-eqb _ _ (c .if2 .left), start c .pre .1)
 
 pub level-gate-spec : {M : Type 1} → statement M
 level-gate-spec =
@@ -44,9 +33,9 @@ level-gate-spec =
     returns-2
     sub-p
     sub-q
-    add-t12
-    add-t13
-    sub-t14
-    add-t15
-    add-t16
+    (λ c. search needs)
+    (λ c. search needs)
+    (λ c. search needs)
+    (λ c. search needs)
+    (λ c. search needs)
     returns-3)

@@ -35,7 +35,10 @@ returns-8 : tie.Need-returns-8
 returns-8 c = rule-at _ _ (c .match .keys8)
 
 returns-9 : tie.Need-returns-9
-returns-9 c = let q = c .match .rest in rule-beyond _ _ (up (up (up (up (up (up (up (up zero-le (q .0 .0 .0 .0 .0 .0 .0 .1)) (q .0 .0 .0 .0 .0 .0 .1)) (q .0 .0 .0 .0 .0 .1)) (q .0 .0 .0 .0 .1)) (q .0 .0 .0 .1)) (q .0 .0 .1)) (q .0 .1)) (q .1))
+returns-9 c =
+    let q = c .match .rest in
+    rule-beyond _ _ (up (up (up (up (up (up (up (up zero-le (q .0 .0 .0 .0 .0 .0 .0 .1)) (q .0 .0 .0 .0 .0 .0 .1)) (q .0 .0 .0 .0 .0 .1))
+    (q .0 .0 .0 .0 .1)) (q .0 .0 .0 .1)) (q .0 .0 .1)) (q .0 .1)) (q .1))
 
 pub rule-of-spec : {M : Type 1} → statement M
 rule-of-spec =

@@ -19,91 +19,65 @@ Inv-loop row₀ p q nexts k i start d₀ row d = Chopping k i start p q nexts d 
 abbrev μ-loop : tie.MeasureT-loop
 μ-loop row₀ p q nexts k i start d₀ row d = suc k - i - d
 
+-- the places that the needs speak of
+abbrev at-start : tie.At-loop Inv-loop μ-loop → tie.Start Inv-loop μ-loop
+at-start c = c .before .before .before .before
+
+abbrev turn : tie.After-or-onto-arg Inv-loop μ-loop → tie.At-loop Inv-loop μ-loop
+turn c = c .before .before .before .before .before
+
+abbrev turn-2 : tie.After-d Inv-loop μ-loop → tie.At-loop Inv-loop μ-loop
+turn-2 c = turn (c .before .before .before .before .before)
+
 -- row m of Q's table
 row : (c : tie.After-place Inv-loop μ-loop) → let a = c .before .before .before .before .before .before .before .before .args in let l = c .before .before .before .before .loop in
     (c .place .result ≡ startOf (a .k) (a .i + l .d)) × (c .place .result + (suc (a .k) - (a .i + l .d)) ≤ countOf (a .k))
 row c = row-starts _ _ _ (omega arith) (c .place .ensures .0)
 
 loop-holds : tie.Need-loop-holds Inv-loop μ-loop
-loop-holds c = let o = c .before .before .before .pre .0 in
+loop-holds c =
+    let o = c .before .before .before .pre .0 in
     begun _ _ _ _ _ _ _ (o .1) (o .2) (o .3) (o .4)
-
-add-m : tie.Need-add-m Inv-loop μ-loop
-add-m c = search needs
-
-add-if1 : tie.Need-add-if1 Inv-loop μ-loop
-add-if1 c = search needs
-
-shared-slice-read-if1 : tie.Need-shared-slice-read-if1 Inv-loop μ-loop
-shared-slice-read-if1 c = search needs
-
-add-d : tie.Need-add-d Inv-loop μ-loop
-add-d c = search needs
 
 loop-less : tie.Need-loop-less Inv-loop μ-loop
 loop-less c = omega arith
 
 loop-again : tie.Need-loop-again Inv-loop μ-loop
-loop-again c = let l = c .before .before .before .loop in
+loop-again c =
+    let l = c .before .before .before .loop in
     turn-no _ _ _ _ _ _ _ _ (l .inv) (omega arith) (c .if1 .taken)
 
 place-requires : tie.Need-place-requires Inv-loop μ-loop
-place-requires c κs = (c .before .before .before .before .before .before .before .pre .0 .0, record { starts = omega arith; ends = omega arith })
-
-add-end : tie.Need-add-end Inv-loop μ-loop
-add-end c = search needs
-
-sub-end : tie.Need-sub-end Inv-loop μ-loop
-sub-end c = search needs
+place-requires c κs = (at-start (c .before .before .before) .pre .0 .0, record { starts = omega arith; ends = omega arith })
 
 add-end-2 : tie.Need-add-end-2 Inv-loop μ-loop
 add-end-2 c = omega (arith, row c)
 
-sub-or-onto : tie.Need-sub-or-onto Inv-loop μ-loop
-sub-or-onto c = search needs
-
-part-or-onto-start : tie.Need-part-or-onto-start Inv-loop μ-loop
-part-or-onto-start c = search needs
-
-part-or-onto-end : tie.Need-part-or-onto-end Inv-loop μ-loop
-part-or-onto-end c = search needs
-
-sub-or-onto-2 : tie.Need-sub-or-onto-2 Inv-loop μ-loop
-sub-or-onto-2 c = search needs
-
 part-or-onto-start-2 : tie.Need-part-or-onto-start-2 Inv-loop μ-loop
-part-or-onto-start-2 c = omega (arith, row (c .before), c .before .before .before .before .before .before .before .before .before .pre)
+part-or-onto-start-2 c = omega (arith, row (c .before), at-start (turn c) .pre)
 
 part-or-onto-end-2 : tie.Need-part-or-onto-end-2 Inv-loop μ-loop
-part-or-onto-end-2 c = omega (arith, row (c .before), c .before .before .before .before .before .before .before .before .before .pre)
+part-or-onto-end-2 c = omega (arith, row (c .before), at-start (turn c) .pre)
 
 or-onto-requires : tie.Need-or-onto-requires Inv-loop μ-loop
-or-onto-requires c κs = let a = c .before .before .before .before .before .before .before .before .before .before .args in
-    let l = c .before .before .before .before .before .before .loop in
-    let at = c .before .before .place .result in
-    let end = at + (a .k + 1 - (a .i + l .d)) in
-    let e : length (l .row) - l .d ≡ end - at = omega (arith, l .inv .whole) in
-    mid-len (l .d) (length (l .row)) (l .row) (omega arith) ∙ e ∙ sym (mid-len at end (a .q .now) (omega (arith, row (c .before .before), c .before .before .before .before .before .before .before .before .before .before .pre)))
-
-mul-d : tie.Need-mul-d Inv-loop μ-loop
-mul-d c = search needs
-
-element-copy-out-d : tie.Need-element-copy-out-d Inv-loop μ-loop
-element-copy-out-d c = search needs
+or-onto-requires c κs =
+    let p = c .before .before in let w = turn (c .before) in let a = at-start w .args in let l = w .loop in let at = p .place .result in
+    let end = at + (a .k + 1 - (a .i + l .d)) in let e : length (l .row) - l .d ≡ end - at = omega (arith, l .inv .whole) in
+    mid-len (l .d) (length (l .row)) (l .row) (omega arith) ∙ e ∙ sym (mid-len at end (a .q .now) (omega (arith, row p, at-start w .pre)))
 
 sub-d : tie.Need-sub-d Inv-loop μ-loop
-sub-d c = omega (arith, c .before .before .before .before .before .before .before .before .before .before .before .before .before .before .pre .1 .2 .later (c .before .before .before .before .before .before .before .before .before .before .before .before .before .before .args .i + c .before .before .before .before .before .before .before .before .before .before .loop .d) (omega arith))
+sub-d c = let l = turn-2 c in omega (arith, at-start l .pre .1 .2 .later (at-start l .args .i + l .loop .d) (omega arith))
 
 loop-less-2 : tie.Need-loop-less-2 Inv-loop μ-loop
-loop-less-2 c = fewer (suc (c .before .before .before .before .before .before .before .before .before .before .before .before .before .before .args .k) - c .before .before .before .before .before .before .before .before .before .before .before .before .before .before .args .i) _ _ _ (omega arith) (c .before .before .before .before .before .before .before .before .before .before .before .before .before .before .pre .1 .2 .later (c .before .before .before .before .before .before .before .before .before .before .before .before .before .before .args .i + c .before .before .before .before .before .before .before .before .before .before .loop .d) (omega arith))
+loop-less-2 c =
+    let l = turn-2 c in
+    fewer (suc (at-start l .args .k) - at-start l .args .i) _ _ _ (omega arith) (at-start l .pre .1 .2 .later (at-start l .args .i + l .loop .d) (omega arith))
 
 loop-again-2 : tie.Need-loop-again-2 Inv-loop μ-loop
-loop-again-2 c = let l = c .before .before .before .before .before .before .before .before .before .before .loop in
-    let o = row (c .before .before .before .before .before .before) in
-    turn-yes _ _ _ _ _ _ _ _ _ _ (c .before .before .before .or-onto .last .0) (l .inv) (omega arith) (c .before .before .before .before .before .before .before .if1 .left) (c .before .before .before .before .before .before .before .before .before .before .before .before .before .before .pre .1 .2) (o .0) (omega arith) (search needs) (c .before .before .before .or-onto .ensures)
-
-same-length : tie.Need-same-length Inv-loop μ-loop
-same-length c = search needs
+loop-again-2 c =
+    let oo = c .before .before .before in let p = oo .before .before .before in let w = turn-2 c in let l = w .loop in let o = row p in
+    turn-yes _ _ _ _ _ _ _ _ _ _ (oo .or-onto .last .0) (l .inv) (omega arith) (p .before .if1 .left) (at-start w .pre .1 .2) (o .0) (omega arith) (search needs)
+    (oo .or-onto .ensures)
 
 returns : tie.Need-returns Inv-loop μ-loop
 returns c = done _ _ _ _ _ _ _ _ (c .before .loop .inv) (omega arith)
@@ -115,27 +89,27 @@ chop-row-spec =
     Inv-loop
     μ-loop
     loop-holds
-    add-m
-    add-if1
-    shared-slice-read-if1
-    add-d
+    (λ c. search needs)
+    (λ c. search needs)
+    (λ c. search needs)
+    (λ c. search needs)
     loop-less
     loop-again
     place-requires
-    add-end
-    sub-end
+    (λ c. search needs)
+    (λ c. search needs)
     add-end-2
-    sub-or-onto
-    part-or-onto-start
-    part-or-onto-end
-    sub-or-onto-2
+    (λ c. search needs)
+    (λ c. search needs)
+    (λ c. search needs)
+    (λ c. search needs)
     part-or-onto-start-2
     part-or-onto-end-2
     or-onto-requires
-    mul-d
-    element-copy-out-d
+    (λ c. search needs)
+    (λ c. search needs)
     sub-d
     loop-less-2
     loop-again-2
-    same-length
+    (λ c. search needs)
     returns)

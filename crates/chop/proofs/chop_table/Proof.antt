@@ -16,65 +16,42 @@ use Rattle.chop.proofs.chop_table.Statement.{statement}
 use Rattle.chop.proofs.chop_table.Tie as tie
 
 abbrev Inv-loop : tie.InvT-loop
-Inv-loop p q k nexts t₀ start₀ i₀ i-end t start i = (i-end ≡ suc k) × Filled maxCount k i start t × ((f g : Interval → Bool) → TableOf k f p → TableOf k g q → RowsOf k (chops f g) i t)
+Inv-loop p q k nexts t₀ start₀ i₀ i-end t start i =
+    (i-end ≡ suc k) × Filled maxCount k i start t × ((f g : Interval → Bool) → TableOf k f p → TableOf k g q → RowsOf k (chops f g) i t)
 
 abbrev μ-loop : tie.MeasureT-loop
 μ-loop p q k nexts t₀ start₀ i₀ i-end t start i = suc k - i
+
+-- the places that the needs speak of
+abbrev turn : tie.After-nexts Inv-loop μ-loop → tie.At-loop Inv-loop μ-loop
+turn c = c .before .before .before .before .before
 
 next-rows-requires : tie.Need-next-rows-requires Inv-loop μ-loop
 unfolding countOf
 next-rows-requires c κs = (c .before .pre, omega (arith, count-le maxSteps _ (c .before .pre), c .next-rows-arg .given .0))
 
-all-of-requires : tie.Need-all-of-requires Inv-loop μ-loop
-all-of-requires c κs = search needs
-
-add-i-end : tie.Need-add-i-end Inv-loop μ-loop
-add-i-end c = search needs
-
 loop-holds : tie.Need-loop-holds Inv-loop μ-loop
 unfolding countOf
-loop-holds c = (omega arith, filled-begun maxCount _ _ (count-le maxSteps _ (c .before .before .before .pre)) (c .all-of .ensures), λ f g P Q. record { at = λ v o h. omega arith })
-
-add-end : tie.Need-add-end Inv-loop μ-loop
-add-end c = search needs
-
-sub-end : tie.Need-sub-end Inv-loop μ-loop
-sub-end c = search needs
-
-add-end-2 : tie.Need-add-end-2 Inv-loop μ-loop
-add-end-2 c = search needs
-
-sub-chop-row : tie.Need-sub-chop-row Inv-loop μ-loop
-sub-chop-row c = search needs
-
-part-t-start : tie.Need-part-t-start Inv-loop μ-loop
-part-t-start c = search needs
-
-part-t-end : tie.Need-part-t-end Inv-loop μ-loop
-part-t-end c = search needs
+loop-holds c =
+    (omega arith, filled-begun maxCount _ _ (count-le maxSteps _ (c .before .before .before .pre)) (c .all-of .ensures), λ f g P Q. record { at = λ v o h. omega arith })
 
 chop-row-requires : tie.Need-chop-row-requires Inv-loop μ-loop
-chop-row-requires c κs = let l = c .before .before .before .before .before .loop in
+chop-row-requires c κs =
+    let u = turn c in let l = u .loop in
     let w = l .inv .1 in (
       (search needs, omega arith, w .starts, row-length maxCount _ _ _ _ _ w (omega arith), row-zeros maxCount _ _ _ _ _ w),
-      (omega (arith, w .room, c .before .before .chop-row-arg .given .0), omega (arith, w .room, c .before .chop-row-arg2 .given .0), c .before .before .before .before .before .before .before .next-rows .ensures .0),
+      (omega (arith, w .room, c .before .before .chop-row-arg .given .0), omega (arith, w .room, c .before .chop-row-arg2 .given .0), u .before .before .next-rows .ensures .0),
     )
 
-add-i : tie.Need-add-i Inv-loop μ-loop
-add-i c = search needs
-
-loop-less : tie.Need-loop-less Inv-loop μ-loop
-loop-less c = search needs
-
 loop-again : tie.Need-loop-again Inv-loop μ-loop
-loop-again c = let a = c .before .before .before .before .before .before .before .before .before .before .before .args in
-    let l = c .before .before .before .before .before .before .before .loop in
-    let end = l .start + (a .k + 1 - l .i) in
-    let row = c .before .chop-row .last .0 in
+loop-again c =
+    let cr = c .before in let u = turn (cr .before) in let n = u .before .before in let a = n .before .before .args in let l = u .loop in
+    let end = l .start + (a .k + 1 - l .i) in let row = cr .chop-row .last .0 in
     let w = l .inv .1 in (
       omega arith,
       filled-turn maxCount _ _ _ end _ row (omega arith) w (omega arith) (search needs),
-      λ f g P Q. rows-turn maxCount _ _ _ end _ row (omega arith) w (omega arith) (search needs) (chops f g) (c .before .chop-row .ensures f g P Q (c .before .before .before .before .before .before .before .before .before .next-rows .ensures .1 g Q)) (l .inv .2 f g P Q),
+      λ f g P Q. rows-turn maxCount _ _ _ end _ row (omega arith) w (omega arith) (search needs) (chops f g)
+          (cr .chop-row .ensures f g P Q (n .next-rows .ensures .1 g Q)) (l .inv .2 f g P Q),
     )
 
 returns : tie.Need-returns Inv-loop μ-loop
@@ -87,17 +64,17 @@ chop-table-spec =
     Inv-loop
     μ-loop
     next-rows-requires
-    all-of-requires
-    add-i-end
+    (λ c κs. search needs)
+    (λ c. search needs)
     loop-holds
-    add-end
-    sub-end
-    add-end-2
-    sub-chop-row
-    part-t-start
-    part-t-end
+    (λ c. search needs)
+    (λ c. search needs)
+    (λ c. search needs)
+    (λ c. search needs)
+    (λ c. search needs)
+    (λ c. search needs)
     chop-row-requires
-    add-i
-    loop-less
+    (λ c. search needs)
+    (λ c. search needs)
     loop-again
     returns)

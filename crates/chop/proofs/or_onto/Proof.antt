@@ -19,27 +19,10 @@ abbrev μ-loop : tie.MeasureT-loop
 loop-holds : tie.Need-loop-holds Inv-loop μ-loop
 loop-holds c = (sym (c .pre), begun _ _ _ _ refl (λ y. refl), omega arith)
 
-shared-slice-read-row : tie.Need-shared-slice-read-row Inv-loop μ-loop
-shared-slice-read-row c = search needs
-
-slice-read-row : tie.Need-slice-read-row Inv-loop μ-loop
-slice-read-row c = search needs
-
-slice-write-row : tie.Need-slice-write-row Inv-loop μ-loop
-slice-write-row c = search needs
-
-add-d : tie.Need-add-d Inv-loop μ-loop
-add-d c = search needs
-
-loop-less : tie.Need-loop-less Inv-loop μ-loop
-loop-less c = search needs
-
 loop-again : tie.Need-loop-again Inv-loop μ-loop
-loop-again c = let l = c .before .before .before .loop in
+loop-again c =
+    let l = c .before .before .before .loop in
     (l .inv .0, turn _ _ _ _ _ _ (l .inv .1) (search needs) (ap₂ bitOr (l .inv .1 .beyond _ (omega arith)) refl), omega arith)
-
-same-length : tie.Need-same-length Inv-loop μ-loop
-same-length c = search needs
 
 returns : tie.Need-returns Inv-loop μ-loop
 returns c = λ d h. c .before .loop .inv .1 .below d (omega (arith, c .before .loop .inv, c .loop-test .left))
@@ -51,11 +34,11 @@ or-onto-spec =
     Inv-loop
     μ-loop
     loop-holds
-    shared-slice-read-row
-    slice-read-row
-    slice-write-row
-    add-d
-    loop-less
+    (λ c. search needs)
+    (λ c. search needs)
+    (λ c. search needs)
+    (λ c. search needs)
+    (λ c. search needs)
     loop-again
-    same-length
+    (λ c. search needs)
     returns)

@@ -5,12 +5,9 @@ use Rattle.clause_table.specs.Table.{askRoom}
 use Rattle.clause_table.proofs.ask_room.Statement.{statement}
 use Rattle.clause_table.proofs.ask_room.Tie as tie
 
-ask-requires : tie.Need-ask-requires
-ask-requires c κs = search needs
-
 returns : tie.Need-returns
 unfolding askRoom
 returns c = c .ask .ensures
 
 pub ask-room-spec : {M : Type 1} → statement M
-ask-room-spec = tie.close (tie.spec ask-requires returns)
+ask-room-spec = tie.close (tie.spec (λ c κs. search needs) returns)

@@ -15,64 +15,37 @@ use Rattle.cuts.proofs.put_cuts.Statement.{statement}
 use Rattle.cuts.proofs.put_cuts.Tie as tie
 
 abbrev Inv-loop : tie.InvT-loop
-Inv-loop out₀ p q k i steps first at₀ e₀ e-end out at e = (e-end ≡ suc steps) × Filled (λ e. bit (cuts (onPlaces k (highAt p)) (onPlaces k (highAt q)) (record { i = i; m = i + e; j = i + steps }))) (suc steps) e out × Cutting k i steps e at
+Inv-loop out₀ p q k i steps first at₀ e₀ e-end out at e =
+    (e-end ≡ suc steps) × Filled (λ e. bit
+    (cuts (onPlaces k (highAt p)) (onPlaces k (highAt q)) (record { i = i; m = i + e; j = i + steps }))) (suc steps) e out ×
+    Cutting k i steps e at
 
 abbrev μ-loop : tie.MeasureT-loop
 μ-loop out₀ p q k i steps first at₀ e₀ e-end out at e = suc steps - e
 
-sub-steps : tie.Need-sub-steps Inv-loop μ-loop
-sub-steps c = search needs
-
-place-requires : tie.Need-place-requires Inv-loop μ-loop
-place-requires c κs = search needs
-
-add-t10 : tie.Need-add-t10 Inv-loop μ-loop
-add-t10 c = search needs
-
-place-requires-2 : tie.Need-place-requires-2 Inv-loop μ-loop
-place-requires-2 c κs = search needs
-
 loop-holds : tie.Need-loop-holds Inv-loop μ-loop
 loop-holds c = (omega arith, begun (omega arith), first-cut (c .place2 .ensures .0))
-
-add-out : tie.Need-add-out Inv-loop μ-loop
-add-out c = search needs
 
 element-copy-out-out : tie.Need-element-copy-out-out Inv-loop μ-loop
 element-copy-out-out c = cut-small (omega arith) (c .before .loop .inv .2) (c .before .before .before .place .ensures .0) (omega arith) (search needs) .0
 
 element-copy-out-out-2 : tie.Need-element-copy-out-out-2 Inv-loop μ-loop
-element-copy-out-out-2 c = cut-small (omega arith) (c .before .before .loop .inv .2) (c .before .before .before .before .place .ensures .0) (omega arith) (search needs) .1
-
-slice-write-out : tie.Need-slice-write-out Inv-loop μ-loop
-slice-write-out c = search needs
-
-add-at : tie.Need-add-at Inv-loop μ-loop
-add-at c = search needs
-
-sub-at : tie.Need-sub-at Inv-loop μ-loop
-sub-at c = search needs
+element-copy-out-out-2 c =
+    let l = c .before .before in cut-small (omega arith) (l .loop .inv .2) (l .before .before .place .ensures .0) (omega arith) (search needs) .1
 
 add-at-2 : tie.Need-add-at-2 Inv-loop μ-loop
-add-at-2 c = omega (arith, cut-small (omega arith) (c .before .before .before .before .loop .inv .2) (c .before .before .before .before .before .before .place .ensures .0) (omega arith) (search needs))
-
-add-e : tie.Need-add-e Inv-loop μ-loop
-add-e c = search needs
-
-loop-less : tie.Need-loop-less Inv-loop μ-loop
-loop-less c = search needs
+add-at-2 c =
+    let l = c .before .before .before .before in
+    omega (arith, cut-small (omega arith) (l .loop .inv .2) (l .before .before .place .ensures .0) (omega arith) (search needs))
 
 loop-again : tie.Need-loop-again Inv-loop μ-loop
-loop-again c = let l = c .before .before .before .before .loop in
-    let s = c .before .before .before .before .before .before .before .before in
-    let b = cut-byte (omega arith) (l .inv .2) (c .before .before .before .before .before .before .place .ensures .0) (omega arith) (s .pre .3) (s .pre .4) in (
+loop-again c =
+    let u = c .before .before .before .before in let p = u .before .before in let s = p .before .before in let l = u .loop in
+    let b = cut-byte (omega arith) (l .inv .2) (p .place .ensures .0) (omega arith) (s .pre .3) (s .pre .4) in (
       l .inv .0,
       turn (l .inv .1) (omega arith) b,
       ⊎-elim (λ w. next-cut (omega arith) (l .inv .2) (w .0 .taken) (w .1)) (λ w. last-cut (omega arith) (l .inv .2) (w .0 .left)) (c .if1 .came),
     )
-
-same-length : tie.Need-same-length Inv-loop μ-loop
-same-length c = search needs
 
 returns : tie.Need-returns Inv-loop μ-loop
 returns c = done (c .before .loop .inv .1) (omega arith)
@@ -83,20 +56,20 @@ put-cuts-spec =
     (tie.spec
     Inv-loop
     μ-loop
-    sub-steps
-    place-requires
-    add-t10
-    place-requires-2
+    (λ c. search needs)
+    (λ c κs. search needs)
+    (λ c. search needs)
+    (λ c κs. search needs)
     loop-holds
-    add-out
+    (λ c. search needs)
     element-copy-out-out
     element-copy-out-out-2
-    slice-write-out
-    add-at
-    sub-at
+    (λ c. search needs)
+    (λ c. search needs)
+    (λ c. search needs)
     add-at-2
-    add-e
-    loop-less
+    (λ c. search needs)
+    (λ c. search needs)
     loop-again
-    same-length
+    (λ c. search needs)
     returns)

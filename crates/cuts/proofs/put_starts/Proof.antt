@@ -17,53 +17,28 @@ Inv-loop out₀ p q k i at₀ d₀ d-end out at d = (d-end ≡ suc k - i) × Par
 abbrev μ-loop : tie.MeasureT-loop
 μ-loop out₀ p q k i at₀ d₀ d-end out at d = suc k - i - d
 
-add-d-end : tie.Need-add-d-end Inv-loop μ-loop
-add-d-end c = search needs
-
-sub-d-end : tie.Need-sub-d-end Inv-loop μ-loop
-sub-d-end c = search needs
-
 loop-holds : tie.Need-loop-holds Inv-loop μ-loop
-loop-holds c = let a = c .before .args in
-    let f = highAt (a .p .now) in
-    let g = highAt (a .q .now) in
-    (omega arith, begun (λ d h. cut-count (a .k) f g (a .i) d) (c .before .pre .2 ∙ sym (starts-count (a .k) f g (a .i) (c .before .pre .1))))
-
-add-end : tie.Need-add-end Inv-loop μ-loop
-add-end c = search needs
+loop-holds c =
+    let s = c .before in let a = s .args in let f = highAt (a .p .now) in let g = highAt (a .q .now) in
+    (omega arith, begun (λ d h. cut-count (a .k) f g (a .i) d) (s .pre .2 ∙ sym (starts-count (a .k) f g (a .i) (s .pre .1))))
 
 add-end-2 : tie.Need-add-end-2 Inv-loop μ-loop
 add-end-2 c = omega (arith, room (c .before .loop .inv .1) (omega arith))
-
-sub-put-cuts : tie.Need-sub-put-cuts Inv-loop μ-loop
-sub-put-cuts c = search needs
-
-part-put-cuts-start : tie.Need-part-put-cuts-start Inv-loop μ-loop
-part-put-cuts-start c = search needs
 
 part-put-cuts-end : tie.Need-part-put-cuts-end Inv-loop μ-loop
 part-put-cuts-end c = omega (arith, room (c .before .loop .inv .1) (omega arith))
 
 put-cuts-requires : tie.Need-put-cuts-requires Inv-loop μ-loop
-put-cuts-requires c κs = let l = c .before .before .loop in
-    let s = c .before .before .before .before in
+put-cuts-requires c κs =
+    let w = c .before .before in let s = w .before .before in let l = w .loop in
     let n = part-length (l .inv .1) (omega arith) (l .at + (l .d + 1)) (omega arith) in
     (s .pre .0, omega (arith, n), omega (arith, n), s .pre .3, s .pre .4)
 
-add-d : tie.Need-add-d Inv-loop μ-loop
-add-d c = search needs
-
-loop-less : tie.Need-loop-less Inv-loop μ-loop
-loop-less c = search needs
-
 loop-again : tie.Need-loop-again Inv-loop μ-loop
-loop-again c = let a = c .before .before .before .before .before .before .before .args in
-    let l = c .before .before .before .before .before .loop in
+loop-again c =
+    let p = c .before .before in let w = p .before .before .before in let a = w .before .before .args in let l = w .loop in
     let n = part-length (l .inv .1) (omega arith) (l .at + (l .d + 1)) (omega arith) in
-    (l .inv .0, turn (l .inv .1) (omega arith) _ (omega arith) (c .before .before .put-cuts .ensures ∙ ap (cutsFrom (a .k) (highAt (a .p .now)) (highAt (a .q .now)) (a .i)) (omega (arith, n))))
-
-same-length : tie.Need-same-length Inv-loop μ-loop
-same-length c = search needs
+    (l .inv .0, turn (l .inv .1) (omega arith) _ (omega arith) (p .put-cuts .ensures ∙ ap (cutsFrom (a .k) (highAt (a .p .now)) (highAt (a .q .now)) (a .i)) (omega (arith, n))))
 
 returns : tie.Need-returns Inv-loop μ-loop
 returns c = done (c .before .loop .inv .1) (omega arith)
@@ -74,17 +49,17 @@ put-starts-spec =
     (tie.spec
     Inv-loop
     μ-loop
-    add-d-end
-    sub-d-end
+    (λ c. search needs)
+    (λ c. search needs)
     loop-holds
-    add-end
+    (λ c. search needs)
     add-end-2
-    sub-put-cuts
-    part-put-cuts-start
+    (λ c. search needs)
+    (λ c. search needs)
     part-put-cuts-end
     put-cuts-requires
-    add-d
-    loop-less
+    (λ c. search needs)
+    (λ c. search needs)
     loop-again
-    same-length
+    (λ c. search needs)
     returns)

@@ -2,7 +2,7 @@
 -- Start by start they are all triples, in order (Listed.antt).
 use mathlib.Core.Path.{_≡_, sym, _∙_}
 use Prim.Native.Nat.{suc, _-_}
-use Rattle.interval.specs.Listing.{rows}
+use Rattle.lists.specs.Listing.{rows}
 use Rattle.interval.specs.Places.{countOf}
 use Rattle.table.specs.Table.{highAt}
 use Rattle.cuts.specs.Cuts.{cutsFrom}
@@ -19,53 +19,34 @@ Inv-loop out₀ p q k at₀ i₀ i-end out at i = (i-end ≡ suc k) × Parts (λ
 abbrev μ-loop : tie.MeasureT-loop
 μ-loop out₀ p q k at₀ i₀ i-end out at i = suc k - i
 
-add-i-end : tie.Need-add-i-end Inv-loop μ-loop
-add-i-end c = search needs
+-- the places that the needs speak of
+abbrev at-turn : tie.After-count Inv-loop μ-loop → tie.At-loop Inv-loop μ-loop
+at-turn c = c .before .before
 
 loop-holds : tie.Need-loop-holds Inv-loop μ-loop
-loop-holds c = let a = c .before .args in
-    let f = highAt (a .p .now) in
-    let g = highAt (a .q .now) in
+loop-holds c =
+    let a = c .before .args in let f = highAt (a .p .now) in let g = highAt (a .q .now) in
     (omega arith, begun (λ i h. starts-count (a .k) f g i (omega arith)) (c .before .pre .1 ∙ sym (cuts-count (a .k) f g)))
 
-sub-count : tie.Need-sub-count Inv-loop μ-loop
-sub-count c = search needs
-
-count-requires : tie.Need-count-requires Inv-loop μ-loop
-count-requires c κs = search needs
-
 add-end : tie.Need-add-end Inv-loop μ-loop
-add-end c = omega (arith, room (c .before .before .loop .inv .1) (omega arith))
-
-sub-put-starts : tie.Need-sub-put-starts Inv-loop μ-loop
-sub-put-starts c = search needs
-
-part-put-starts-start : tie.Need-part-put-starts-start Inv-loop μ-loop
-part-put-starts-start c = search needs
+add-end c = omega (arith, room (at-turn c .loop .inv .1) (omega arith))
 
 part-put-starts-end : tie.Need-part-put-starts-end Inv-loop μ-loop
-part-put-starts-end c = omega (arith, room (c .before .before .loop .inv .1) (omega arith))
+part-put-starts-end c = omega (arith, room (at-turn c .loop .inv .1) (omega arith))
 
 put-starts-requires : tie.Need-put-starts-requires Inv-loop μ-loop
-put-starts-requires c κs = let l = c .before .before .before .loop in
-    let s = c .before .before .before .before .before in
+put-starts-requires c κs =
+    let w = at-turn (c .before) in let s = w .before .before in let l = w .loop in
     (s .pre .0, omega arith, part-length (l .inv .1) (omega arith) _ (omega arith), s .pre .2, s .pre .3)
 
-add-i : tie.Need-add-i Inv-loop μ-loop
-add-i c = search needs
-
-loop-less : tie.Need-loop-less Inv-loop μ-loop
-loop-less c = search needs
-
 loop-again : tie.Need-loop-again Inv-loop μ-loop
-loop-again c = let l = c .before .before .before .before .before .before .loop in
-    (l .inv .0, turn (l .inv .1) (omega arith) _ (omega arith) (c .before .before .put-starts .ensures))
-
-same-length : tie.Need-same-length Inv-loop μ-loop
-same-length c = search needs
+loop-again c =
+    let p = c .before .before in let l = at-turn (p .before .before) .loop in
+    (l .inv .0, turn (l .inv .1) (omega arith) _ (omega arith) (p .put-starts .ensures))
 
 returns : tie.Need-returns Inv-loop μ-loop
-returns c = let a = c .before .before .before .args in
+returns c =
+    let a = c .before .before .before .args in
     done (c .before .loop .inv .1) (omega arith) ∙ sym (cuts-listed (a .k) (highAt (a .p .now)) (highAt (a .q .now)))
 
 pub put-triples-spec : {M : Type 1} → statement M
@@ -74,17 +55,17 @@ put-triples-spec =
     (tie.spec
     Inv-loop
     μ-loop
-    add-i-end
+    (λ c. search needs)
     loop-holds
-    sub-count
-    count-requires
+    (λ c. search needs)
+    (λ c κs. search needs)
     add-end
-    sub-put-starts
-    part-put-starts-start
+    (λ c. search needs)
+    (λ c. search needs)
     part-put-starts-end
     put-starts-requires
-    add-i
-    loop-less
+    (λ c. search needs)
+    (λ c. search needs)
     loop-again
-    same-length
+    (λ c. search needs)
     returns)

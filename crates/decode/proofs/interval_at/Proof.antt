@@ -6,17 +6,10 @@ use borrow.Author.Needs.{needs}
 use Rattle.decode.proofs.interval_at.Statement.{statement}
 use Rattle.decode.proofs.interval_at.Tie as tie
 
-mul-wide : tie.Need-mul-wide
-mul-wide c = search needs
-
-shared-slice-read-wide : tie.Need-shared-slice-read-wide
-shared-slice-read-wide c = search needs
-
-wide-requires : tie.Need-wide-requires
-wide-requires c κs = search needs
-
 returns : tie.Need-returns
-returns c = let s = c .before .before .before .pre in let a = c .before .before .before .args in subst (λ t. InPlace (a .k) (a .p) (unpacked t)) (sym (c .wide .ensures)) (s .2 .each _ (s .0))
+returns c =
+    let start₀ = c .before .before .before in
+    let s = start₀ .pre in let a = start₀ .args in subst (λ t. InPlace (a .k) (a .p) (unpacked t)) (sym (c .wide .ensures)) (s .2 .each _ (s .0))
 
 pub interval-at-spec : {M : Type 1} → statement M
-interval-at-spec = tie.close (tie.spec mul-wide shared-slice-read-wide wide-requires returns)
+interval-at-spec = tie.close (tie.spec (λ c. search needs) (λ c. search needs) (λ c κs. search needs) returns)

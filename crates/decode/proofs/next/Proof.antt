@@ -6,20 +6,11 @@ use borrow.Author.Needs.{needs}
 use Rattle.decode.proofs.next.Statement.{statement}
 use Rattle.decode.proofs.next.Tie as tie
 
-add-t4 : tie.Need-add-t4
-add-t4 c = search needs
-
 returns : tie.Need-returns
 returns c = let s = c .before .before .before .pre in λ h. longer-next _ _ (s .0) (c .before .if1 .taken)
 
-add-t5 : tie.Need-add-t5
-add-t5 c = search needs
-
-add-t6 : tie.Need-add-t6
-add-t6 c = search needs
-
 returns-2 : tie.Need-returns-2
-returns-2 c = let s = c .before .before .before .before .pre in λ h. later-next _ _ (s .0) (omega (arith, c .before .before .if1 .left)) h
+returns-2 c = let e1 = c .before .before in let s = e1 .before .before .pre in λ h. later-next _ _ (s .0) (omega (arith, e1 .if1 .left)) h
 
 pub next-spec : {M : Type 1} → statement M
-next-spec = tie.close (tie.spec add-t4 returns add-t5 add-t6 returns-2)
+next-spec = tie.close (tie.spec (λ c. search needs) returns (λ c. search needs) (λ c. search needs) returns-2)

@@ -12,35 +12,42 @@ Inv-loop assignment₀ firsts k last recording table x₀ end₀ assignment x en
 abbrev μ-loop : tie.MeasureT-loop
 μ-loop assignment₀ firsts k last recording table x₀ end₀ assignment x end = x
 
+-- the places that the needs speak of
+abbrev start : tie.At-loop Inv-loop μ-loop → tie.Start Inv-loop μ-loop
+start c = c .before .before .before
+
+abbrev turn : tie.After-block-at Inv-loop μ-loop → tie.At-loop Inv-loop μ-loop
+turn c = c .before .before .before .before .before .before
+
+abbrev after-put-node : tie.After-struct-known Inv-loop μ-loop → tie.After-put-node Inv-loop μ-loop
+after-put-node c = c .before .before .before
+
+abbrev after-block-at : tie.After-struct-known Inv-loop μ-loop → tie.After-block-at Inv-loop μ-loop
+after-block-at c = after-put-node c .before .before
+
 loop-holds : tie.Need-loop-holds Inv-loop μ-loop
 loop-holds c = extending-begun (c .before .before .pre .0 .2)
 
-sub-x : tie.Need-sub-x Inv-loop μ-loop
-sub-x c = search needs
-
 block-at-requires : tie.Need-block-at-requires Inv-loop μ-loop
-block-at-requires c κs = let p = c .before .before .before .before .before .before .before .before .pre in (p .0 .0, omega (arith, p .0 .1, c .before .before .before .before .before .loop .inv .turns, c .before .before .before .before .loop-test .taken), p .0 .3)
+block-at-requires c κs =
+    let i = c .before .before .before .before in let l = i .before in
+    let p = start l .pre in (p .0 .0, omega (arith, p .0 .1, l .loop .inv .turns, i .loop-test .taken), p .0 .3)
 
 put-node-requires : tie.Need-put-node-requires Inv-loop μ-loop
-put-node-requires c κs = let p = c .before .before .before .before .before .before .before .before .before .before .pre in
-    let e = c .before .block-at .ensures in
-    let f = block-fits (c .before .before .before .before .before .before .before .loop .inv) (search needs) (e .0) (p .1 .0) (p .1 .1) (e .1 0 (omega arith)) in
+put-node-requires c κs =
+    let l = turn (c .before) in let p = start l .pre in let e = c .before .block-at .ensures in
+    let f = block-fits (l .loop .inv) (search needs) (e .0) (p .1 .0) (p .1 .1) (e .1 0 (omega arith)) in
     (p .0 .0, f)
 
-cast-end : tie.Need-cast-end Inv-loop μ-loop
-cast-end c = search needs
-
 sub-end : tie.Need-sub-end Inv-loop μ-loop
-sub-end c = let p = c .before .before .before .before .before .before .before .before .before .before .before .before .before .before .pre in
-    let e = c .before .before .before .before .before .block-at .ensures in
-    block-fits (c .before .before .before .before .before .before .before .before .before .before .before .loop .inv) (search needs) (e .0) (p .1 .0) (p .1 .1) (e .1 0 (omega arith)) .0
-
-loop-less : tie.Need-loop-less Inv-loop μ-loop
-loop-less c = search needs
+sub-end c =
+    let b = after-block-at c in let l = turn b in let p = start l .pre in let e = b .block-at .ensures in
+    block-fits (l .loop .inv) (search needs) (e .0) (p .1 .0) (p .1 .1) (e .1 0 (omega arith)) .0
 
 loop-again : tie.Need-loop-again Inv-loop μ-loop
-loop-again c = let p = c .before .before .before .before .before .before .before .before .before .before .before .before .before .before .pre in
-    extending-turn (c .before .before .before .before .before .before .before .before .before .before .before .loop .inv) (search needs) (c .before .before .before .before .before .block-at .ensures .0) (p .1 .0) (p .1 .1) (p .0 .2) (search needs) (c .before .before .before .put-node .ensures)
+loop-again c =
+    let b = after-block-at c in let l = turn b in let p = start l .pre in
+    extending-turn (l .loop .inv) (search needs) (b .block-at .ensures .0) (p .1 .0) (p .1 .1) (p .0 .2) (search needs) (after-put-node c .put-node .ensures)
 
 same-length : tie.Need-same-length Inv-loop μ-loop
 same-length c = c .before .loop .inv .long
@@ -55,12 +62,12 @@ put-nodes-spec =
     Inv-loop
     μ-loop
     loop-holds
-    sub-x
+    (λ c. search needs)
     block-at-requires
     put-node-requires
-    cast-end
+    (λ c. search needs)
     sub-end
-    loop-less
+    (λ c. search needs)
     loop-again
     same-length
     returns)

@@ -9,29 +9,26 @@ use borrow.Author.Needs.{needs}
 use Rattle.file_line.proofs.file_of_input.Statement.{statement}
 use Rattle.file_line.proofs.file_of_input.Tie as tie
 
-read-line-requires : tie.Need-read-line-requires
-read-line-requires c κs = search needs
+-- the places that the needs speak of
+abbrev after-read-line : tie.After-known-told → tie.After-read-line
+after-read-line c = c .before .before .before
 
-enum-known-p : tie.Need-enum-known-p
-enum-known-p c = search needs
+abbrev start : tie.After-known-told → tie.Start
+start c = after-read-line c .before .before
 
 sub-file-of-text : tie.Need-sub-file-of-text
-sub-file-of-text c = subst (PartsWithin (c .before .before .before .before .before .args .input .now)) (c .before .p .given .1) (c .before .before .before .read-line .ensures .1) .0
+sub-file-of-text c = subst (PartsWithin (start c .args .input .now)) (c .before .p .given .1) (after-read-line c .read-line .ensures .1) .0
 
 part-file-of-text-start : tie.Need-part-file-of-text-start
-part-file-of-text-start c = subst (PartsWithin (c .before .before .before .before .before .args .input .now)) (c .before .p .given .1) (c .before .before .before .read-line .ensures .1) .0
+part-file-of-text-start c = subst (PartsWithin (start c .args .input .now)) (c .before .p .given .1) (after-read-line c .read-line .ensures .1) .0
 
 part-file-of-text-end : tie.Need-part-file-of-text-end
-part-file-of-text-end c = subst (PartsWithin (c .before .before .before .before .before .args .input .now)) (c .before .p .given .1) (c .before .before .before .read-line .ensures .1) .1
-
-file-of-text-requires : tie.Need-file-of-text-requires
-file-of-text-requires c κs = search needs
-
-enum-told : tie.Need-enum-told
-enum-told c = search needs
+part-file-of-text-end c = subst (PartsWithin (start c .args .input .now)) (c .before .p .given .1) (after-read-line c .read-line .ensures .1) .1
 
 returns : tie.Need-returns
-returns c = within-file _ (output-read _ (c .before .before .before .before .p .given .1) (c .before .before .before .before .before .before .read-line .ensures .0)) (c .file-of-text .ensures)
+returns c =
+    let p = c .before .before .before .before in
+    within-file _ (output-read _ (p .p .given .1) (p .before .before .read-line .ensures .0)) (c .file-of-text .ensures)
 
 returns-2 : tie.Need-returns-2
 unfolding outputFor
@@ -41,12 +38,12 @@ pub file-of-input-spec : {M : Type 1} → statement M
 file-of-input-spec =
     tie.close
     (tie.spec
-    read-line-requires
-    enum-known-p
+    (λ c κs. search needs)
+    (λ c. search needs)
     sub-file-of-text
     part-file-of-text-start
     part-file-of-text-end
-    file-of-text-requires
-    enum-told
+    (λ c κs. search needs)
+    (λ c. search needs)
     returns
     returns-2)

@@ -6,35 +6,20 @@ use borrow.Author.Needs.{needs}
 use Rattle.file_line.proofs.file_of_text.Statement.{statement}
 use Rattle.file_line.proofs.file_of_text.Tie as tie
 
-slice-aggregate-table : tie.Need-slice-aggregate-table
-slice-aggregate-table c = search needs
+-- the places that the needs speak of
+abbrev after-table : tie.After-enum-told → tie.After-table
+after-table c = c .before .before .before .before .before
 
-slice-aggregate-table-2 : tie.Need-slice-aggregate-table-2
-slice-aggregate-table-2 c = search needs
-
-slice-aggregate-table-3 : tie.Need-slice-aggregate-table-3
-slice-aggregate-table-3 c = search needs
-
-table-requires : tie.Need-table-requires
-table-requires c κs = search needs
-
-enum-told : tie.Need-enum-told
-enum-told c = search needs
-
-slice-aggregate-put-file : tie.Need-slice-aggregate-put-file
-slice-aggregate-put-file c = search needs
-
-slice-aggregate-put-file-2 : tie.Need-slice-aggregate-put-file-2
-slice-aggregate-put-file-2 c = search needs
+abbrev after-enum-told : tie.After-put-file-arg → tie.After-enum-told
+after-enum-told c = c .before .before .before
 
 put-file-requires : tie.Need-put-file-requires
-put-file-requires c κs = room _ _ _ _ (c .before .before .before .before .before .before .before .before .table .ensures) (c .before .before .before .enum-told .given .1)
-
-enum-told-2 : tie.Need-enum-told-2
-enum-told-2 c = search needs
+put-file-requires c κs = let e = after-enum-told c in room _ _ _ _ (after-table e .table .ensures) (e .enum-told .given .1)
 
 returns : tie.Need-returns
-returns c = file-done _ _ _ _ (c .before .before .before .before .before .before .before .before .before .table .ensures) (c .before .before .before .before .enum-told .given .1) _ (c .before .put-file-arg .given .0 .1) (c .put-file .ensures .0) (c .put-file .ensures .1)
+returns c =
+    let e = after-enum-told (c .before) in
+    file-done _ _ _ _ (after-table e .table .ensures) (e .enum-told .given .1) _ (c .before .put-file-arg .given .0 .1) (c .put-file .ensures .0) (c .put-file .ensures .1)
 
 returns-2 : tie.Need-returns-2
 returns-2 c = same-output _ (sym (none-refused _ _ _ _ (c .before .before .before .before .before .table .ensures) _ (c .enum-told2 .given .1))) (refl, refl)
@@ -43,14 +28,14 @@ pub file-of-text-spec : {M : Type 1} → statement M
 file-of-text-spec =
     tie.close
     (tie.spec
-    slice-aggregate-table
-    slice-aggregate-table-2
-    slice-aggregate-table-3
-    table-requires
-    enum-told
-    slice-aggregate-put-file
-    slice-aggregate-put-file-2
+    (λ c. search needs)
+    (λ c. search needs)
+    (λ c. search needs)
+    (λ c κs. search needs)
+    (λ c. search needs)
+    (λ c. search needs)
+    (λ c. search needs)
     put-file-requires
-    enum-told-2
+    (λ c. search needs)
     returns
     returns-2)

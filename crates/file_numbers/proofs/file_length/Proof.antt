@@ -5,14 +5,8 @@ use borrow.Author.Needs.{needs}
 use Rattle.file_numbers.proofs.file_length.Statement.{statement}
 use Rattle.file_numbers.proofs.file_length.Tie as tie
 
-mul-result : tie.Need-mul-result
-mul-result c = search needs
-
-add-result : tie.Need-add-result
-add-result c = search needs
-
 returns : tie.Need-returns
 returns c = omega arith
 
 pub file-length-spec : {M : Type 1} → statement M
-file-length-spec = tie.close (tie.spec mul-result add-result returns)
+file-length-spec = tie.close (tie.spec (λ c. search needs) (λ c. search needs) returns)

@@ -19,32 +19,14 @@ abbrev μ-loop : tie.MeasureT-loop
 loop-holds : tie.Need-loop-holds Inv-loop μ-loop
 loop-holds c = (copy-begun refl, omega arith)
 
-mul-put-number : tie.Need-mul-put-number Inv-loop μ-loop
-mul-put-number c = search needs
-
-shared-slice-read-put-number : tie.Need-shared-slice-read-put-number Inv-loop μ-loop
-shared-slice-read-put-number c = search needs
-
-put-number-requires : tie.Need-put-number-requires Inv-loop μ-loop
-put-number-requires c κs = search needs
-
-add-b : tie.Need-add-b Inv-loop μ-loop
-add-b c = search needs
-
-add-e : tie.Need-add-e Inv-loop μ-loop
-add-e c = search needs
-
-loop-less : tie.Need-loop-less Inv-loop μ-loop
-loop-less c = search needs
-
 loop-again : tie.Need-loop-again Inv-loop μ-loop
-loop-again c = let i = c .before .before .before .before .before .before .loop .inv in (copy-turn (i .0) 4 four (search needs) (i .1) (c .before .before .put-number .ensures), omega (arith, i .1))
-
-same-length : tie.Need-same-length Inv-loop μ-loop
-same-length c = search needs
+loop-again c =
+    let p = c .before .before in
+    let i = p .before .before .before .before .loop .inv in (copy-turn (i .0) 4 four (search needs) (i .1) (p .put-number .ensures), omega (arith, i .1))
 
 returns : tie.Need-returns Inv-loop μ-loop
-returns c = let i = c .before .loop .inv in (copy-done (i .0) (omega (arith, c .loop-test .left)), omega (arith, i .0 .whole, i .0 .upto, i .1, c .loop-test .left))
+returns c =
+    let i = c .before .loop .inv in (copy-done (i .0) (omega (arith, c .loop-test .left)), omega (arith, i .0 .whole, i .0 .upto, i .1, c .loop-test .left))
 
 pub put-numbers-spec : {M : Type 1} → statement M
 put-numbers-spec =
@@ -53,12 +35,12 @@ put-numbers-spec =
     Inv-loop
     μ-loop
     loop-holds
-    mul-put-number
-    shared-slice-read-put-number
-    put-number-requires
-    add-b
-    add-e
-    loop-less
+    (λ c. search needs)
+    (λ c. search needs)
+    (λ c κs. search needs)
+    (λ c. search needs)
+    (λ c. search needs)
+    (λ c. search needs)
     loop-again
-    same-length
+    (λ c. search needs)
     returns)

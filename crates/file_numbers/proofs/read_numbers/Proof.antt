@@ -15,38 +15,18 @@ Inv-loop variables₀ file e₀ e-end variables e = Copied same variables₀ 0 (
 abbrev μ-loop : tie.MeasureT-loop
 μ-loop variables₀ file e₀ e-end variables e = e-end - e
 
-cast-e-end : tie.Need-cast-e-end Inv-loop μ-loop
-cast-e-end c = search needs
+-- the places that the needs speak of
+abbrev start : tie.After-struct-known Inv-loop μ-loop → tie.Start Inv-loop μ-loop
+start c = c .before .before .before
 
 loop-holds : tie.Need-loop-holds Inv-loop μ-loop
-loop-holds c = copy-begun (variables-count (c .before .before .before .pre .0))
-
-mul-number-at : tie.Need-mul-number-at Inv-loop μ-loop
-mul-number-at c = search needs
-
-add-number-at : tie.Need-add-number-at Inv-loop μ-loop
-add-number-at c = search needs
-
-number-at-requires : tie.Need-number-at-requires Inv-loop μ-loop
-number-at-requires c κs = search needs
-
-mul-variables : tie.Need-mul-variables Inv-loop μ-loop
-mul-variables c = search needs
-
-slice-write-variables : tie.Need-slice-write-variables Inv-loop μ-loop
-slice-write-variables c = search needs
-
-add-e : tie.Need-add-e Inv-loop μ-loop
-add-e c = search needs
-
-loop-less : tie.Need-loop-less Inv-loop μ-loop
-loop-less c = search needs
+loop-holds c = copy-begun (variables-count (start c .pre .0))
 
 loop-again : tie.Need-loop-again Inv-loop μ-loop
-loop-again c = same-turn (c .before .before .loop .inv) (omega (arith, c .before .before .loop .inv .whole, c .before .loop-test .taken)) (omega arith) (variable-at (c .before .before .before .before .before .before .pre .0) (c .before .before .loop .e) (search needs) (c .number-at .ensures))
-
-same-length : tie.Need-same-length Inv-loop μ-loop
-same-length c = search needs
+loop-again c =
+    let l = c .before .before in
+    same-turn (l .loop .inv) (omega (arith, l .loop .inv .whole, c .before .loop-test .taken)) (omega arith)
+    (variable-at (start (l .before) .pre .0) (l .loop .e) (search needs) (c .number-at .ensures))
 
 returns : tie.Need-returns Inv-loop μ-loop
 returns c = same-done (c .before .loop .inv) (omega (arith, c .loop-test .left))
@@ -57,15 +37,15 @@ read-numbers-spec =
     (tie.spec
     Inv-loop
     μ-loop
-    cast-e-end
+    (λ c. search needs)
     loop-holds
-    mul-number-at
-    add-number-at
-    number-at-requires
-    mul-variables
-    slice-write-variables
-    add-e
-    loop-less
+    (λ c. search needs)
+    (λ c. search needs)
+    (λ c κs. search needs)
+    (λ c. search needs)
+    (λ c. search needs)
+    (λ c. search needs)
+    (λ c. search needs)
     loop-again
-    same-length
+    (λ c. search needs)
     returns)

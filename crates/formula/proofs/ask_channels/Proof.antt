@@ -1,16 +1,13 @@
 -- `ask_channels` asks question 1:
 -- the reply to its test is the definition.
-use Rattle.formula.specs.Questions.{askChannels}
+use Rattle.grammar.specs.Questions.{askChannels}
 use borrow.Author.Needs.{needs}
 use Rattle.formula.proofs.ask_channels.Statement.{statement}
 use Rattle.formula.proofs.ask_channels.Tie as tie
-
-ask-within-requires : tie.Need-ask-within-requires
-ask-within-requires c κs = search needs
 
 returns : tie.Need-returns
 unfolding askChannels
 returns c = c .ask-within .ensures
 
 pub ask-channels-spec : {M : Type 1} → statement M
-ask-channels-spec = tie.close (tie.spec ask-within-requires returns)
+ask-channels-spec = tie.close (tie.spec (λ c κs. search needs) returns)

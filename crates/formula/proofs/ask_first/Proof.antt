@@ -8,21 +8,15 @@ use borrow.Author.Needs.{needs}
 use Rattle.formula.proofs.ask_first.Statement.{statement}
 use Rattle.formula.proofs.ask_first.Tie as tie
 
-first-find-requires : tie.Need-first-find-requires
-first-find-requires c κs = search needs
-
-no-requires : tie.Need-no-requires
-no-requires c κs = search needs
-
 returns : tie.Need-returns
 returns c =
-    let a = c .before .before .before .before .before .args in
-    c .no .ensures ∙ first-is (a .number) _ (drop (a .skip) (foundIn (a .a) (a .text .now))) (c .before .before .before .first-find .ensures .0) (c .before .if1 .taken)
+    let f = c .before .before .before in let a = f .before .before .args in
+    c .no .ensures ∙ first-is (a .number) _ (drop (a .skip) (foundIn (a .a) (a .text .now))) (f .first-find .ensures .0) (c .before .if1 .taken)
 
 returns-2 : tie.Need-returns-2
 returns-2 c =
-    let a = c .before .before .before .before .args in
-    none-is (a .number) _ (drop (a .skip) (foundIn (a .a) (a .text .now))) (c .before .before .first-find .ensures .0) (c .if1 .left)
+    let f = c .before .before in let a = f .before .before .args in
+    none-is (a .number) _ (drop (a .skip) (foundIn (a .a) (a .text .now))) (f .first-find .ensures .0) (c .if1 .left)
 
 pub ask-first-spec : {M : Type 1} → statement M
-ask-first-spec = tie.close (tie.spec first-find-requires no-requires returns returns-2)
+ask-first-spec = tie.close (tie.spec (λ c κs. search needs) (λ c κs. search needs) returns returns-2)

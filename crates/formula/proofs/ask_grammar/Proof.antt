@@ -7,15 +7,6 @@ use borrow.Author.Needs.{needs}
 use Rattle.formula.proofs.ask_grammar.Statement.{statement}
 use Rattle.formula.proofs.ask_grammar.Tie as tie
 
-check-text-requires : tie.Need-check-text-requires
-check-text-requires c κs = search needs
-
-enum-told : tie.Need-enum-told
-enum-told c = search needs
-
-enum-known-g : tie.Need-enum-known-g
-enum-known-g c = search needs
-
 no-requires : tie.Need-no-requires
 no-requires c κs = omega (arith, stop-within _ _ (sym (c .before .before .before .check-text .ensures) ∙ c .before .g .given .1))
 
@@ -23,8 +14,9 @@ returns : tie.Need-returns
 returns c = sym (grammar-reads _ (sym (c .before .before .check-text .ensures) ∙ c .enum-told .given .1))
 
 returns-2 : tie.Need-returns-2
-returns-2 c = c .no .ensures ∙ sym (grammar-stops _ _ (sym (c .before .before .before .before .check-text .ensures) ∙ c .before .before .g .given .1))
+returns-2 c =
+    let g = c .before .before in c .no .ensures ∙ sym (grammar-stops _ _ (sym (g .before .before .check-text .ensures) ∙ g .g .given .1))
 
 pub ask-grammar-spec : {M : Type 1} → statement M
 ask-grammar-spec =
-    tie.close (tie.spec check-text-requires enum-told enum-known-g no-requires returns returns-2)
+    tie.close (tie.spec (λ c κs. search needs) (λ c. search needs) (λ c. search needs) no-requires returns returns-2)

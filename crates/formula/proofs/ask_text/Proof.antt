@@ -7,69 +7,51 @@ use borrow.Author.Needs.{needs}
 use Rattle.formula.proofs.ask_text.Statement.{statement}
 use Rattle.formula.proofs.ask_text.Tie as tie
 
-ask-grammar-requires : tie.Need-ask-grammar-requires
-ask-grammar-requires c κs = search needs
-
-enum-known-r : tie.Need-enum-known-r
-enum-known-r c = search needs
+-- the places that the needs speak of
+abbrev after-ask-grammar : tie.After-enum-told → tie.After-ask-grammar
+after-ask-grammar c = c .before .before
 
 returns : tie.Need-returns
 returns c = simp (sym (c .before .before .before .ask-grammar .ensures) ∙ c .before .r .given .1)
 
-enum-told : tie.Need-enum-told
-enum-told c = search needs
-
-ask-first-requires : tie.Need-ask-first-requires
-ask-first-requires c κs = search needs
-
-enum-known-r-2 : tie.Need-enum-known-r-2
-enum-known-r-2 c = search needs
-
 returns-2 : tie.Need-returns-2
 returns-2 c =
-    let g = sym (c .before .before .before .before .before .before .ask-grammar .ensures) ∙ c .before .before .before .before .enum-told .given .1 in
-    simp (g, letters-asked _ _ g ∙ sym (c .before .before .before .ask-first .ensures) ∙ c .before .r2 .given .1)
-
-enum-told-2 : tie.Need-enum-told-2
-enum-told-2 c = search needs
-
-ask-first-requires-2 : tie.Need-ask-first-requires-2
-ask-first-requires-2 c κs = search needs
-
-enum-known-r-3 : tie.Need-enum-known-r-3
-enum-known-r-3 c = search needs
+    let a = c .before .before .before in let e = a .before in
+    let g = sym (after-ask-grammar e .ask-grammar .ensures) ∙ e .enum-told .given .1 in
+    simp (g, letters-asked _ _ g ∙ sym (a .ask-first .ensures) ∙ c .before .r2 .given .1)
 
 returns-3 : tie.Need-returns-3
 returns-3 c =
-    let g = sym (c .before .before .before .before .before .before .before .before .before .ask-grammar .ensures) ∙ c .before .before .before .before .before .before .before .enum-told .given .1 in
-    simp (g, letters-asked _ _ g ∙ sym (c .before .before .before .before .before .before .ask-first .ensures) ∙ c .before .before .before .before .enum-told2 .given .1, numbers-asked _ g ∙ sym (c .before .before .before .ask-first2 .ensures) ∙ c .before .r3 .given .1)
-
-enum-told-3 : tie.Need-enum-told-3
-enum-told-3 c = search needs
-
-ask-first-requires-3 : tie.Need-ask-first-requires-3
-ask-first-requires-3 c κs = search needs
+    let a = c .before .before .before in let e = a .before in let af = e .before .before in let et = af .before in
+    let g = sym (after-ask-grammar et .ask-grammar .ensures) ∙ et .enum-told .given .1 in
+    simp (g, letters-asked _ _ g ∙ sym (af .ask-first .ensures) ∙ e .enum-told2 .given .1, numbers-asked _ g ∙ sym (a .ask-first2 .ensures) ∙ c .before .r3 .given .1)
 
 returns-4 : tie.Need-returns-4
 returns-4 c =
-    let g = sym (c .before .before .before .before .before .before .before .before .before .ask-grammar .ensures) ∙ c .before .before .before .before .before .before .before .enum-told .given .1 in
-    simp (g, letters-asked _ _ g ∙ sym (c .before .before .before .before .before .before .ask-first .ensures) ∙ c .before .before .before .before .enum-told2 .given .1, numbers-asked _ g ∙ sym (c .before .before .before .ask-first2 .ensures) ∙ c .before .enum-told3 .given .1, nodes-asked _ g) (c .ask-first3 .ensures ∙ sym (asked-one _))
+    let a = c .before .before .before in let e = a .before in let af = e .before .before in let et = af .before in
+    let g = sym (after-ask-grammar et .ask-grammar .ensures) ∙ et .enum-told .given .1 in
+    simp (
+      g,
+      letters-asked _ _ g ∙ sym (af .ask-first .ensures) ∙ e .enum-told2 .given .1,
+      numbers-asked _ g ∙ sym (a .ask-first2 .ensures) ∙ c .before .enum-told3 .given .1,
+      nodes-asked _ g,
+    ) (c .ask-first3 .ensures ∙ sym (asked-one _))
 
 pub ask-text-spec : {M : Type 1} → statement M
 ask-text-spec =
     tie.close
     (tie.spec
-    ask-grammar-requires
-    enum-known-r
+    (λ c κs. search needs)
+    (λ c. search needs)
     returns
-    enum-told
-    ask-first-requires
-    enum-known-r-2
+    (λ c. search needs)
+    (λ c κs. search needs)
+    (λ c. search needs)
     returns-2
-    enum-told-2
-    ask-first-requires-2
-    enum-known-r-3
+    (λ c. search needs)
+    (λ c κs. search needs)
+    (λ c. search needs)
     returns-3
-    enum-told-3
-    ask-first-requires-3
+    (λ c. search needs)
+    (λ c κs. search needs)
     returns-4)

@@ -11,41 +11,34 @@ use borrow.Author.Needs.{needs}
 use Rattle.letters.proofs.reach_channel.Statement.{statement}
 use Rattle.letters.proofs.reach_channel.Tie as tie
 
-sub-x : tie.Need-sub-x
-sub-x c = search needs
+-- the places that the needs speak of
+abbrev start : tie.After-reach-letters-arg2 → tie.Start
+start c = c .before .before .before .before
 
 div-reach-letters : tie.Need-div-reach-letters
-div-reach-letters c = let p = c .before .before .before .before .pre .1 in some-channel (c .before .before .before .before .args .c) (c .before .before .before .before .args .k) (c .before .before .before .before .args .u - 1) (omega (arith, p))
+div-reach-letters c = let p = start c .pre .1 in some-channel (start c .args .c) (start c .args .k) (start c .args .u - 1) (omega (arith, p))
 
 rem-reach-letters : tie.Need-rem-reach-letters
-rem-reach-letters c = let p = c .before .before .before .before .pre .1 in some-channel (c .before .before .before .before .args .c) (c .before .before .before .before .args .k) (c .before .before .before .before .args .u - 1) (omega (arith, p))
+rem-reach-letters c = let p = start c .pre .1 in some-channel (start c .args .c) (start c .args .k) (start c .args .u - 1) (omega (arith, p))
 
 reach-letters-requires : tie.Need-reach-letters-requires
-reach-letters-requires c κs = let p = c .before .before .before .before .pre in (p .0, instant-below (c .before .before .before .before .args .c) (c .before .before .before .before .args .k) (c .before .before .before .before .args .u - 1) (omega (arith, p .1)))
-
-same-length : tie.Need-same-length
-same-length c = search needs
-
-same-length-2 : tie.Need-same-length-2
-same-length-2 c = search needs
+reach-letters-requires c κs = let p = start c .pre in (p .0, instant-below (start c .args .c) (start c .args .k) (start c .args .u - 1) (omega (arith, p .1)))
 
 returns : tie.Need-returns
 returns c =
-    let p = c .before .before .before .before .before .before .before .before .before .pre in
-    let g = p .0 .0 in
-    let x : ℕ = c .before .before .before .before .before .before .before .before .before .args .u - 1 in
-    let h : x < c .before .before .before .before .before .before .before .before .before .args .k * c .before .before .before .before .before .before .before .before .before .args .c = omega (arith, p .1) in
-    let e : c .before .before .before .before .before .before .before .before .before .args .u ≡ suc x = omega (arith, p .1) in
-    reached (channel-suffices (c .before .before .before .before .before .before .before .before .before .args .c) (c .before .before .before .before .before .before .before .before .before .args .k) (c .before .before .before .before .before .before .before .before .before .args .u) (x / c .before .before .before .before .before .before .before .before .before .args .c) (x % c .before .before .before .before .before .before .before .before .before .args .c) (instant-below (c .before .before .before .before .before .before .before .before .before .args .c) (c .before .before .before .before .before .before .before .before .before .args .k) x h) (mod-lt x (some-channel (c .before .before .before .before .before .before .before .before .before .args .c) (c .before .before .before .before .before .before .before .before .before .args .k) x h)) (e ∙ channel-is (c .before .before .before .before .before .before .before .before .before .args .c) (c .before .before .before .before .before .before .before .before .before .args .k) x h) (g .grid) (g .some)) (c .before .before .before .before .reach-letters .ensures)
+    let r = c .before .before .before .before in let s = start (r .before) in let a = s .args in let p = s .pre in let g = p .0 .0 in
+    let x : ℕ = a .u - 1 in let h : x < a .k * a .c = omega (arith, p .1) in let e : a .u ≡ suc x = omega (arith, p .1) in
+    reached (channel-suffices (a .c) (a .k) (a .u) (x / a .c) (x % a .c) (instant-below (a .c) (a .k) x h) (mod-lt x (some-channel (a .c) (a .k) x h))
+    (e ∙ channel-is (a .c) (a .k) x h) (g .grid) (g .some)) (r .reach-letters .ensures)
 
 pub reach-channel-spec : {M : Type 1} → statement M
 reach-channel-spec =
     tie.close
     (tie.spec
-    sub-x
+    (λ c. search needs)
     div-reach-letters
     rem-reach-letters
     reach-letters-requires
-    same-length
-    same-length-2
+    (λ c. search needs)
+    (λ c. search needs)
     returns)

@@ -3,7 +3,7 @@
 use Rattle.literals.proofs.Written.{and-then, room-first, room-next}
 use Rattle.clauses.specs.Entries.{Entry, entry}
 use Rattle.literals.specs.Written.{runOf}
-use Rattle.interval.specs.Listing.{rows}
+use Rattle.lists.specs.Listing.{rows}
 use mathlib.Core.List.{List, [], _∷_, _++_}
 use mathlib.Core.Path.{refl}
 use Prim.Native.Nat.{ℕ, _+_, _-_}
@@ -18,62 +18,51 @@ inputs w n = rows (n - 1) (runOf w 1)
 abbrev last : ℕ → ℕ → List Entry
 last w n = entry (w + (n - 1)) 3 ∷ []
 
-sub-last : tie.Need-sub-last
-sub-last c = search needs
+-- the places that the needs speak of
+abbrev start : tie.After-put → tie.Start
+start c = c .before .before .before .before .before .before .before
 
-slice-aggregate-put : tie.Need-slice-aggregate-put
-slice-aggregate-put c = search needs
+abbrev after-put : tie.After-put-run-arg2 → tie.After-put
+after-put c = c .before .before .before .before .before .before
 
-slice-aggregate-put-2 : tie.Need-slice-aggregate-put-2
-slice-aggregate-put-2 c = search needs
-
-put-requires : tie.Need-put-requires
-put-requires c κs = search needs
+abbrev after-put-run : tie.After-put-arg8 → tie.After-put-run
+after-put-run c = c .before .before .before .before .before .before .before .before
 
 put-run-requires : tie.Need-put-run-requires
-put-run-requires c κs = let s = c .before .before .before .before .before .before .before .before .before .before .before .before .before in
-    let a = s .args in
-    (room-first (room-next (s .pre .0) (entry (a .v) 0 ∷ []) (inputs (a .w) (a .n) ++ last (a .w) (a .n)) refl (c .before .before .before .before .before .before .put .ensures _ refl refl)) (inputs (a .w) (a .n)) (last (a .w) (a .n)) refl, search needs)
-
-add-t30 : tie.Need-add-t30
-add-t30 c = search needs
-
-slice-aggregate-put-3 : tie.Need-slice-aggregate-put-3
-slice-aggregate-put-3 c = search needs
-
-slice-aggregate-put-4 : tie.Need-slice-aggregate-put-4
-slice-aggregate-put-4 c = search needs
+put-run-requires c κs =
+    let p = after-put c in let s = start p in
+    let a = s .args in (
+      room-first (room-next (s .pre .0) (entry (a .v) 0 ∷ []) (inputs (a .w) (a .n) ++ last (a .w) (a .n)) refl (p .put .ensures _ refl refl)) (inputs (a .w) (a .n))
+          (last (a .w) (a .n)) refl,
+      search needs,
+    )
 
 put-requires-2 : tie.Need-put-requires-2
-put-requires-2 c κs = let s = c .before .before .before .before .before .before .before .before .before .before .before .before .before .before .before .before .before .before .before .before .before .before in
-    let a = s .args in
-    let r = room-next (s .pre .0) (entry (a .v) 0 ∷ []) (inputs (a .w) (a .n) ++ last (a .w) (a .n)) refl (c .before .before .before .before .before .before .before .before .before .before .before .before .before .before .before .put .ensures _ refl refl) in
-    let t = room-next r (inputs (a .w) (a .n)) (last (a .w) (a .n)) refl (c .before .before .before .before .before .before .before .before .put-run .ensures) in
+put-requires-2 c κs =
+    let p = after-put-run c in let u = after-put (p .before) in let s = start u in let a = s .args in
+    let r = room-next (s .pre .0) (entry (a .v) 0 ∷ []) (inputs (a .w) (a .n) ++ last (a .w) (a .n)) refl (u .put .ensures _ refl refl) in
+    let t = room-next r (inputs (a .w) (a .n)) (last (a .w) (a .n)) refl (p .put-run .ensures) in
     (omega (arith, t .variables), omega (arith, t .marks))
 
-same-length : tie.Need-same-length
-same-length c = search needs
-
-same-length-2 : tie.Need-same-length-2
-same-length-2 c = search needs
-
 returns : tie.Need-returns
-returns c = let a = c .before .before .before .before .before .before .before .before .before .before .before .before .before .before .before .before .before .before .before .before .before .before .before .before .before .before .before .args in
-    and-then (c .before .before .before .before .before .before .before .before .before .before .before .before .before .before .before .before .before .before .before .before .put .ensures (entry (a .v) 0 ∷ []) refl refl) (and-then (c .before .before .before .before .before .before .before .before .before .before .before .before .before .put-run .ensures) (c .before .before .before .before .put2 .ensures (last (a .w) (a .n)) refl refl))
+returns c =
+    let p = c .before .before .before .before in let pr = after-put-run (p .before) in let u = after-put (pr .before) in
+    let a = start u .args in
+    and-then (u .put .ensures (entry (a .v) 0 ∷ []) refl refl) (and-then (pr .put-run .ensures) (p .put2 .ensures (last (a .w) (a .n)) refl refl))
 
 pub put-long-spec : {M : Type 1} → statement M
 put-long-spec =
     tie.close
     (tie.spec
-    sub-last
-    slice-aggregate-put
-    slice-aggregate-put-2
-    put-requires
+    (λ c. search needs)
+    (λ c. search needs)
+    (λ c. search needs)
+    (λ c κs. search needs)
     put-run-requires
-    add-t30
-    slice-aggregate-put-3
-    slice-aggregate-put-4
+    (λ c. search needs)
+    (λ c. search needs)
+    (λ c. search needs)
     put-requires-2
-    same-length
-    same-length-2
+    (λ c. search needs)
+    (λ c. search needs)
     returns)

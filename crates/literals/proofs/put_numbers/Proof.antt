@@ -17,32 +17,8 @@ abbrev μ-loop : tie.MeasureT-loop
 loop-holds : tie.Need-loop-holds Inv-loop μ-loop
 loop-holds c = copy-begun refl
 
-mul-variables : tie.Need-mul-variables Inv-loop μ-loop
-mul-variables c = search needs
-
-shared-slice-read-variables : tie.Need-shared-slice-read-variables Inv-loop μ-loop
-shared-slice-read-variables c = search needs
-
-add-variables : tie.Need-add-variables Inv-loop μ-loop
-add-variables c = search needs
-
-mul-variables-2 : tie.Need-mul-variables-2 Inv-loop μ-loop
-mul-variables-2 c = search needs
-
-slice-write-variables : tie.Need-slice-write-variables Inv-loop μ-loop
-slice-write-variables c = search needs
-
-add-e : tie.Need-add-e Inv-loop μ-loop
-add-e c = search needs
-
-loop-less : tie.Need-loop-less Inv-loop μ-loop
-loop-less c = search needs
-
 loop-again : tie.Need-loop-again Inv-loop μ-loop
 loop-again c = same-turn (c .before .before .loop .inv) (search needs) refl refl
-
-same-length : tie.Need-same-length Inv-loop μ-loop
-same-length c = search needs
 
 returns : tie.Need-returns Inv-loop μ-loop
 returns c = same-done (c .before .loop .inv) (omega (arith, c .loop-test .left))
@@ -54,13 +30,13 @@ put-numbers-spec =
     Inv-loop
     μ-loop
     loop-holds
-    mul-variables
-    shared-slice-read-variables
-    add-variables
-    mul-variables-2
-    slice-write-variables
-    add-e
-    loop-less
+    (λ c. search needs)
+    (λ c. search needs)
+    (λ c. search needs)
+    (λ c. search needs)
+    (λ c. search needs)
+    (λ c. search needs)
+    (λ c. search needs)
     loop-again
-    same-length
+    (λ c. search needs)
     returns)

@@ -15,36 +15,21 @@ Inv-loop variables₀ marks₀ at v w n b₀ e₀ t9 variables marks b e = Sofar
 abbrev μ-loop : tie.MeasureT-loop
 μ-loop variables₀ marks₀ at v w n b₀ e₀ t9 variables marks b e = n - e
 
+-- the places that the needs speak of
+abbrev at-turn : tie.After-put-arg4 Inv-loop μ-loop → tie.At-loop Inv-loop μ-loop
+at-turn c = c .before .before .before .before .before
+
 loop-holds : tie.Need-loop-holds Inv-loop μ-loop
 loop-holds c = begun
 
-add-t16 : tie.Need-add-t16 Inv-loop μ-loop
-add-t16 c = search needs
-
-slice-aggregate-put : tie.Need-slice-aggregate-put Inv-loop μ-loop
-slice-aggregate-put c = search needs
-
-slice-aggregate-put-2 : tie.Need-slice-aggregate-put-2 Inv-loop μ-loop
-slice-aggregate-put-2 c = search needs
-
 put-requires : tie.Need-put-requires Inv-loop μ-loop
-put-requires c κs = let r = room (c .before .before .before .before .before .loop .inv) (search needs) refl (c .before .before .before .before .before .before .before .before .pre .0) in
+put-requires c κs =
+    let l = at-turn c in let r = room (l .loop .inv) (search needs) refl (l .before .before .before .pre .0) in
     (omega (arith, r .variables), omega (arith, r .marks))
 
-add-e : tie.Need-add-e Inv-loop μ-loop
-add-e c = search needs
-
-loop-less : tie.Need-loop-less Inv-loop μ-loop
-loop-less c = search needs
-
 loop-again : tie.Need-loop-again Inv-loop μ-loop
-loop-again c = turn (c .before .before .before .before .before .before .before .before .before .before .loop .inv) (search needs) refl (c .before .before .before .before .put .ensures (raisedOf _ _ _) refl refl)
-
-same-length : tie.Need-same-length Inv-loop μ-loop
-same-length c = search needs
-
-same-length-2 : tie.Need-same-length-2 Inv-loop μ-loop
-same-length-2 c = search needs
+loop-again c =
+    let p = c .before .before .before .before in turn (at-turn (p .before) .loop .inv) (search needs) refl (p .put .ensures (raisedOf _ _ _) refl refl)
 
 returns : tie.Need-returns Inv-loop μ-loop
 returns c = done (c .before .loop .inv) (search needs)
@@ -56,13 +41,13 @@ put-raised-spec =
     Inv-loop
     μ-loop
     loop-holds
-    add-t16
-    slice-aggregate-put
-    slice-aggregate-put-2
+    (λ c. search needs)
+    (λ c. search needs)
+    (λ c. search needs)
     put-requires
-    add-e
-    loop-less
+    (λ c. search needs)
+    (λ c. search needs)
     loop-again
-    same-length
-    same-length-2
+    (λ c. search needs)
+    (λ c. search needs)
     returns)

@@ -5,39 +5,43 @@ use borrow.Author.Needs.{needs}
 use Rattle.node_clauses.proofs.put_chop.Statement.{statement}
 use Rattle.node_clauses.proofs.put_chop.Tie as tie
 
-beyond-requires : tie.Need-beyond-requires
-beyond-requires c κs = search needs
+-- the places that the needs speak of
+abbrev start : tie.After-beyond → tie.Start
+start c = c .before .before .before
 
-triples-of-requires : tie.Need-triples-of-requires
-triples-of-requires c κs = search needs
+abbrev after-intervals-of : tie.After-put-block → tie.After-intervals-of
+after-intervals-of c = c .before .before .before
 
-intervals-of-requires : tie.Need-intervals-of-requires
-intervals-of-requires c κs = search needs
+abbrev after-put-block : tie.After-put-block-arg4 → tie.After-put-block
+after-put-block c = c .before .before .before .before .before .before
 
 put-block-requires : tie.Need-put-block-requires
-put-block-requires c κs = let h = halves (c .before .before .before .before .before .before .before .args .block) (c .before .before .before .before .beyond .ensures) (c .before .before .before .triples-of .ensures) (c .before .before .intervals-of .ensures) in (room-triples _ h (c .before .before .before .before .before .before .before .pre .0), triples-bounded _ h (c .before .before .before .before .before .before .before .pre .1))
+put-block-requires c κs =
+    let i = c .before .before in let t = i .before in let b = t .before in
+    let h = halves (start b .args .block) (b .beyond .ensures) (t .triples-of .ensures) (i .intervals-of .ensures) in
+    (room-triples _ h (start b .pre .0), triples-bounded _ h (start b .pre .1))
 
 put-block-requires-2 : tie.Need-put-block-requires-2
-put-block-requires-2 c κs = let h = halves (c .before .before .before .before .before .before .before .before .before .before .before .before .before .before .args .block) (c .before .before .before .before .before .before .before .before .before .before .before .beyond .ensures) (c .before .before .before .before .before .before .before .before .before .before .triples-of .ensures) (c .before .before .before .before .before .before .before .before .before .intervals-of .ensures) in (room-intervals _ h (c .before .before .before .before .before .before .before .before .before .before .before .before .before .before .pre .0) (c .before .before .before .before .before .before .put-block .ensures), intervals-bounded _ h (c .before .before .before .before .before .before .before .before .before .before .before .before .before .before .pre .1))
-
-same-length : tie.Need-same-length
-same-length c = search needs
-
-same-length-2 : tie.Need-same-length-2
-same-length-2 c = search needs
+put-block-requires-2 c κs =
+    let p = after-put-block c in let i = after-intervals-of p in let t = i .before in let b = t .before in
+    let h = halves (start b .args .block) (b .beyond .ensures) (t .triples-of .ensures) (i .intervals-of .ensures) in
+    (room-intervals _ h (start b .pre .0) (p .put-block .ensures), intervals-bounded _ h (start b .pre .1))
 
 returns : tie.Need-returns
-returns c = wrote-chopped _ (halves (c .before .before .before .before .before .before .before .before .before .before .before .before .before .before .before .before .before .before .before .args .block) (c .before .before .before .before .before .before .before .before .before .before .before .before .before .before .before .before .beyond .ensures) (c .before .before .before .before .before .before .before .before .before .before .before .before .before .before .before .triples-of .ensures) (c .before .before .before .before .before .before .before .before .before .before .before .before .before .before .intervals-of .ensures)) (c .before .before .before .before .before .before .before .before .before .before .before .put-block .ensures) (c .before .before .before .before .put-block2 .ensures)
+returns c =
+    let p = c .before .before .before .before in let pb = after-put-block (p .before) in let i = after-intervals-of pb in let t = i .before in
+    let b = t .before in
+    wrote-chopped _ (halves (start b .args .block) (b .beyond .ensures) (t .triples-of .ensures) (i .intervals-of .ensures)) (pb .put-block .ensures) (p .put-block2 .ensures)
 
 pub put-chop-spec : {M : Type 1} → statement M
 put-chop-spec =
     tie.close
     (tie.spec
-    beyond-requires
-    triples-of-requires
-    intervals-of-requires
+    (λ c κs. search needs)
+    (λ c κs. search needs)
+    (λ c κs. search needs)
     put-block-requires
     put-block-requires-2
-    same-length
-    same-length-2
+    (λ c. search needs)
+    (λ c. search needs)
     returns)

@@ -8,43 +8,40 @@ use borrow.Author.Needs.{needs}
 use Rattle.node_clauses.proofs.put_node.Statement.{statement}
 use Rattle.node_clauses.proofs.put_node.Tie as tie
 
-is-chop-requires : tie.Need-is-chop-requires
-is-chop-requires c κs = search needs
+-- the places that the needs speak of
+abbrev start : tie.After-is-chop → tie.Start
+start c = c .before .before .before
 
 put-chop-requires : tie.Need-put-chop-requires
-put-chop-requires c κs = (subst (Room _ _ _) (sym (places-known _ _ _ (c .before .before .before .is-chop .ensures) (c .before .before .if1 .taken))) (c .before .before .before .before .before .before .pre .0), c .before .before .before .before .before .before .pre .1)
-
-same-length : tie.Need-same-length
-same-length c = search needs
-
-same-length-2 : tie.Need-same-length-2
-same-length-2 c = search needs
+put-chop-requires c κs =
+    let t1 = c .before .before in let i = t1 .before in
+    (subst (Room _ _ _) (sym (places-known _ _ _ (i .is-chop .ensures) (t1 .if1 .taken))) (start i .pre .0), start i .pre .1)
 
 returns : tie.Need-returns
-returns c = named (places-known _ _ _ (c .before .before .before .before .before .before .before .before .is-chop .ensures) (c .before .before .before .before .before .before .before .if1 .taken)) (c .before .before .before .before .put-chop .ensures)
+returns c =
+    let p = c .before .before .before .before in let t1 = p .before .before .before in
+    named (places-known _ _ _ (t1 .before .is-chop .ensures) (t1 .if1 .taken)) (p .put-chop .ensures)
 
 put-block-requires : tie.Need-put-block-requires
-put-block-requires c κs = (subst (Room _ _ _) (sym (places-known _ _ _ (c .before .before .before .is-chop .ensures) (c .before .before .if1 .left))) (c .before .before .before .before .before .before .pre .0), (c .before .before .before .before .before .before .pre .1 .bounded, c .before .before .before .before .before .before .pre .1 .points))
-
-same-length-3 : tie.Need-same-length-3
-same-length-3 c = search needs
-
-same-length-4 : tie.Need-same-length-4
-same-length-4 c = search needs
+put-block-requires c κs =
+    let e1 = c .before .before in let i = e1 .before in
+    (subst (Room _ _ _) (sym (places-known _ _ _ (i .is-chop .ensures) (e1 .if1 .left))) (start i .pre .0), (start i .pre .1 .bounded, start i .pre .1 .points))
 
 returns-2 : tie.Need-returns-2
-returns-2 c = named (places-known _ _ _ (c .before .before .before .before .before .before .before .before .is-chop .ensures) (c .before .before .before .before .before .before .before .if1 .left)) (c .before .before .before .before .put-block .ensures)
+returns-2 c =
+    let p = c .before .before .before .before in let e1 = p .before .before .before in
+    named (places-known _ _ _ (e1 .before .is-chop .ensures) (e1 .if1 .left)) (p .put-block .ensures)
 
 pub put-node-spec : {M : Type 1} → statement M
 put-node-spec =
     tie.close
     (tie.spec
-    is-chop-requires
+    (λ c κs. search needs)
     put-chop-requires
-    same-length
-    same-length-2
+    (λ c. search needs)
+    (λ c. search needs)
     returns
     put-block-requires
-    same-length-3
-    same-length-4
+    (λ c. search needs)
+    (λ c. search needs)
     returns-2)

@@ -3,26 +3,14 @@
 use mathlib.Core.Path.{ap}
 use borrow.Author.Needs.{needs}
 use Rattle.nodes.specs.declared.Tabled.{Tabled}
-use Rattle.nodes.proofs.Laws.{refused-early, refused-last}
+use Rattle.nodes.proofs.Called.{refused-early, refused-last}
 use Rattle.nodes.proofs.ask_node.Statement.{statement}
 use Rattle.nodes.proofs.ask_node.Tie as tie
-
-node-table-requires : tie.Need-node-table-requires
-node-table-requires c κs = search needs
-
-enum-known-reply : tie.Need-enum-known-reply
-enum-known-reply c = search needs
 
 returns : tie.Need-returns
 returns c =
     let e = c .before .before .before .before .node-table .ensures in
     (refused-early _ _ _ _ _ e _ (c .before .reply .given .1), ap (λ (T : Tabled). T .table) e)
-
-enum-told : tie.Need-enum-told
-enum-told c = search needs
-
-ask-within-requires : tie.Need-ask-within-requires
-ask-within-requires c κs = search needs
 
 returns-2 : tie.Need-returns-2
 returns-2 c =
@@ -32,4 +20,4 @@ returns-2 c =
 pub ask-node-spec : {M : Type 1} → statement M
 ask-node-spec =
     tie.close
-    (tie.spec node-table-requires enum-known-reply returns enum-told ask-within-requires returns-2)
+    (tie.spec (λ c κs. search needs) (λ c. search needs) returns (λ c. search needs) (λ c κs. search needs) returns-2)

@@ -16,41 +16,43 @@ Inv-loop sizes z y₀ y = (y < z) × ((v : ℕ) → y < v → v < z → v + getD
 abbrev μ-loop : tie.MeasureT-loop
 μ-loop sizes z y₀ y = y
 
-sub-y : tie.Need-sub-y Inv-loop μ-loop
-sub-y c = search needs
+-- the places that the needs speak of
+abbrev turn : tie.Then1 Inv-loop μ-loop → tie.At-loop Inv-loop μ-loop
+turn c = c .before .before .before
 
 loop-holds : tie.Need-loop-holds Inv-loop μ-loop
 loop-holds c = (omega (arith, c .pre), λ v a b. absurd (omega arith))
 
-byte-at-requires : tie.Need-byte-at-requires Inv-loop μ-loop
-byte-at-requires c κs = search needs
-
-cast-if1 : tie.Need-cast-if1 Inv-loop μ-loop
-cast-if1 c = search needs
-
 add-if1 : tie.Need-add-if1 Inv-loop μ-loop
-add-if1 c = omega (arith, c .before .before .before .pre, c .before .before .loop .inv .0)
+add-if1 c = let l = c .before .before in omega (arith, l .before .pre, l .loop .inv .0)
 
 sub-y-2 : tie.Need-sub-y-2 Inv-loop μ-loop
 sub-y-2 c =
-    let i = c .before .before .before .loop .inv in
-    let a = c .before .before .before .before .args in
-    by-cases (decLt 0 (c .before .before .before .loop .y)) (λ l. omega (arith, l)) (λ n. let e : c .before .before .before .loop .y ≡ 0 = omega (arith, n) in absurd (omega (arith, ap (λ y. getD (a .sizes .now) y 0) e, c .before .byte-at .ensures, c .if1 .taken, c .before .before .before .before .pre)))
+    let w = turn c in let i = w .loop .inv in let a = w .before .args in
+    by-cases (decLt 0 (w .loop .y)) (λ l. omega (arith, l))
+    (λ n. let e : w .loop .y ≡ 0 = omega (arith, n) in
+    absurd (omega (arith, ap (λ y. getD (a .sizes .now) y 0) e, c .before .byte-at .ensures, c .if1 .taken, w .before .pre)))
 
 loop-less : tie.Need-loop-less Inv-loop μ-loop
 loop-less c =
-    let i = c .before .before .before .loop .inv in
-    let a = c .before .before .before .before .args in
-    by-cases (decLt 0 (c .before .before .before .loop .y)) (λ l. omega (arith, l)) (λ n. let e : c .before .before .before .loop .y ≡ 0 = omega (arith, n) in absurd (omega (arith, ap (λ y. getD (a .sizes .now) y 0) e, c .before .byte-at .ensures, c .if1 .taken, c .before .before .before .before .pre)))
+    let w = turn c in let i = w .loop .inv in let a = w .before .args in
+    by-cases (decLt 0 (w .loop .y)) (λ l. omega (arith, l))
+    (λ n. let e : w .loop .y ≡ 0 = omega (arith, n) in
+    absurd (omega (arith, ap (λ y. getD (a .sizes .now) y 0) e, c .before .byte-at .ensures, c .if1 .taken, w .before .pre)))
 
 loop-again : tie.Need-loop-again Inv-loop μ-loop
 loop-again c =
-    let i = c .before .before .before .loop .inv in
-    let sizes = c .before .before .before .before .args .sizes .now in
-    (omega (arith, i .0), λ v a b. by-cases (decLt (c .before .before .before .loop .y) v) (λ l. i .1 v l b) (λ n. let e : v ≡ c .before .before .before .loop .y = omega (arith, n, a) in subst (λ v. v + getD sizes v 0 ≤ c .before .before .before .before .args .z) (sym e) (omega (arith, c .before .byte-at .ensures, c .if1 .taken))))
+    let w = turn c in let i = w .loop .inv in
+    let sizes = w .before .args .sizes .now in (
+      omega (arith, i .0),
+      λ v a b. by-cases (decLt (w .loop .y) v) (λ l. i .1 v l b)
+          (λ n. let e : v ≡ w .loop .y = omega (arith, n, a) in subst (λ v. v + getD sizes v 0 ≤ w .before .args .z) (sym e)
+          (omega (arith, c .before .byte-at .ensures, c .if1 .taken))),
+    )
 
 returns : tie.Need-returns Inv-loop μ-loop
-returns c = let i = c .before .before .before .loop .inv in record { before = i .0; among = omega (arith, c .before .byte-at .ensures, c .if1 .left); between = i .1 }
+returns c =
+    let i = c .before .before .before .loop .inv in record { before = i .0; among = omega (arith, c .before .byte-at .ensures, c .if1 .left); between = i .1 }
 
 pub nearest-spec : {M : Type 1} → statement M
 nearest-spec =
@@ -58,10 +60,10 @@ nearest-spec =
     (tie.spec
     Inv-loop
     μ-loop
-    sub-y
+    (λ c. search needs)
     loop-holds
-    byte-at-requires
-    cast-if1
+    (λ c κs. search needs)
+    (λ c. search needs)
     add-if1
     sub-y-2
     loop-less

@@ -18,34 +18,23 @@ Inv-loop sizes count parents₀ z₀ parents z =
 abbrev μ-loop : tie.MeasureT-loop
 μ-loop sizes count parents₀ z₀ parents z = count - z
 
-element-write-parents : tie.Need-element-write-parents Inv-loop μ-loop
-element-write-parents c = search needs
-
 loop-holds : tie.Need-loop-holds Inv-loop μ-loop
 loop-holds c = (length-set (c .args .parents .now) 0 0 ∙ c .pre .3, omega arith, c .pre .0, none-nearest _ (c .args .parents .now) (omega (arith, c .pre .3)))
 
-nearest-requires : tie.Need-nearest-requires Inv-loop μ-loop
-nearest-requires c κs = search needs
-
-cast-parents : tie.Need-cast-parents Inv-loop μ-loop
-cast-parents c = search needs
-
-element-write-parents-2 : tie.Need-element-write-parents-2 Inv-loop μ-loop
-element-write-parents-2 c = search needs
-
-add-z : tie.Need-add-z Inv-loop μ-loop
-add-z c = search needs
-
-loop-less : tie.Need-loop-less Inv-loop μ-loop
-loop-less c = search needs
-
 loop-again : tie.Need-loop-again Inv-loop μ-loop
 loop-again c =
-    let i = c .before .before .loop .inv in
-    (length-set (c .before .before .loop .parents) (c .before .before .loop .z) (c .nearest .result) ∙ i .0, omega arith, omega (arith, c .before .loop-test .taken), one-nearest (i .3) (i .1) (omega (arith, i .0, i .2, c .before .loop-test .taken, c .before .before .before .pre)) (c .nearest .ensures))
+    let il = c .before in let l = il .before in
+    let i = l .loop .inv in (
+      length-set (l .loop .parents) (l .loop .z) (c .nearest .result) ∙ i .0,
+      omega arith,
+      omega (arith, il .loop-test .taken),
+      one-nearest (i .3) (i .1) (omega (arith, i .0, i .2, il .loop-test .taken, l .before .pre)) (c .nearest .ensures),
+    )
 
 returns : tie.Need-returns Inv-loop μ-loop
-returns c = let i = c .before .loop .inv in let e : c .before .loop .z ≡ c .before .before .args .count = omega (arith, i .2, c .loop-test .left) in subst (Nearest _ _) e (i .3)
+returns c =
+    let l = c .before in
+    let i = l .loop .inv in let e : l .loop .z ≡ l .before .args .count = omega (arith, i .2, c .loop-test .left) in subst (Nearest _ _) e (i .3)
 
 pub put-parents-spec : {M : Type 1} → statement M
 put-parents-spec =
@@ -53,12 +42,12 @@ put-parents-spec =
     (tie.spec
     Inv-loop
     μ-loop
-    element-write-parents
+    (λ c. search needs)
     loop-holds
-    nearest-requires
-    cast-parents
-    element-write-parents-2
-    add-z
-    loop-less
+    (λ c κs. search needs)
+    (λ c. search needs)
+    (λ c. search needs)
+    (λ c. search needs)
+    (λ c. search needs)
     loop-again
     returns)

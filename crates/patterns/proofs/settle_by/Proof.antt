@@ -8,42 +8,25 @@ use borrow.Author.Needs.{needs}
 use Rattle.patterns.proofs.settle_by.Statement.{statement}
 use Rattle.patterns.proofs.settle_by.Tie as tie
 
-value-requires : tie.Need-value-requires
-value-requires c κs = search needs
-
-value-requires-2 : tie.Need-value-requires-2
-value-requires-2 c κs = search needs
-
-value-requires-3 : tie.Need-value-requires-3
-value-requires-3 c κs = search needs
+-- the places that the needs speak of
+abbrev start : tie.After-value → tie.Start
+start c = c .before .before .before .before
 
 quiet-requires : tie.Need-quiet-requires
-quiet-requires c κs = let s = c .before .before .before .before .before .before .before .before in let f = s .pre .0 .0 .small in (
-  s .pre .0 .1,
-  omega (arith, c .before .before .before .before .value .ensures, f (s .args .v - 1)),
-  omega (arith, c .before .before .value2 .ensures, f (s .args .x - 1)),
-  omega (arith, c .value3 .ensures, f (s .args .y - 1)),
-)
-
-same-length : tie.Need-same-length
-same-length c = search needs
+quiet-requires c κs =
+    let v = c .before .before in let value = v .before .before in let s = start value in
+    let f = s .pre .0 .0 .small in (
+      s .pre .0 .1,
+      omega (arith, value .value .ensures, f (s .args .v - 1)),
+      omega (arith, v .value2 .ensures, f (s .args .x - 1)),
+      omega (arith, c .value3 .ensures, f (s .args .y - 1)),
+    )
 
 returns : tie.Need-returns
-returns c = let s = c .before .before .before .before .before .before .before .before .before .before in let w = s .pre .1 in
+returns c =
+    let v = c .before .before in let value = v .before .before in let u = value .before .before in let s = start u in let w = s .pre .1 in
     settled (visits-none _ (s .pre .0 .0)) (nothing-forced _ (s .args .v) (s .args .x) (s .args .y) (s .args .z) (w .0 .0) (w .1 .0) (w .2 .0) (w .3 .0) (s .args .gate)
-    (known _ (c .before .before .before .before .before .before .value .ensures) (c .before .before .before .before .value2 .ensures) (c .before .before .value3 .ensures) refl refl) (c .before .quiet .ensures _ (s .pre .0 .0 .small (s .args .z - 1)) (c .if1 .taken)))
-
-settle-on-requires : tie.Need-settle-on-requires
-settle-on-requires c κs = search needs
-
-ended-requires : tie.Need-ended-requires
-ended-requires c κs = search needs
-
-same-length-2 : tie.Need-same-length-2
-same-length-2 c = search needs
-
-same-length-3 : tie.Need-same-length-3
-same-length-3 c = search needs
+    (known _ (u .value .ensures) (value .value2 .ensures) (v .value3 .ensures) refl refl) (c .before .quiet .ensures _ (s .pre .0 .0 .small (s .args .z - 1)) (c .if1 .taken)))
 
 returns-2 : tie.Need-returns-2
 returns-2 c = ended-named (c .ended .ensures) (c .before .before .before .before .before .settle-on .ensures)
@@ -52,14 +35,14 @@ pub settle-by-spec : {M : Type 1} → statement M
 settle-by-spec =
     tie.close
     (tie.spec
-    value-requires
-    value-requires-2
-    value-requires-3
+    (λ c κs. search needs)
+    (λ c κs. search needs)
+    (λ c κs. search needs)
     quiet-requires
-    same-length
+    (λ c. search needs)
     returns
-    settle-on-requires
-    ended-requires
-    same-length-2
-    same-length-3
+    (λ c κs. search needs)
+    (λ c κs. search needs)
+    (λ c. search needs)
+    (λ c. search needs)
     returns-2)

@@ -8,57 +8,47 @@ use borrow.Author.Needs.{needs}
 use Rattle.patterns.proofs.settle_step.Statement.{statement}
 use Rattle.patterns.proofs.settle_step.Tie as tie
 
-value-requires : tie.Need-value-requires
-value-requires c κs = search needs
-
-value-requires-2 : tie.Need-value-requires-2
-value-requires-2 c κs = search needs
-
-value-requires-3 : tie.Need-value-requires-3
-value-requires-3 c κs = search needs
-
-value-requires-4 : tie.Need-value-requires-4
-value-requires-4 c κs = search needs
+-- the places that the needs speak of
+abbrev start : tie.After-value4 → tie.Start
+start c = c .before .before .before .before .before .before .before .before .before .before
 
 step-quiet-requires : tie.Need-step-quiet-requires
-step-quiet-requires c κs = let t = c .before .before .before .before .before .before .before .before .before .before .pre .0 in (omega (arith, c .before .before .before .before .before .before .value .ensures, t .small (c .before .before .before .before .before .before .before .before .before .before .args .v - 1)), omega (arith, c .before .before .before .before .value2 .ensures, t .small (c .before .before .before .before .before .before .before .before .before .before .args .p - 1)), omega (arith, c .before .before .value3 .ensures, t .small (c .before .before .before .before .before .before .before .before .before .before .args .q - 1)), omega (arith, c .value4 .ensures, t .small (c .before .before .before .before .before .before .before .before .before .before .args .s - 1)))
-
-same-length : tie.Need-same-length
-same-length c = search needs
+step-quiet-requires c κs =
+    let v = c .before .before in let value = v .before .before in let s = start c in let a = s .args in
+    let t = s .pre .0 in (
+      omega (arith, value .before .before .value .ensures, t .small (a .v - 1)),
+      omega (arith, value .value2 .ensures, t .small (a .p - 1)),
+      omega (arith, v .value3 .ensures, t .small (a .q - 1)),
+      omega (arith, c .value4 .ensures, t .small (a .s - 1)),
+    )
 
 returns : tie.Need-returns
 returns c =
-    let s = c .before .before .before .before .before .before .before .before .before .before .before .before .pre in
-    settled-named (patterns (c .before .before .before .before .before .before .before .before .before .before .before .before .args .v) (c .before .before .before .before .before .before .before .before .before .before .before .before .args .p) (c .before .before .before .before .before .before .before .before .before .before .before .before .args .q) (c .before .before .before .before .before .before .before .before .before .before .before .before .args .s) .4) (settled (visits-none _ (s .0)) (nothing-forced _ (c .before .before .before .before .before .before .before .before .before .before .before .before .args .v) (c .before .before .before .before .before .before .before .before .before .before .before .before .args .p) (c .before .before .before .before .before .before .before .before .before .before .before .before .args .q) (c .before .before .before .before .before .before .before .before .before .before .before .before .args .s) (s .1 .0) (s .2 .0 .0) (s .2 .1 .0) (s .2 .2 .0) 4 (known 4 (c .before .before .before .before .before .before .before .before .value .ensures) (c .before .before .before .before .before .before .value2 .ensures) (c .before .before .before .before .value3 .ensures) (c .before .before .value4 .ensures) refl) (c .before .step-quiet .ensures (c .if1 .taken))))
-
-settle-on-requires : tie.Need-settle-on-requires
-settle-on-requires c κs = search needs
-
-ended-requires : tie.Need-ended-requires
-ended-requires c κs = search needs
-
-same-length-2 : tie.Need-same-length-2
-same-length-2 c = search needs
-
-same-length-3 : tie.Need-same-length-3
-same-length-3 c = search needs
+    let v = c .before .before in let value = v .before .before in let u = value .before .before in let start₀ = start v in let a = start₀ .args in
+    let s = start₀ .pre in
+    settled-named (patterns (a .v) (a .p) (a .q) (a .s) .4)
+    (settled (visits-none _ (s .0)) (nothing-forced _ (a .v) (a .p) (a .q) (a .s) (s .1 .0) (s .2 .0 .0) (s .2 .1 .0) (s .2 .2 .0) 4
+    (known 4 (u .before .before .value .ensures) (u .value2 .ensures) (value .value3 .ensures) (v .value4 .ensures) refl)
+    (c .before .step-quiet .ensures (c .if1 .taken))))
 
 returns-2 : tie.Need-returns-2
-returns-2 c = let s = c .before .before .before .before .before .before .before .before .before .before .before .before .before .before .before .before .before .before .before .before .args in settled-named (patterns (s .v) (s .p) (s .q) (s .s) .4) (ended-named (c .ended .ensures) (c .before .before .before .before .before .settle-on .ensures))
+returns-2 c =
+    let so = c .before .before .before .before .before in let s = start (so .before .before .before .before .before) .args in
+    settled-named (patterns (s .v) (s .p) (s .q) (s .s) .4) (ended-named (c .ended .ensures) (so .settle-on .ensures))
 
 pub settle-step-spec : {M : Type 1} → statement M
 settle-step-spec =
     tie.close
     (tie.spec
-    value-requires
-    value-requires-2
-    value-requires-3
-    value-requires-4
+    (λ c κs. search needs)
+    (λ c κs. search needs)
+    (λ c κs. search needs)
+    (λ c κs. search needs)
     step-quiet-requires
-    same-length
+    (λ c. search needs)
     returns
-    settle-on-requires
-    ended-requires
-    same-length-2
-    same-length-3
+    (λ c κs. search needs)
+    (λ c κs. search needs)
+    (λ c. search needs)
+    (λ c. search needs)
     returns-2)

@@ -25,47 +25,61 @@ Inv-loop values₀ trail₀ head top kinds numbers sizes firsts seats parents in
 abbrev μ-loop : tie.MeasureT-loop
 μ-loop values₀ trail₀ head top kinds numbers sizes firsts seats parents intervals starts count c k all t₀ h₀ values trail t h = length values₀ - h
 
-count-requires : tie.Need-count-requires Inv-loop μ-loop
-count-requires c κs = c .before .before .before .before .pre .0 .0 .steps
+-- the places that the needs speak of
+abbrev start : tie.After-shared-slice-known2 Inv-loop μ-loop → tie.Start Inv-loop μ-loop
+start c = c .before .before .before .before
 
-cast-all : tie.Need-cast-all Inv-loop μ-loop
-cast-all c = search needs
+abbrev start-2 : tie.After-count Inv-loop μ-loop → tie.Start Inv-loop μ-loop
+start-2 c = start (c .before)
+
+abbrev after-reach : tie.After-slice-known5 Inv-loop μ-loop → tie.After-reach Inv-loop μ-loop
+after-reach c = c .before .before .before .before
+
+abbrev inside : tie.After-slice-known5 Inv-loop μ-loop → tie.In-loop Inv-loop μ-loop
+inside c = after-reach c .before .before .before .before
+
+abbrev inside-2 : tie.Else1 Inv-loop μ-loop → tie.In-loop Inv-loop μ-loop
+inside-2 c = inside (c .before)
+
+count-requires : tie.Need-count-requires Inv-loop μ-loop
+count-requires c κs = start c .pre .0 .0 .steps
 
 loop-holds : tie.Need-loop-holds Inv-loop μ-loop
-loop-holds c = let p = c .before .before .before .before .before .pre .1 in (refl, refl, grown-none (p .since .trailing), refl, p, c .count .ensures .0)
+loop-holds c = let p = start-2 c .pre .1 in (refl, refl, grown-none (p .since .trailing), refl, p, c .count .ensures .0)
 
 mul-u : tie.Need-mul-u Inv-loop μ-loop
-mul-u c = let i = c .before .loop .inv in let f = pending-fits (i .4) in let l = c .loop-test .taken in let g : c .before .loop .h < length (c .before .before .before .before .before .before .before .args .trail .now) = omega (arith, i .1, f, l) in search (g, needs)
+mul-u c =
+    let w = c .before in let i = w .loop .inv in let f = pending-fits (i .4) in let l = c .loop-test .taken in
+    let g : w .loop .h < length (start-2 (w .before) .args .trail .now) = omega (arith, i .1, f, l) in search (g, needs)
 
 slice-read-u : tie.Need-slice-read-u Inv-loop μ-loop
 slice-read-u c = let i = c .before .before .loop .inv in omega (arith, i .1, pending-fits (i .4), c .before .loop-test .taken)
 
 reach-requires : tie.Need-reach-requires Inv-loop μ-loop
-reach-requires c κs = let i = c .before .before .before .before .loop .inv in let s = c .before .before .before .before .before .before .before .before .before .before .pre in ((ground-still (i .0) (s .0 .0), i .2 .trailing), (s .0 .1, i .5, next-variable (i .4) (omega (arith, c .before .before .before .loop-test .taken))))
-
-same-length : tie.Need-same-length Inv-loop μ-loop
-same-length c = search needs
-
-same-length-2 : tie.Need-same-length-2 Inv-loop μ-loop
-same-length-2 c = search needs
+reach-requires c κs =
+    let il = c .before .before .before in let l = il .before in let i = l .loop .inv in let s = start-2 (l .before) .pre in
+    ((ground-still (i .0) (s .0 .0), i .2 .trailing), (s .0 .1, i .5, next-variable (i .4) (omega (arith, il .loop-test .taken))))
 
 returns : tie.Need-returns Inv-loop μ-loop
-returns c = let i = c .before .before .before .before .before .before .before .before .before .before .loop .inv in queue-clash (i .2) (i .3) (c .before .before .before .before .before .reach .ensures) (c .if1 .taken)
+returns c = let i = inside (c .before) .before .loop .inv in queue-clash (i .2) (i .3) (after-reach (c .before) .reach .ensures) (c .if1 .taken)
 
 add-h : tie.Need-add-h Inv-loop μ-loop
-add-h c = let i = c .before .before .before .before .before .before .before .before .before .before .loop .inv in omega (arith, pending-fits (i .4), c .before .before .before .before .before .before .before .before .before .loop-test .taken)
+add-h c = let il = inside-2 c in let i = il .before .loop .inv in omega (arith, pending-fits (i .4), il .loop-test .taken)
 
 loop-less : tie.Need-loop-less Inv-loop μ-loop
-loop-less c = let i = c .before .before .before .before .before .before .before .before .before .before .loop .inv in omega (arith, i .0, pending-fits (i .4), c .before .before .before .before .before .before .before .before .before .loop-test .taken)
+loop-less c = let il = inside-2 c in let i = il .before .loop .inv in omega (arith, i .0, pending-fits (i .4), il .loop-test .taken)
 
 loop-again : tie.Need-loop-again Inv-loop μ-loop
-loop-again c = let i = c .before .before .before .before .before .before .before .before .before .before .loop .inv in let q = c .before .before .before .before .before .reach in let e = q .ensures in (q .kept .0 ∙ i .0, q .kept .1 .0 ∙ i .1, grown-more (i .2) (e .grown), e .same ∙ i .3, pending-step (i .4) (omega (arith, c .before .before .before .before .before .before .before .before .before .loop-test .taken)) e (c .if1 .left), i .5)
-
-same-length-3 : tie.Need-same-length-3 Inv-loop μ-loop
-same-length-3 c = search needs
-
-same-length-4 : tie.Need-same-length-4 Inv-loop μ-loop
-same-length-4 c = search needs
+loop-again c =
+    let il = inside-2 c in
+    let i = il .before .loop .inv in let q = after-reach (c .before) .reach in let e = q .ensures in (
+      q .kept .0 ∙ i .0,
+      q .kept .1 .0 ∙ i .1,
+      grown-more (i .2) (e .grown),
+      e .same ∙ i .3,
+      pending-step (i .4) (omega (arith, il .loop-test .taken)) e (c .if1 .left),
+      i .5,
+    )
 
 returns-2 : tie.Need-returns-2 Inv-loop μ-loop
 returns-2 c = let i = c .before .loop .inv in queue-done (i .2) (i .3) (i .4) (omega (arith, c .loop-test .left))
@@ -77,17 +91,17 @@ close-spec =
     Inv-loop
     μ-loop
     count-requires
-    cast-all
+    (λ c. search needs)
     loop-holds
     mul-u
     slice-read-u
     reach-requires
-    same-length
-    same-length-2
+    (λ c. search needs)
+    (λ c. search needs)
     returns
     add-h
     loop-less
     loop-again
-    same-length-3
-    same-length-4
+    (λ c. search needs)
+    (λ c. search needs)
     returns-2)

@@ -14,7 +14,7 @@ use Rattle.reader.proofs.read_part.Reads as read-part
 use Rattle.reader.proofs.read_part.Kinds as read-part-kinds
 use Rattle.reader.proofs.+read_part.Lts-read_part as read-part-lts
 use Rattle.reader.proofs.joined_by.Reads as joined-by-reads
-use Rattle.grammar.proofs.lead_of.Reads as lead-of-reads
+use Rattle.formula_bytes.proofs.lead_of.Reads as lead-of-reads
 use Rattle.reader.proofs.numbered_by.Reads as numbered-by-reads
 use Rattle.reader.proofs.signed_by.Reads as signed-by-reads
 use Rattle.reader.proofs.+read_part.{statement}
@@ -32,7 +32,22 @@ read-part-below t =
 
 -- what is asked and learnt at each call
 abbrev calls : ℕ → read-part-lts.Claims
-calls t = (lead-of-reads.Asked, lead-of-reads.Learnt, read-part-below t, read-part.Post, joined-by-reads.Asked, joined-by-reads.Learnt, signed-by-reads.Asked, signed-by-reads.Learnt, numbered-by-reads.Asked, numbered-by-reads.Learnt)
+calls t = (
+  lead-of-reads.Asked,
+  lead-of-reads.Learnt,
+  read-part-below t,
+  read-part.Post,
+  joined-by-reads.Asked,
+  joined-by-reads.Learnt,
+  signed-by-reads.Asked,
+  signed-by-reads.Learnt,
+  numbered-by-reads.Asked,
+  numbered-by-reads.Learnt,
+)
+
+-- the call's beginning, from where the first letter is seen
+abbrev start : (t : ℕ) → read-part-lts.After-lead-of (calls t) (read-part-at t) read-part.Post → read-part-lts.Start (calls t) (read-part-at t) read-part.Post
+start t c = c .before .before .before .before
 
 read-part-returns : (t : ℕ) → read-part-lts.Need-returns (calls t) (read-part-at t) read-part.Post
 read-part-returns t c =
@@ -71,8 +86,8 @@ read-part-enum-known-first t c = search needs
 
 read-part-read-part-requires-3 : (t : ℕ) → read-part-lts.Need-read-part-requires-3 (calls t) (read-part-at t) read-part.Post
 read-part-read-part-requires-3 t c κs =
-    let a = c .before .before .before .before .before .before .before .before .before .before .before .args in
-    let w = open-within (a .text .now) (a .s) _ _ _ (c .before .before .before .before .read-part2 .ensures) (sym (c .before .before .before .joined-by .ensures) ∙ c .before .first .given .1) in
+    let j = c .before .before .before in let r = j .before in let a = r .before .before .before .before .before .before .before .args in
+    let w = open-within (a .text .now) (a .s) _ _ _ (r .read-part2 .ensures) (sym (j .joined-by .ensures) ∙ c .before .first .given .1) in
     (omega arith, omega arith)
 
 read-part-signed-by-requires : (t : ℕ) → read-part-lts.Need-signed-by-requires (calls t) (read-part-at t) read-part.Post
@@ -110,42 +125,48 @@ read-part-enum-told-6 t c = search needs
 
 read-part-returns-2 : (t : ℕ) → read-part-lts.Need-returns-2 (calls t) (read-part-at t) read-part.Post
 read-part-returns-2 t c =
-    let a = c .before .before .before .before .before .before .args in
-    part-leaf (a .text .now) (a .s) (a .at) (search needs) (sym (c .enum-told .given .1) ∙ c .before .before .lead-of .ensures)
+    let l = c .before .before in let a = start t l .args in
+    part-leaf (a .text .now) (a .s) (a .at) (search needs) (sym (c .enum-told .given .1) ∙ l .lead-of .ensures)
 
 read-part-returns-3 : (t : ℕ) → read-part-lts.Need-returns-3 (calls t) (read-part-at t) read-part.Post
 read-part-returns-3 t c =
-    let a = c .before .before .before .before .before .before .before .args in
-    part-not (a .text .now) (a .s) (a .at) (search needs) (c .read-part .result) (sym (c .before .enum-told2 .given .1) ∙ c .before .before .before .lead-of .ensures) (c .read-part .ensures)
+    let l = c .before .before .before in let a = start t l .args in
+    part-not (a .text .now) (a .s) (a .at) (search needs) (c .read-part .result) (sym (c .before .enum-told2 .given .1) ∙ l .lead-of .ensures) (c .read-part .ensures)
 
 read-part-returns-4 : (t : ℕ) → read-part-lts.Need-returns-4 (calls t) (read-part-at t) read-part.Post
 read-part-returns-4 t c =
-    let a = c .before .before .before .before .before .before .before .before .before .before .before .before .before .args in
+    let r = c .before in let f = r .before .before in let j = f .before .before in let rp = j .before in let e = rp .before in
+    let l = e .before .before in let a = start t l .args in
     subst (PartAt (a .text .now) (a .s) (a .at)) (sym (c .signed-by .ensures))
-    (part-open (a .text .now) (a .s) (a .at) (search needs) (c .before .before .before .before .before .before .read-part2 .result) _ (c .before .read-part3 .result) (sym (c .before .before .before .before .before .before .before .enum-told3 .given .1) ∙ c .before .before .before .before .before .before .before .before .before .lead-of .ensures) (c .before .before .before .before .before .before .read-part2 .ensures)
-    (sym (c .before .before .before .before .before .joined-by .ensures) ∙ c .before .before .before .first .given .1) (c .before .read-part3 .ensures))
+    (part-open (a .text .now) (a .s) (a .at) (search needs) (rp .read-part2 .result) _ (r .read-part3 .result) (sym (e .enum-told3 .given .1) ∙ l .lead-of .ensures)
+    (rp .read-part2 .ensures)
+    (sym (j .joined-by .ensures) ∙ f .first .given .1) (r .read-part3 .ensures))
 
 read-part-returns-5 : (t : ℕ) → read-part-lts.Need-returns-5 (calls t) (read-part-at t) read-part.Post
 read-part-returns-5 t c =
-    let a = c .before .before .before .before .before .before .before .before .before .before .before .args in
-    part-open-bad (a .text .now) (a .s) (a .at) (search needs) (c .before .before .before .before .read-part2 .result) _ (sym (c .before .before .before .before .before .enum-told3 .given .1) ∙ c .before .before .before .before .before .before .before .lead-of .ensures) (c .before .before .before .before .read-part2 .ensures)
-    (sym (c .before .before .before .joined-by .ensures) ∙ c .before .first2 .given .1)
+    let j = c .before .before .before in let r = j .before in let e = r .before in let l = e .before .before in let a = start t l .args in
+    part-open-bad (a .text .now) (a .s) (a .at) (search needs) (r .read-part2 .result) _ (sym (e .enum-told3 .given .1) ∙ l .lead-of .ensures) (r .read-part2 .ensures)
+    (sym (j .joined-by .ensures) ∙ c .before .first2 .given .1)
 
 read-part-returns-6 : (t : ℕ) → read-part-lts.Need-returns-6 (calls t) (read-part-at t) read-part.Post
 read-part-returns-6 t c =
-    let a = c .before .before .before .before .before .before .before .before .before .before .args in
-    let e = c .numbered-by .ensures ∙ ap (λ (g : Got). onGood (a .text .now) numberAt g) (c .before .signed-by3 .ensures ∙ ap (onGood (a .text .now) (testAt (isSign 61))) (c .before .before .signed-by2 .ensures)) in
-    subst (PartAt (a .text .now) (a .s) (a .at)) (sym e) (part-measure (a .text .now) (a .at) (search needs) (c .before .before .before .read-part4 .result) (c .before .before .before .read-part4 .ensures) (a .s) (sym (c .before .before .before .before .enum-told4 .given .1) ∙ c .before .before .before .before .before .before .lead-of .ensures))
+    let s = c .before .before in let r = s .before in let et = r .before in let l = et .before .before in let a = start t l .args in
+    let e = c .numbered-by .ensures ∙ ap (λ (g : Got). onGood (a .text .now) numberAt g)
+    (c .before .signed-by3 .ensures ∙ ap (onGood (a .text .now) (testAt (isSign 61))) (s .signed-by2 .ensures)) in
+    subst (PartAt (a .text .now) (a .s) (a .at)) (sym e)
+    (part-measure (a .text .now) (a .at) (search needs) (r .read-part4 .result) (r .read-part4 .ensures) (a .s)
+    (sym (et .enum-told4 .given .1) ∙ l .lead-of .ensures))
 
 read-part-returns-7 : (t : ℕ) → read-part-lts.Need-returns-7 (calls t) (read-part-at t) read-part.Post
 read-part-returns-7 t c =
-    let a = c .before .before .before .before .before .before .before .before .args in
-    subst (PartAt (a .text .now) (a .s) (a .at)) (sym (c .signed-by4 .ensures)) (part-enter (a .text .now) (a .at) (search needs) (c .before .read-part5 .result) (c .before .read-part5 .ensures) (a .s) (sym (c .before .before .enum-told5 .given .1) ∙ c .before .before .before .before .lead-of .ensures))
+    let r = c .before in let e = r .before in let l = e .before .before in let a = start t l .args in
+    subst (PartAt (a .text .now) (a .s) (a .at)) (sym (c .signed-by4 .ensures))
+    (part-enter (a .text .now) (a .at) (search needs) (r .read-part5 .result) (r .read-part5 .ensures) (a .s) (sym (e .enum-told5 .given .1) ∙ l .lead-of .ensures))
 
 read-part-returns-8 : (t : ℕ) → read-part-lts.Need-returns-8 (calls t) (read-part-at t) read-part.Post
 read-part-returns-8 t c =
-    let a = c .before .before .before .before .before .before .args in
-    part-other (a .text .now) (a .s) (a .at) (search needs) (sym (c .enum-told6 .given .1) ∙ c .before .before .lead-of .ensures)
+    let l = c .before .before in let a = start t l .args in
+    part-other (a .text .now) (a .s) (a .at) (search needs) (sym (c .enum-told6 .given .1) ∙ l .lead-of .ensures)
 
 pub +read-part-spec : {M : Type 1} → statement M
 +read-part-spec = close μ-read-part λ t. read-part-lts.spec (calls t)

@@ -17,29 +17,28 @@ Inv-loop text at i₀ i = (i ≤ length text) × (at + digitCount (drop at text)
 abbrev μ-loop : tie.MeasureT-loop
 μ-loop text at i₀ i = length text - i
 
+-- the places that the needs speak of
+abbrev start : tie.At-loop Inv-loop μ-loop → tie.Start Inv-loop μ-loop
+start c = c .before .before
+
+abbrev turn : tie.After-is-digit Inv-loop μ-loop → tie.At-loop Inv-loop μ-loop
+turn c = c .before .before .before
+
 loop-holds : tie.Need-loop-holds Inv-loop μ-loop
 loop-holds c = (search needs, refl)
 
-shared-slice-read-is-digit : tie.Need-shared-slice-read-is-digit Inv-loop μ-loop
-shared-slice-read-is-digit c = search needs
-
-is-digit-requires : tie.Need-is-digit-requires Inv-loop μ-loop
-is-digit-requires c κs = search needs
-
 returns : tie.Need-returns Inv-loop μ-loop
-returns c = omega (arith, digit-none (c .before .before .before .before .before .before .args .text .now) (c .before .before .before .before .loop .i) (search needs) (sym (c .before .is-digit .ensures) ∙ not-true _ (c .if1 .taken)))
-
-add-i : tie.Need-add-i Inv-loop μ-loop
-add-i c = search needs
-
-loop-less : tie.Need-loop-less Inv-loop μ-loop
-loop-less c = search needs
+returns c =
+    let l = turn (c .before) in
+    omega (arith, digit-none (start l .args .text .now) (l .loop .i) (search needs) (sym (c .before .is-digit .ensures) ∙ not-true _ (c .if1 .taken)))
 
 loop-again : tie.Need-loop-again Inv-loop μ-loop
-loop-again c = (search needs, omega (arith, digit-more (c .before .before .before .before .before .before .args .text .now) (c .before .before .before .before .loop .i) (search needs) (sym (c .before .is-digit .ensures) ∙ not-false _ (c .if1 .left))))
+loop-again c =
+    let l = turn (c .before) in
+    (search needs, omega (arith, digit-more (start l .args .text .now) (l .loop .i) (search needs) (sym (c .before .is-digit .ensures) ∙ not-false _ (c .if1 .left))))
 
 returns-2 : tie.Need-returns-2 Inv-loop μ-loop
-returns-2 c = omega (arith, digit-end (c .before .before .before .args .text .now) (c .before .loop .i) (search needs))
+returns-2 c = omega (arith, digit-end (start (c .before) .args .text .now) (c .before .loop .i) (search needs))
 
 pub digits-end-spec : {M : Type 1} → statement M
 digits-end-spec =
@@ -48,10 +47,10 @@ digits-end-spec =
     Inv-loop
     μ-loop
     loop-holds
-    shared-slice-read-is-digit
-    is-digit-requires
+    (λ c. search needs)
+    (λ c κs. search needs)
     returns
-    add-i
-    loop-less
+    (λ c. search needs)
+    (λ c. search needs)
     loop-again
     returns-2)

@@ -8,15 +8,6 @@ use Rattle.reader.proofs.part_end.Tie as tie
 returns : tie.Need-returns
 returns c = end-past _ _ _ (c .if1 .taken)
 
-read-part-requires : tie.Need-read-part-requires
-read-part-requires c κs = search needs
-
-enum-known-g : tie.Need-enum-known-g
-enum-known-g c = search needs
-
-enum-known-g-2 : tie.Need-enum-known-g-2
-enum-known-g-2 c = search needs
-
 returns-2 : tie.Need-returns-2
 returns-2 c = end-good _ _ _ _ _ (c .before .before .before .read-part .ensures) (c .before .g .given .1)
 
@@ -25,4 +16,4 @@ returns-3 c = end-bad _ _ _ _ _ (c .before .before .before .read-part .ensures) 
 
 pub part-end-spec : {M : Type 1} → statement M
 part-end-spec =
-    tie.close (tie.spec returns read-part-requires enum-known-g enum-known-g-2 returns-2 returns-3)
+    tie.close (tie.spec returns (λ c κs. search needs) (λ c. search needs) (λ c. search needs) returns-2 returns-3)

@@ -8,26 +8,13 @@ use borrow.Author.Needs.{needs}
 use Rattle.reader.proofs.signed_by.Statement.{statement}
 use Rattle.reader.proofs.signed_by.Tie as tie
 
-enum-known-g : tie.Need-enum-known-g
-enum-known-g c = search needs
-
-enum-told : tie.Need-enum-told
-enum-told c = search needs
-
-returns : tie.Need-returns
-returns c = search needs
-
-shared-slice-read-if2 : tie.Need-shared-slice-read-if2
-shared-slice-read-if2 c = search needs
-
-add-t10 : tie.Need-add-t10
-add-t10 c = search needs
-
 returns-2 : tie.Need-returns-2
-returns-2 c = rw (c .before .before .before .before .g .given .1) (sym (tested _ _ (isSign _) (c .before .before .if1 .taken) (eq-eqb _ _ (c .if2 .taken))))
+returns-2 c =
+    let t1 = c .before .before in rw (t1 .before .before .g .given .1) (sym (tested _ _ (isSign _) (t1 .if1 .taken) (eq-eqb _ _ (c .if2 .taken))))
 
 returns-3 : tie.Need-returns-3
-returns-3 c = rw (c .before .before .before .before .g .given .1) (sym (tested _ _ (isSign _) (c .before .before .if1 .taken) (ne-eqb _ _ (c .if2 .left))))
+returns-3 c =
+    let t1 = c .before .before in rw (t1 .before .before .g .given .1) (sym (tested _ _ (isSign _) (t1 .if1 .taken) (ne-eqb _ _ (c .if2 .left))))
 
 returns-4 : tie.Need-returns-4
 returns-4 c = rw (c .before .before .g .given .1) (sym (at-end _ _ (testAt (isSign _)) refl (c .if1 .left)))
@@ -36,11 +23,11 @@ pub signed-by-spec : {M : Type 1} → statement M
 signed-by-spec =
     tie.close
     (tie.spec
-    enum-known-g
-    enum-told
-    returns
-    shared-slice-read-if2
-    add-t10
+    (λ c. search needs)
+    (λ c. search needs)
+    (λ c. search needs)
+    (λ c. search needs)
+    (λ c. search needs)
     returns-2
     returns-3
     returns-4)

@@ -15,67 +15,59 @@ Inv-loop text table₀ code₀ i₀ table code i = Begun text table code i
 abbrev μ-loop : tie.MeasureT-loop
 μ-loop text table₀ code₀ i₀ table code i = length text - i
 
-empty-table-requires : tie.Need-empty-table-requires Inv-loop μ-loop
-empty-table-requires c κs = search needs
+-- the places that the needs speak of
+abbrev start : tie.At-loop Inv-loop μ-loop → tie.Start Inv-loop μ-loop
+start c = c .before .before .before
+
+abbrev after-code-after : tie.Else1 Inv-loop μ-loop → tie.After-code-after Inv-loop μ-loop
+after-code-after c = c .before .before
+
+abbrev inside : tie.Else1 Inv-loop μ-loop → tie.In-loop Inv-loop μ-loop
+inside c = after-code-after c .before .before
+
+abbrev start-2 : tie.Else1 Inv-loop μ-loop → tie.Start Inv-loop μ-loop
+start-2 c = start (inside c .before)
 
 loop-holds : tie.Need-loop-holds Inv-loop μ-loop
 loop-holds c = begun-none _ _ (c .empty-table .ensures)
 
-shared-slice-read-b : tie.Need-shared-slice-read-b Inv-loop μ-loop
-shared-slice-read-b c = search needs
-
-code-after-requires : tie.Need-code-after-requires Inv-loop μ-loop
-code-after-requires c κs = search needs
-
-is-start-requires : tie.Need-is-start-requires Inv-loop μ-loop
-is-start-requires c κs = search needs
-
-add-i : tie.Need-add-i Inv-loop μ-loop
-add-i c = search needs
-
-loop-less : tie.Need-loop-less Inv-loop μ-loop
-loop-less c = search needs
-
 loop-again : tie.Need-loop-again Inv-loop μ-loop
 loop-again c =
-    let a = c .before .before .before .before .before .before .before .before .pre in
-    begun-skip (a .0) (a .1) _ (a .2) _ _ _ (c .before .before .before .before .before .loop .inv) (c .before .before .before .before .loop-test .taken) _ (c .before .before .code-after .ensures) (sym (c .before .is-start .ensures) ∙ not-true _ (c .if1 .taken))
+    let ca = c .before .before in let i = ca .before .before in let l = i .before in let a = start l .pre in
+    begun-skip (a .0) (a .1) _ (a .2) _ _ _ (l .loop .inv) (i .loop-test .taken) _ (ca .code-after .ensures) (sym (c .before .is-start .ensures) ∙ not-true _ (c .if1 .taken))
 
 element-write-table : tie.Need-element-write-table Inv-loop μ-loop
 element-write-table c =
-    let a = c .before .before .before .before .before .before .before .before .pre in
-    begun-room (a .0) (a .1) _ (a .2) _ _ _ (c .before .before .before .before .before .loop .inv) (c .before .before .before .before .loop-test .taken) _ (c .before .before .code-after .ensures) (sym (c .before .is-start .ensures) ∙ not-false _ (c .if1 .left))
+    let i = inside c in let a = start-2 c .pre in
+    begun-room (a .0) (a .1) _ (a .2) _ _ _ (i .before .loop .inv) (i .loop-test .taken) _ (after-code-after c .code-after .ensures)
+    (sym (c .before .is-start .ensures) ∙ not-false _ (c .if1 .left))
 
 cast-table : tie.Need-cast-table Inv-loop μ-loop
 cast-table c =
-    let a = c .before .before .before .before .before .before .before .before .pre in
-    let m = bytes-most (a .0) (a .1) _ (a .2) in
+    let a = start-2 c .pre in let m = bytes-most (a .0) (a .1) _ (a .2) in
     search needs
 
 element-write-table-2 : tie.Need-element-write-table-2 Inv-loop μ-loop
 element-write-table-2 c =
-    let a = c .before .before .before .before .before .before .before .before .pre in
-    begun-room (a .0) (a .1) _ (a .2) _ _ _ (c .before .before .before .before .before .loop .inv) (c .before .before .before .before .loop-test .taken) _ (c .before .before .code-after .ensures) (sym (c .before .is-start .ensures) ∙ not-false _ (c .if1 .left))
+    let i = inside c in let a = start-2 c .pre in
+    begun-room (a .0) (a .1) _ (a .2) _ _ _ (i .before .loop .inv) (i .loop-test .taken) _ (after-code-after c .code-after .ensures)
+    (sym (c .before .is-start .ensures) ∙ not-false _ (c .if1 .left))
 
 add-table : tie.Need-add-table Inv-loop μ-loop
 add-table c =
-    let a = c .before .before .before .before .before .before .before .before .pre in
-    let m = begun-room (a .0) (a .1) _ (a .2) _ _ _ (c .before .before .before .before .before .loop .inv) (c .before .before .before .before .loop-test .taken) _ (c .before .before .code-after .ensures) (sym (c .before .is-start .ensures) ∙ not-false _ (c .if1 .left)) in
+    let i = inside c in let a = start-2 c .pre in
+    let m = begun-room (a .0) (a .1) _ (a .2) _ _ _ (i .before .loop .inv) (i .loop-test .taken) _ (after-code-after c .code-after .ensures)
+    (sym (c .before .is-start .ensures) ∙ not-false _ (c .if1 .left)) in
     search needs
-
-add-i-2 : tie.Need-add-i-2 Inv-loop μ-loop
-add-i-2 c = search needs
-
-loop-less-2 : tie.Need-loop-less-2 Inv-loop μ-loop
-loop-less-2 c = search needs
 
 loop-again-2 : tie.Need-loop-again-2 Inv-loop μ-loop
 loop-again-2 c =
-    let a = c .before .before .before .before .before .before .before .before .pre in
-    begun-more (a .0) (a .1) _ (a .2) _ _ _ (c .before .before .before .before .before .loop .inv) (c .before .before .before .before .loop-test .taken) _ (c .before .before .code-after .ensures) (sym (c .before .is-start .ensures) ∙ not-false _ (c .if1 .left))
+    let i = inside c in let a = start-2 c .pre in
+    begun-more (a .0) (a .1) _ (a .2) _ _ _ (i .before .loop .inv) (i .loop-test .taken) _ (after-code-after c .code-after .ensures)
+    (sym (c .before .is-start .ensures) ∙ not-false _ (c .if1 .left))
 
 returns : tie.Need-returns Inv-loop μ-loop
-returns c = let a = c .before .before .before .before .pre in begun-done (a .0) (a .1) _ (a .2) _ _ _ (c .before .loop .inv) (c .loop-test .left)
+returns c = let a = start (c .before) .pre in begun-done (a .0) (a .1) _ (a .2) _ _ _ (c .before .loop .inv) (c .loop-test .left)
 
 pub begun-rows-spec : {M : Type 1} → statement M
 begun-rows-spec =
@@ -83,19 +75,19 @@ begun-rows-spec =
     (tie.spec
     Inv-loop
     μ-loop
-    empty-table-requires
+    (λ c κs. search needs)
     loop-holds
-    shared-slice-read-b
-    code-after-requires
-    is-start-requires
-    add-i
-    loop-less
+    (λ c. search needs)
+    (λ c κs. search needs)
+    (λ c κs. search needs)
+    (λ c. search needs)
+    (λ c. search needs)
     loop-again
     element-write-table
     cast-table
     element-write-table-2
     add-table
-    add-i-2
-    loop-less-2
+    (λ c. search needs)
+    (λ c. search needs)
     loop-again-2
     returns)

@@ -6,21 +6,14 @@ use borrow.Author.Needs.{needs}
 use Rattle.rows.proofs.part_at.Statement.{statement}
 use Rattle.rows.proofs.part_at.Tie as tie
 
-byte-at-requires : tie.Need-byte-at-requires
-byte-at-requires c κs = search needs
-
-wide-requires : tie.Need-wide-requires
-wide-requires c κs = search needs
-
-byte-at-requires-2 : tie.Need-byte-at-requires-2
-byte-at-requires-2 c κs = search needs
-
-wide-requires-2 : tie.Need-wide-requires-2
-wide-requires-2 c κs = search needs
-
 returns : tie.Need-returns
-returns c = (ap₂ (λ (n m : ℕ). record { size = n; length = m }) (c .before .before .before .wide .ensures ∙ c .before .before .before .before .byte-at .ensures) (c .wide2 .ensures ∙ c .before .byte-at2 .ensures), search needs, search needs)
+returns c =
+    let w = c .before .before .before in (
+      ap₂ (λ (n m : ℕ). record { size = n; length = m }) (w .wide .ensures ∙ w .before .byte-at .ensures) (c .wide2 .ensures ∙ c .before .byte-at2 .ensures),
+      search needs,
+      search needs,
+    )
 
 pub part-at-spec : {M : Type 1} → statement M
 part-at-spec =
-    tie.close (tie.spec byte-at-requires wide-requires byte-at-requires-2 wide-requires-2 returns)
+    tie.close (tie.spec (λ c κs. search needs) (λ c κs. search needs) (λ c κs. search needs) (λ c κs. search needs) returns)

@@ -17,35 +17,29 @@ Inv-loop text at most v₀ i₀ v i = (v ≤ suc most) × (cappedAt most (valueF
 abbrev μ-loop : tie.MeasureT-loop
 μ-loop text at most v₀ i₀ v i = length text - i
 
+-- the places that the needs speak of
+abbrev turn : tie.After-is-digit Inv-loop μ-loop → tie.At-loop Inv-loop μ-loop
+turn c = c .before .before .before
+
 loop-holds : tie.Need-loop-holds Inv-loop μ-loop
 loop-holds c = (search needs, refl)
 
-shared-slice-read-b : tie.Need-shared-slice-read-b Inv-loop μ-loop
-shared-slice-read-b c = search needs
-
-is-digit-requires : tie.Need-is-digit-requires Inv-loop μ-loop
-is-digit-requires c κs = search needs
-
 returns : tie.Need-returns Inv-loop μ-loop
 returns c =
-    let w = c .before .before .before .before .loop in
+    let w = turn (c .before) .loop in
     (number-none _ _ (w .i) (w .v) (search needs) (sym (c .before .is-digit .ensures) ∙ not-true _ (c .if1 .taken)) (w .inv .0) ∙ w .inv .1, search needs)
 
 with-digit-requires : tie.Need-with-digit-requires Inv-loop μ-loop
 with-digit-requires c κs = (search needs, search needs, sym (c .before .is-digit .ensures) ∙ not-false _ (c .if1 .left))
 
-add-i : tie.Need-add-i Inv-loop μ-loop
-add-i c = search needs
-
-loop-less : tie.Need-loop-less Inv-loop μ-loop
-loop-less c = search needs
-
 loop-again : tie.Need-loop-again Inv-loop μ-loop
 loop-again c =
-    let w = c .before .before .before .before .before .loop in
-    let a = c .before .before .before .before .before .before .before .args in
-    let d = sym (c .before .before .is-digit .ensures) ∙ not-false _ (c .before .if1 .left) in
-    (c .with-digit .ensures .1, ap (λ (n : ℕ). cappedAt (a .most) (valueFrom n (drop (w .i + 1) (a .text .now)))) (c .with-digit .ensures .0) ∙ number-more (a .most) (a .text .now) (w .i) (w .v) (search needs) d ∙ w .inv .1)
+    let i = c .before .before in let l = turn i in let w = l .loop in let a = l .before .before .args in
+    let d = sym (i .is-digit .ensures) ∙ not-false _ (c .before .if1 .left) in (
+      c .with-digit .ensures .1,
+      ap (λ (n : ℕ). cappedAt (a .most) (valueFrom n (drop (w .i + 1) (a .text .now)))) (c .with-digit .ensures .0) ∙
+          number-more (a .most) (a .text .now) (w .i) (w .v) (search needs) d ∙ w .inv .1,
+    )
 
 returns-2 : tie.Need-returns-2 Inv-loop μ-loop
 returns-2 c =
@@ -59,11 +53,11 @@ capped-number-spec =
     Inv-loop
     μ-loop
     loop-holds
-    shared-slice-read-b
-    is-digit-requires
+    (λ c. search needs)
+    (λ c κs. search needs)
     returns
     with-digit-requires
-    add-i
-    loop-less
+    (λ c. search needs)
+    (λ c. search needs)
     loop-again
     returns-2)

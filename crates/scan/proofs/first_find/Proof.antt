@@ -16,24 +16,15 @@ abbrev μ-loop : tie.MeasureT-loop
 loop-holds : tie.Need-loop-holds Inv-loop μ-loop
 loop-holds c = left-begun _ _ _
 
-find-at-requires : tie.Need-find-at-requires Inv-loop μ-loop
-find-at-requires c κs = search needs
-
 returns : tie.Need-returns Inv-loop μ-loop
 returns c =
-    let f = c .before .before .find-at .ensures in
-    (left-found _ _ _ _ _ (c .before .before .before .before .loop .inv) _ (c .before .before .before .loop-test .taken) (f .0) (f .1) (c .if1 .taken), search needs)
-
-add-i : tie.Need-add-i Inv-loop μ-loop
-add-i c = search needs
-
-loop-less : tie.Need-loop-less Inv-loop μ-loop
-loop-less c = search needs
+    let fa = c .before .before in let i = fa .before in let f = fa .find-at .ensures in
+    (left-found _ _ _ _ _ (i .before .loop .inv) _ (i .loop-test .taken) (f .0) (f .1) (c .if1 .taken), search needs)
 
 loop-again : tie.Need-loop-again Inv-loop μ-loop
 loop-again c =
-    let f = c .before .before .before .find-at .ensures in
-    left-on _ _ _ _ _ (c .before .before .before .before .before .loop .inv) _ (c .before .before .before .before .loop-test .taken) (f .0) (f .1) (c .before .if1 .left)
+    let fa = c .before .before .before in let i = fa .before in let f = fa .find-at .ensures in
+    left-on _ _ _ _ _ (i .before .loop .inv) _ (i .loop-test .taken) (f .0) (f .1) (c .before .if1 .left)
 
 returns-2 : tie.Need-returns-2 Inv-loop μ-loop
 returns-2 c = (left-none _ _ _ _ _ (c .before .loop .inv) (c .loop-test .left), search needs)
@@ -45,9 +36,9 @@ first-find-spec =
     Inv-loop
     μ-loop
     loop-holds
-    find-at-requires
+    (λ c κs. search needs)
     returns
-    add-i
-    loop-less
+    (λ c. search needs)
+    (λ c. search needs)
     loop-again
     returns-2)

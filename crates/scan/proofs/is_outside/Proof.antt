@@ -4,13 +4,10 @@ use lib.Dec.{leb}
 use mathlib.Core.Path.{sym, ap, _∙_}
 use native.Mathlib.Omega.{arith}
 use borrow.Author.Tests.{not-true, not-false}
-use Rattle.grammar.proofs.Bytes.{ranged}
+use Rattle.lists.proofs.Tests.{ranged}
 use borrow.Author.Needs.{needs}
 use Rattle.scan.proofs.is_outside.Statement.{statement}
 use Rattle.scan.proofs.is_outside.Tie as tie
-
-is-letter-requires : tie.Need-is-letter-requires
-is-letter-requires c κs = search needs
 
 returns : tie.Need-returns
 returns c = rw (sym (c .before .is-letter .ensures) ∙ not-true _ (c .if1 .taken))
@@ -18,12 +15,10 @@ returns c = rw (sym (c .before .is-letter .ensures) ∙ not-true _ (c .if1 .take
 sub-wide : tie.Need-sub-wide
 sub-wide c = omega (arith, ranged 97 104 (c .before .before .args .b) (sym (c .before .is-letter .ensures) ∙ not-false _ (c .if1 .left)))
 
-wide-requires : tie.Need-wide-requires
-wide-requires c κs = search needs
-
 returns-2 : tie.Need-returns-2
-returns-2 c = rw (sym (c .before .before .is-letter .ensures) ∙ not-false _ (c .before .if1 .left)) (ap (leb (c .before .before .before .args .c)) (c .wide .ensures))
+returns-2 c =
+    let i = c .before .before in rw (sym (i .is-letter .ensures) ∙ not-false _ (c .before .if1 .left)) (ap (leb (i .before .args .c)) (c .wide .ensures))
 
 pub is-outside-spec : {M : Type 1} → statement M
 is-outside-spec =
-    tie.close (tie.spec is-letter-requires returns sub-wide wide-requires returns-2)
+    tie.close (tie.spec (λ c κs. search needs) returns sub-wide (λ c κs. search needs) returns-2)

@@ -4,11 +4,8 @@ use borrow.Author.Needs.{needs}
 use Rattle.scan.proofs.number_at.Statement.{statement}
 use Rattle.scan.proofs.number_at.Tie as tie
 
-capped-number-requires : tie.Need-capped-number-requires
-capped-number-requires c κs = search needs
-
 returns : tie.Need-returns
 returns c = c .capped-number .ensures
 
 pub number-at-spec : {M : Type 1} → statement M
-number-at-spec = tie.close (tie.spec capped-number-requires returns)
+number-at-spec = tie.close (tie.spec (λ c κs. search needs) returns)

@@ -6,21 +6,14 @@ use borrow.Author.Needs.{needs}
 use Rattle.scan.proofs.number_find.Statement.{statement}
 use Rattle.scan.proofs.number_find.Tie as tie
 
-shared-slice-read-if1 : tie.Need-shared-slice-read-if1
-shared-slice-read-if1 c = search needs
-
 returns : tie.Need-returns
 returns c = (rw (ne-eqb _ 35 (c .if1 .taken)), search needs, search needs)
 
-number-of-requires : tie.Need-number-of-requires
-number-of-requires c κs = search needs
-
-find-if-requires : tie.Need-find-if-requires
-find-if-requires c κs = search needs
-
 returns-2 : tie.Need-returns-2
-returns-2 c = (above-find _ _ _ _ _ _ (c .before .before .before .if1 .left) (c .before .before .number-of .ensures .0) (c .before .before .number-of .ensures .1) (c .find-if .ensures .0), search needs, search needs)
+returns-2 c =
+    let n = c .before .before in
+    (above-find _ _ _ _ _ _ (n .before .if1 .left) (n .number-of .ensures .0) (n .number-of .ensures .1) (c .find-if .ensures .0), search needs, search needs)
 
 pub number-find-spec : {M : Type 1} → statement M
 number-find-spec =
-    tie.close (tie.spec shared-slice-read-if1 returns number-of-requires find-if-requires returns-2)
+    tie.close (tie.spec (λ c. search needs) returns (λ c κs. search needs) (λ c κs. search needs) returns-2)

@@ -8,24 +8,16 @@ use borrow.Author.Needs.{needs}
 use Rattle.scan.proofs.number_of.Statement.{statement}
 use Rattle.scan.proofs.number_of.Tie as tie
 
-add-part-end : tie.Need-add-part-end
-add-part-end c = search needs
-
-part-end-requires : tie.Need-part-end-requires
-part-end-requires c κs = search needs
-
-add-place : tie.Need-add-place
-add-place c = search needs
-
-number-at-requires : tie.Need-number-at-requires
-number-at-requires c κs = search needs
-
 returns : tie.Need-returns
 returns c =
-    let e = c .before .part-end .ensures .0 in
-    (ap (λ (n : ℕ). n + 2) e, c .number-at .ensures .0 ∙ ap (λ (n : ℕ). numberFrom 0 (drop (n + 2) (c .before .before .before .args .text .now))) e, search needs, search needs)
+    let e = c .before .part-end .ensures .0 in (
+      ap (λ (n : ℕ). n + 2) e,
+      c .number-at .ensures .0 ∙ ap (λ (n : ℕ). numberFrom 0 (drop (n + 2) (c .before .before .before .args .text .now))) e,
+      search needs,
+      search needs,
+    )
 
 pub number-of-spec : {M : Type 1} → statement M
 number-of-spec =
     tie.close
-    (tie.spec add-part-end part-end-requires add-place number-at-requires returns)
+    (tie.spec (λ c. search needs) (λ c κs. search needs) (λ c. search needs) (λ c κs. search needs) returns)

@@ -4,25 +4,13 @@ use mathlib.Core.Path.{refl, _∙_}
 use native.Mathlib.Omega.{arith}
 use native.Mathlib.Numerals.{add-one}
 use borrow.Author.Needs.{needs}
-use Rattle.grammar.proofs.Bytes.{ranged}
+use Rattle.lists.proofs.Tests.{ranged}
 use Rattle.scan.proofs.Loops.{limited-in, limited-out}
 use Rattle.scan.proofs.with_digit.Statement.{statement}
 use Rattle.scan.proofs.with_digit.Tie as tie
 
-mul-n : tie.Need-mul-n
-mul-n c = search needs
-
 sub-n : tie.Need-sub-n
 sub-n c = omega (arith, ranged 48 57 (c .args .b) (c .pre .2))
-
-cast-n : tie.Need-cast-n
-cast-n c = search needs
-
-add-n : tie.Need-add-n
-add-n c = search needs
-
-add-result : tie.Need-add-result
-add-result c = search needs
 
 returns : tie.Need-returns
 returns c = (limited-in _ _ _ refl (c .if1 .taken), search needs)
@@ -31,4 +19,4 @@ returns-2 : tie.Need-returns-2
 returns-2 c = (add-one _ ∙ limited-out _ _ _ refl (c .if1 .left), search needs)
 
 pub with-digit-spec : {M : Type 1} → statement M
-with-digit-spec = tie.close (tie.spec mul-n sub-n cast-n add-n add-result returns returns-2)
+with-digit-spec = tie.close (tie.spec (λ c. search needs) sub-n (λ c. search needs) (λ c. search needs) (λ c. search needs) returns returns-2)

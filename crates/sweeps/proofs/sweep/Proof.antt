@@ -6,48 +6,47 @@ use Rattle.sweeps.proofs.Table.{nodes-clash, nodes-root, seated}
 use Rattle.sweeps.proofs.sweep.Statement.{statement}
 use Rattle.sweeps.proofs.sweep.Tie as tie
 
+-- the places that the needs speak of
+abbrev start : tie.After-sweep-nodes-arg2 → tie.Start
+start c = c .before .before .before .before
+
+abbrev after-sweep-nodes : tie.After-slice-known4 → tie.After-sweep-nodes
+after-sweep-nodes c = c .before .before .before .before
+
+abbrev after-sweep-nodes-2 : tie.Else1 → tie.After-sweep-nodes
+after-sweep-nodes-2 c = after-sweep-nodes (c .before)
+
 sweep-nodes-requires : tie.Need-sweep-nodes-requires
-sweep-nodes-requires c κs = let s = c .before .before .before .before .pre in (s .0, s .1 .1)
-
-same-length : tie.Need-same-length
-same-length c = search needs
-
-same-length-2 : tie.Need-same-length-2
-same-length-2 c = search needs
+sweep-nodes-requires c κs = let s = start c .pre in (s .0, s .1 .1)
 
 returns : tie.Need-returns
-returns c = nodes-clash _ _ _ _ _ _ _ (c .before .before .before .before .before .sweep-nodes .ensures) (c .if1 .taken)
+returns c = nodes-clash _ _ _ _ _ _ _ (after-sweep-nodes (c .before) .sweep-nodes .ensures) (c .if1 .taken)
 
 seat-requires : tie.Need-seat-requires
-seat-requires c κs = let s = c .before .before .before .before .before .before .before .before .before .before .pre in (s .0 .1, s .0 .3)
-
-add-root : tie.Need-add-root
-add-root c = search needs
+seat-requires c κs = let s = start (after-sweep-nodes-2 c .before) .pre in (s .0 .1, s .0 .3)
 
 visit-requires : tie.Need-visit-requires
-visit-requires c κs = let s = c .before .before .before .before .before .before .before .before .before .before .before .before .before .pre in let r = c .before .before .before .before .before .before .before .before .sweep-nodes in
-    (r .ensures .grown .trailing, there (r .kept .0) (seated _ (c .before .before .seat .ensures .0) (s .1 .0)), tt, tt)
-
-same-length-3 : tie.Need-same-length-3
-same-length-3 c = search needs
-
-same-length-4 : tie.Need-same-length-4
-same-length-4 c = search needs
+visit-requires c κs =
+    let seat = c .before .before in let sn = after-sweep-nodes-2 (seat .before) in
+    let s = start (sn .before) .pre in let r = sn .sweep-nodes in
+    (r .ensures .grown .trailing, there (r .kept .0) (seated _ (seat .seat .ensures .0) (s .1 .0)), tt, tt)
 
 returns-2 : tie.Need-returns-2
-returns-2 c = nodes-root _ _ _ _ _ _ _ (c .before .before .before .before .before .before .before .before .before .before .before .before .before .sweep-nodes .ensures) (c .before .before .before .before .before .before .before .before .if1 .left) (c .before .before .before .before .before .before .before .seat .ensures .0) (c .before .before .before .before .visit .ensures)
+returns-2 c =
+    let v = c .before .before .before .before in let s = v .before .before .before in let e1 = s .before in
+    nodes-root _ _ _ _ _ _ _ (after-sweep-nodes-2 e1 .sweep-nodes .ensures) (e1 .if1 .left) (s .seat .ensures .0) (v .visit .ensures)
 
 pub sweep-spec : {M : Type 1} → statement M
 sweep-spec =
     tie.close
     (tie.spec
     sweep-nodes-requires
-    same-length
-    same-length-2
+    (λ c. search needs)
+    (λ c. search needs)
     returns
     seat-requires
-    add-root
+    (λ c. search needs)
     visit-requires
-    same-length-3
-    same-length-4
+    (λ c. search needs)
+    (λ c. search needs)
     returns-2)

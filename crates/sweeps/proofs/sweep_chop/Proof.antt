@@ -9,55 +9,56 @@ use Rattle.sweeps.proofs.Walk.{still, chop-clauses}
 use Rattle.sweeps.proofs.sweep_chop.Statement.{statement}
 use Rattle.sweeps.proofs.sweep_chop.Tie as tie
 
-beyond-requires : tie.Need-beyond-requires
-beyond-requires c κs = search needs
+-- the places that the needs speak of
+abbrev start : tie.After-beyond → tie.Start
+start c = c .before .before .before
 
-triples-of-requires : tie.Need-triples-of-requires
-triples-of-requires c κs = search needs
+abbrev after-intervals-of : tie.After-sweep-block → tie.After-intervals-of
+after-intervals-of c = c .before .before .before
 
-intervals-of-requires : tie.Need-intervals-of-requires
-intervals-of-requires c κs = search needs
+abbrev after-sweep-block : tie.After-slice-known4 → tie.After-sweep-block
+after-sweep-block c = c .before .before .before .before
 
 sweep-block-requires : tie.Need-sweep-block-requires
-sweep-block-requires c κs = let s = c .before .before .before .before .before .before .before in let h = halves (s .args .block) (c .before .before .before .before .beyond .ensures) (c .before .before .before .triples-of .ensures) (c .before .before .intervals-of .ensures) in
+sweep-block-requires c κs =
+    let i = c .before .before in let t = i .before in let b = t .before in let s = start b in
+    let h = halves (s .args .block) (b .beyond .ensures) (t .triples-of .ensures) (i .intervals-of .ensures) in
     ((triples-bounded _ h (s .pre .0 .0), s .pre .0 .1), triples-mentioned _ h (s .pre .1))
 
-same-length : tie.Need-same-length
-same-length c = search needs
-
-same-length-2 : tie.Need-same-length-2
-same-length-2 c = search needs
-
 returns : tie.Need-returns
-returns c = let h = halves (c .before .before .before .before .before .before .before .before .before .before .before .before .before .args .block) (c .before .before .before .before .before .before .before .before .before .before .beyond .ensures) (c .before .before .before .before .before .before .before .before .before .triples-of .ensures) (c .before .before .before .before .before .before .before .before .intervals-of .ensures) in
-    visited-named (chop-clauses _ h) (visited-stop (c .before .before .before .before .before .sweep-block .ensures) _ (c .if1 .taken))
+returns c =
+    let s = after-sweep-block (c .before) in let i = after-intervals-of s in let t = i .before in let b = t .before in
+    let h = halves (start b .args .block) (b .beyond .ensures) (t .triples-of .ensures) (i .intervals-of .ensures) in
+    visited-named (chop-clauses _ h) (visited-stop (s .sweep-block .ensures) _ (c .if1 .taken))
 
 sweep-block-requires-2 : tie.Need-sweep-block-requires-2
-sweep-block-requires-2 c κs = let s = c .before .before .before .before .before .before .before .before .before .before .before .before .before .before .before in let h = halves (s .args .block) (c .before .before .before .before .before .before .before .before .before .before .before .before .beyond .ensures) (c .before .before .before .before .before .before .before .before .before .before .before .triples-of .ensures) (c .before .before .before .before .before .before .before .before .before .before .intervals-of .ensures) in let r = c .before .before .before .before .before .before .before .sweep-block in
-    ((intervals-bounded _ h (s .pre .0 .0), r .ensures .grown .trailing), still (definedBy (s .args .c) (s .args .k) (c .before .before .before .before .before .before .before .before .before .before .intervals-of .result)) (r .kept .0) (intervals-mentioned _ h (s .pre .1)))
-
-same-length-3 : tie.Need-same-length-3
-same-length-3 c = search needs
-
-same-length-4 : tie.Need-same-length-4
-same-length-4 c = search needs
+sweep-block-requires-2 c κs =
+    let sb = after-sweep-block (c .before .before .before) in let i = after-intervals-of sb in let t = i .before in let b = t .before in
+    let s = start b in
+    let h = halves (s .args .block) (b .beyond .ensures) (t .triples-of .ensures) (i .intervals-of .ensures) in let r = sb .sweep-block in (
+      (intervals-bounded _ h (s .pre .0 .0), r .ensures .grown .trailing),
+      still (definedBy (s .args .c) (s .args .k) (i .intervals-of .result)) (r .kept .0) (intervals-mentioned _ h (s .pre .1)),
+    )
 
 returns-2 : tie.Need-returns-2
-returns-2 c = let h = halves (c .before .before .before .before .before .before .before .before .before .before .before .before .before .before .before .before .before .before .before .before .args .block) (c .before .before .before .before .before .before .before .before .before .before .before .before .before .before .before .before .before .beyond .ensures) (c .before .before .before .before .before .before .before .before .before .before .before .before .before .before .before .before .triples-of .ensures) (c .before .before .before .before .before .before .before .before .before .before .before .before .before .before .before .intervals-of .ensures) in
-    visited-named (chop-clauses _ h) (visited-then (c .before .before .before .before .before .before .before .before .before .before .before .before .sweep-block .ensures) _ (c .before .before .before .before .before .before .before .if1 .left) (c .before .before .before .before .sweep-block2 .ensures))
+returns-2 c =
+    let s = c .before .before .before .before in let e1 = s .before .before .before in let sb = after-sweep-block (e1 .before) in
+    let i = after-intervals-of sb in let t = i .before in let b = t .before in
+    let h = halves (start b .args .block) (b .beyond .ensures) (t .triples-of .ensures) (i .intervals-of .ensures) in
+    visited-named (chop-clauses _ h) (visited-then (sb .sweep-block .ensures) _ (e1 .if1 .left) (s .sweep-block2 .ensures))
 
 pub sweep-chop-spec : {M : Type 1} → statement M
 sweep-chop-spec =
     tie.close
     (tie.spec
-    beyond-requires
-    triples-of-requires
-    intervals-of-requires
+    (λ c κs. search needs)
+    (λ c κs. search needs)
+    (λ c κs. search needs)
     sweep-block-requires
-    same-length
-    same-length-2
+    (λ c. search needs)
+    (λ c. search needs)
     returns
     sweep-block-requires-2
-    same-length-3
-    same-length-4
+    (λ c. search needs)
+    (λ c. search needs)
     returns-2)

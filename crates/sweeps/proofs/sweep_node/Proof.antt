@@ -6,43 +6,40 @@ use Rattle.sweeps.proofs.Walk.{node-clauses, node-mentioned}
 use Rattle.sweeps.proofs.sweep_node.Statement.{statement}
 use Rattle.sweeps.proofs.sweep_node.Tie as tie
 
-is-chop-requires : tie.Need-is-chop-requires
-is-chop-requires c κs = search needs
+-- the places that the needs speak of
+abbrev start : tie.After-is-chop → tie.Start
+start c = c .before .before .before
 
 sweep-chop-requires : tie.Need-sweep-chop-requires
-sweep-chop-requires c κs = let s = c .before .before .before .before .before .before in (s .pre .0, node-mentioned (s .args .c) (s .args .k) (s .args .block) (c .before .before .before .is-chop .ensures) (c .before .before .if1 .taken) (s .pre .1))
-
-same-length : tie.Need-same-length
-same-length c = search needs
-
-same-length-2 : tie.Need-same-length-2
-same-length-2 c = search needs
+sweep-chop-requires c κs =
+    let t1 = c .before .before in let i = t1 .before in let s = start i in
+    (s .pre .0, node-mentioned (s .args .c) (s .args .k) (s .args .block) (i .is-chop .ensures) (t1 .if1 .taken) (s .pre .1))
 
 returns : tie.Need-returns
-returns c = let s = c .before .before .before .before .before .before .before .before .before .before .before in visited-named (node-clauses (s .args .c) (s .args .k) (s .args .block) (c .before .before .before .before .before .before .before .before .is-chop .ensures) (c .before .before .before .before .before .before .before .if1 .taken)) (c .before .before .before .before .sweep-chop .ensures)
+returns c =
+    let sc = c .before .before .before .before in let t1 = sc .before .before .before in let i = t1 .before in let s = start i in
+    visited-named (node-clauses (s .args .c) (s .args .k) (s .args .block) (i .is-chop .ensures) (t1 .if1 .taken)) (sc .sweep-chop .ensures)
 
 sweep-block-requires : tie.Need-sweep-block-requires
-sweep-block-requires c κs = let s = c .before .before .before .before .before .before in (((s .pre .0 .0 .bounded, s .pre .0 .0 .points), s .pre .0 .1), node-mentioned (s .args .c) (s .args .k) (s .args .block) (c .before .before .before .is-chop .ensures) (c .before .before .if1 .left) (s .pre .1))
-
-same-length-3 : tie.Need-same-length-3
-same-length-3 c = search needs
-
-same-length-4 : tie.Need-same-length-4
-same-length-4 c = search needs
+sweep-block-requires c κs =
+    let e1 = c .before .before in let i = e1 .before in let s = start i in
+    (((s .pre .0 .0 .bounded, s .pre .0 .0 .points), s .pre .0 .1), node-mentioned (s .args .c) (s .args .k) (s .args .block) (i .is-chop .ensures) (e1 .if1 .left) (s .pre .1))
 
 returns-2 : tie.Need-returns-2
-returns-2 c = let s = c .before .before .before .before .before .before .before .before .before .before .before in visited-named (node-clauses (s .args .c) (s .args .k) (s .args .block) (c .before .before .before .before .before .before .before .before .is-chop .ensures) (c .before .before .before .before .before .before .before .if1 .left)) (c .before .before .before .before .sweep-block .ensures)
+returns-2 c =
+    let sb = c .before .before .before .before in let e1 = sb .before .before .before in let i = e1 .before in let s = start i in
+    visited-named (node-clauses (s .args .c) (s .args .k) (s .args .block) (i .is-chop .ensures) (e1 .if1 .left)) (sb .sweep-block .ensures)
 
 pub sweep-node-spec : {M : Type 1} → statement M
 sweep-node-spec =
     tie.close
     (tie.spec
-    is-chop-requires
+    (λ c κs. search needs)
     sweep-chop-requires
-    same-length
-    same-length-2
+    (λ c. search needs)
+    (λ c. search needs)
     returns
     sweep-block-requires
-    same-length-3
-    same-length-4
+    (λ c. search needs)
+    (λ c. search needs)
     returns-2)

@@ -18,30 +18,13 @@ Inv-loop p₀ k x₀ x-end p x = (x-end ≡ countOf k) × (x ≤ countOf k) × (
 abbrev μ-loop : tie.MeasureT-loop
 μ-loop p₀ k x₀ x-end p x = countOf k - x
 
-count-requires : tie.Need-count-requires Inv-loop μ-loop
-count-requires c κs = search needs
-
 loop-holds : tie.Need-loop-holds Inv-loop μ-loop
 loop-holds c = (c .count .ensures .0, omega arith, c .before .before .pre .1, begun _ _ _ _ refl (λ y. refl))
 
-slice-read-p : tie.Need-slice-read-p Inv-loop μ-loop
-slice-read-p c = search needs
-
-slice-write-p : tie.Need-slice-write-p Inv-loop μ-loop
-slice-write-p c = search needs
-
-add-x : tie.Need-add-x Inv-loop μ-loop
-add-x c = search needs
-
-loop-less : tie.Need-loop-less Inv-loop μ-loop
-loop-less c = search needs
-
 loop-again : tie.Need-loop-again Inv-loop μ-loop
-loop-again c = let l = c .before .before .loop in
+loop-again c =
+    let l = c .before .before .loop in
     (l .inv .0, omega arith, l .inv .2, turn _ _ _ _ _ _ (l .inv .3) (search needs) (ap (λ (b : ℕ). bitXor b 1) (l .inv .3 .beyond (l .x) (omega arith))))
-
-same-length : tie.Need-same-length Inv-loop μ-loop
-same-length c = search needs
 
 returns : tie.Need-returns Inv-loop μ-loop
 returns c = λ f P. inverse-tables _ _ _ _ _ _ (omega (arith, c .before .loop .inv, c .loop-test .left)) (c .before .loop .inv .3) f P
@@ -52,12 +35,12 @@ inverse-spec =
     (tie.spec
     Inv-loop
     μ-loop
-    count-requires
+    (λ c κs. search needs)
     loop-holds
-    slice-read-p
-    slice-write-p
-    add-x
-    loop-less
+    (λ c. search needs)
+    (λ c. search needs)
+    (λ c. search needs)
+    (λ c. search needs)
     loop-again
-    same-length
+    (λ c. search needs)
     returns)

@@ -13,44 +13,35 @@ use Rattle.table.proofs.join.Statement.{statement}
 use Rattle.table.proofs.join.Tie as tie
 
 abbrev Inv-loop : tie.InvT-loop
-Inv-loop both p₀ q k x₀ x-end p x = (x-end ≡ countOf k) × (x ≤ countOf k) × (countOf k ≤ length p₀) × Upto (length p₀) (λ y. joinedByte both (getD p₀ y 0) (getD q y 0)) (λ y. getD p₀ y 0) x p
+Inv-loop both p₀ q k x₀ x-end p x =
+    (x-end ≡ countOf k) × (x ≤ countOf k) × (countOf k ≤ length p₀) ×
+    Upto (length p₀) (λ y. joinedByte both (getD p₀ y 0) (getD q y 0)) (λ y. getD p₀ y 0) x p
 
 abbrev μ-loop : tie.MeasureT-loop
 μ-loop both p₀ q k x₀ x-end p x = countOf k - x
 
-count-requires : tie.Need-count-requires Inv-loop μ-loop
-count-requires c κs = search needs
+-- the places that the needs speak of
+abbrev start : tie.After-count Inv-loop μ-loop → tie.Start Inv-loop μ-loop
+start c = c .before .before .before
 
 loop-holds : tie.Need-loop-holds Inv-loop μ-loop
-loop-holds c = (c .count .ensures .0, omega arith, c .before .before .before .pre .1, begun _ _ _ _ refl (λ y. refl))
-
-slice-read-joined-byte : tie.Need-slice-read-joined-byte Inv-loop μ-loop
-slice-read-joined-byte c = search needs
-
-shared-slice-read-joined-byte : tie.Need-shared-slice-read-joined-byte Inv-loop μ-loop
-shared-slice-read-joined-byte c = search needs
-
-joined-byte-requires : tie.Need-joined-byte-requires Inv-loop μ-loop
-joined-byte-requires c κs = search needs
-
-slice-write-p : tie.Need-slice-write-p Inv-loop μ-loop
-slice-write-p c = search needs
-
-add-x : tie.Need-add-x Inv-loop μ-loop
-add-x c = search needs
-
-loop-less : tie.Need-loop-less Inv-loop μ-loop
-loop-less c = search needs
+loop-holds c = (c .count .ensures .0, omega arith, start c .pre .1, begun _ _ _ _ refl (λ y. refl))
 
 loop-again : tie.Need-loop-again Inv-loop μ-loop
-loop-again c = let l = c .before .before .before .before .loop in
-    (l .inv .0, omega arith, l .inv .2, turn _ _ _ _ _ _ (l .inv .3) (search needs) (c .joined-byte .ensures ∙ ap₂ (joinedByte (c .before .before .before .before .before .before .before .before .args .both)) (l .inv .3 .beyond (l .x) (omega arith)) refl))
-
-same-length : tie.Need-same-length Inv-loop μ-loop
-same-length c = search needs
+loop-again c =
+    let w = c .before .before .before .before in
+    let l = w .loop in (
+      l .inv .0,
+      omega arith,
+      l .inv .2,
+      turn _ _ _ _ _ _ (l .inv .3) (search needs)
+          (c .joined-byte .ensures ∙ ap₂ (joinedByte (start (w .before) .args .both)) (l .inv .3 .beyond (l .x) (omega arith)) refl),
+    )
 
 returns : tie.Need-returns Inv-loop μ-loop
-returns c = λ f g P Q. joined-tables _ _ _ _ _ _ (omega (arith, c .before .loop .inv, c .loop-test .left)) (c .before .before .before .before .before .args .both) _ (c .before .loop .inv .3) f g P Q
+returns c =
+    let l = c .before in
+    λ f g P Q. joined-tables _ _ _ _ _ _ (omega (arith, l .loop .inv, c .loop-test .left)) (start (l .before) .args .both) _ (l .loop .inv .3) f g P Q
 
 pub join-spec : {M : Type 1} → statement M
 join-spec =
@@ -58,14 +49,14 @@ join-spec =
     (tie.spec
     Inv-loop
     μ-loop
-    count-requires
+    (λ c κs. search needs)
     loop-holds
-    slice-read-joined-byte
-    shared-slice-read-joined-byte
-    joined-byte-requires
-    slice-write-p
-    add-x
-    loop-less
+    (λ c. search needs)
+    (λ c. search needs)
+    (λ c κs. search needs)
+    (λ c. search needs)
+    (λ c. search needs)
+    (λ c. search needs)
     loop-again
-    same-length
+    (λ c. search needs)
     returns)

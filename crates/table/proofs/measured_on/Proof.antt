@@ -8,19 +8,12 @@ use borrow.Author.Needs.{needs}
 use Rattle.table.proofs.measured_on.Statement.{statement}
 use Rattle.table.proofs.measured_on.Tie as tie
 
-count-high-requires : tie.Need-count-high-requires
-count-high-requires c κs = search needs
-
-least-on-requires : tie.Need-least-on-requires
-least-on-requires c κs = search needs
-
-byte-of-requires : tie.Need-byte-of-requires
-byte-of-requires c κs = search needs
-
 returns : tie.Need-returns
-returns c = let a = c .before .before .before .args in
-    c .byte-of .ensures ∙ ap bit (ap₂ leb (c .before .least-on .ensures) (c .before .before .count-high .ensures .0) ∙ measured-least (a .measure) (bitAt (a .word)) (record { i = a .i; j = a .j }))
+returns c =
+    let ch = c .before .before in let a = ch .before .args in
+    c .byte-of .ensures ∙ ap bit (ap₂ leb (c .before .least-on .ensures) (ch .count-high .ensures .0) ∙
+    measured-least (a .measure) (bitAt (a .word)) (record { i = a .i; j = a .j }))
 
 pub measured-on-spec : {M : Type 1} → statement M
 measured-on-spec =
-    tie.close (tie.spec count-high-requires least-on-requires byte-of-requires returns)
+    tie.close (tie.spec (λ c κs. search needs) (λ c κs. search needs) (λ c κs. search needs) returns)

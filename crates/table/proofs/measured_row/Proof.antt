@@ -12,38 +12,34 @@ use Rattle.table.proofs.measured_row.Statement.{statement}
 use Rattle.table.proofs.measured_row.Tie as tie
 
 abbrev Inv-loop : tie.InvT-loop
-Inv-loop row₀ measure lows word i d₀ d-end row d = (d-end ≡ length row₀) × (d ≤ length row₀) × Upto (length row₀) (λ y. bit (measured measure (bitAt word) (record { i = i; j = i + y }))) (λ y. getD row₀ y 0) d row
+Inv-loop row₀ measure lows word i d₀ d-end row d =
+    (d-end ≡ length row₀) × (d ≤ length row₀) ×
+    Upto (length row₀) (λ y. bit (measured measure (bitAt word) (record { i = i; j = i + y }))) (λ y. getD row₀ y 0) d row
 
 abbrev μ-loop : tie.MeasureT-loop
 μ-loop row₀ measure lows word i d₀ d-end row d = length row₀ - d
+
+-- the places that the needs speak of
+abbrev start : tie.In-loop Inv-loop μ-loop → tie.Start Inv-loop μ-loop
+start c = c .before .before .before
 
 loop-holds : tie.Need-loop-holds Inv-loop μ-loop
 loop-holds c = (refl, omega arith, begun _ _ _ _ refl (λ y. refl))
 
 add-measured-on : tie.Need-add-measured-on Inv-loop μ-loop
-add-measured-on c = omega (arith, c .before .before .before .pre .0)
+add-measured-on c = omega (arith, start c .pre .0)
 
 measured-on-requires : tie.Need-measured-on-requires Inv-loop μ-loop
-measured-on-requires c κs = (omega arith, omega (arith, c .before .before .before .pre .0), c .before .before .before .pre .1)
-
-slice-write-row : tie.Need-slice-write-row Inv-loop μ-loop
-slice-write-row c = search needs
-
-add-d : tie.Need-add-d Inv-loop μ-loop
-add-d c = search needs
-
-loop-less : tie.Need-loop-less Inv-loop μ-loop
-loop-less c = search needs
+measured-on-requires c κs = (omega arith, omega (arith, start c .pre .0), start c .pre .1)
 
 loop-again : tie.Need-loop-again Inv-loop μ-loop
-loop-again c = let l = c .before .before .loop in
+loop-again c =
+    let l = c .before .before .loop in
     (refl, omega arith, turn _ _ _ _ _ _ (l .inv .2) (search needs) (c .measured-on .ensures))
 
-same-length : tie.Need-same-length Inv-loop μ-loop
-same-length c = search needs
-
 returns : tie.Need-returns Inv-loop μ-loop
-returns c = let l = c .before .loop in
+returns c =
+    let l = c .before .loop in
     record { at = λ d h. l .inv .2 .below d (omega (arith, l .inv .0, l .inv .2 .whole, c .loop-test .left)) }
 
 pub measured-row-spec : {M : Type 1} → statement M
@@ -55,9 +51,9 @@ measured-row-spec =
     loop-holds
     add-measured-on
     measured-on-requires
-    slice-write-row
-    add-d
-    loop-less
+    (λ c. search needs)
+    (λ c. search needs)
+    (λ c. search needs)
     loop-again
-    same-length
+    (λ c. search needs)
     returns)

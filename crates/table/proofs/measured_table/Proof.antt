@@ -19,57 +19,28 @@ Inv-loop measure word k lows t₀ start₀ i₀ i-end t start i = (i-end ≡ suc
 abbrev μ-loop : tie.MeasureT-loop
 μ-loop measure word k lows t₀ start₀ i₀ i-end t start i = suc k - i
 
-lows-requires : tie.Need-lows-requires Inv-loop μ-loop
-lows-requires c κs = search needs
-
-all-of-requires : tie.Need-all-of-requires Inv-loop μ-loop
-all-of-requires c κs = search needs
-
-add-i-end : tie.Need-add-i-end Inv-loop μ-loop
-add-i-end c = search needs
+-- the places that the needs speak of
+abbrev turn : tie.After-lows2 Inv-loop μ-loop → tie.At-loop Inv-loop μ-loop
+turn c = c .before .before .before
 
 loop-holds : tie.Need-loop-holds Inv-loop μ-loop
 unfolding countOf
-loop-holds c = (omega arith, filled-begun maxCount _ _ (count-le maxSteps _ (c .before .before .pre)) (c .all-of .ensures), record { at = λ v o h. omega arith })
-
-add-end : tie.Need-add-end Inv-loop μ-loop
-add-end c = search needs
-
-sub-end : tie.Need-sub-end Inv-loop μ-loop
-sub-end c = search needs
-
-add-end-2 : tie.Need-add-end-2 Inv-loop μ-loop
-add-end-2 c = search needs
-
-sub-measured-row : tie.Need-sub-measured-row Inv-loop μ-loop
-sub-measured-row c = search needs
-
-part-t-start : tie.Need-part-t-start Inv-loop μ-loop
-part-t-start c = search needs
-
-part-t-end : tie.Need-part-t-end Inv-loop μ-loop
-part-t-end c = search needs
+loop-holds c =
+    (omega arith, filled-begun maxCount _ _ (count-le maxSteps _ (c .before .before .pre)) (c .all-of .ensures), record { at = λ v o h. omega arith })
 
 measured-row-requires : tie.Need-measured-row-requires Inv-loop μ-loop
-measured-row-requires c κs = let a = c .before .before .before .before .before .before .args in
-    let l = c .before .before .before .loop in
-    (omega (arith, row-length maxCount _ _ _ (l .start + (a .k + 1 - l .i)) _ (l .inv .1) (omega arith), c .before .before .before .before .before .before .pre), c .before .before .before .before .before .lows .ensures)
-
-add-i : tie.Need-add-i Inv-loop μ-loop
-add-i c = search needs
-
-loop-less : tie.Need-loop-less Inv-loop μ-loop
-loop-less c = search needs
+measured-row-requires c κs =
+    let w = turn c in let lows = w .before .before in let a = lows .before .args in let l = w .loop in
+    (omega (arith, row-length maxCount _ _ _ (l .start + (a .k + 1 - l .i)) _ (l .inv .1) (omega arith), lows .before .pre), lows .lows .ensures)
 
 loop-again : tie.Need-loop-again Inv-loop μ-loop
-loop-again c = let a = c .before .before .before .before .before .before .before .before .args in
-    let l = c .before .before .before .before .before .loop in
-    let end = l .start + (a .k + 1 - l .i) in
-    let row = c .before .measured-row .last .0 in
+loop-again c =
+    let m = c .before in let u = turn (m .before) in let a = u .before .before .before .args in let l = u .loop in
+    let end = l .start + (a .k + 1 - l .i) in let row = m .measured-row .last .0 in
     let w = l .inv .1 in (
       omega arith,
       filled-turn maxCount _ _ _ end _ row (omega arith) w (omega arith) (search needs),
-      rows-turn maxCount _ _ _ end _ row (omega arith) w (omega arith) (search needs) _ (c .before .measured-row .ensures) (l .inv .2),
+      rows-turn maxCount _ _ _ end _ row (omega arith) w (omega arith) (search needs) _ (m .measured-row .ensures) (l .inv .2),
     )
 
 returns : tie.Need-returns Inv-loop μ-loop
@@ -81,18 +52,18 @@ measured-table-spec =
     (tie.spec
     Inv-loop
     μ-loop
-    lows-requires
-    all-of-requires
-    add-i-end
+    (λ c κs. search needs)
+    (λ c κs. search needs)
+    (λ c. search needs)
     loop-holds
-    add-end
-    sub-end
-    add-end-2
-    sub-measured-row
-    part-t-start
-    part-t-end
+    (λ c. search needs)
+    (λ c. search needs)
+    (λ c. search needs)
+    (λ c. search needs)
+    (λ c. search needs)
+    (λ c. search needs)
     measured-row-requires
-    add-i
-    loop-less
+    (λ c. search needs)
+    (λ c. search needs)
     loop-again
     returns)

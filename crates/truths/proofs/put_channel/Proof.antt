@@ -18,29 +18,11 @@ abbrev μ-loop : tie.MeasureT-loop
 loop-holds : tie.Need-loop-holds Inv-loop μ-loop
 loop-holds c = begun refl
 
-byte-at-requires : tie.Need-byte-at-requires Inv-loop μ-loop
-byte-at-requires c κs = search needs
-
-bit-of-requires : tie.Need-bit-of-requires Inv-loop μ-loop
-bit-of-requires c κs = search needs
-
-slice-write-out : tie.Need-slice-write-out Inv-loop μ-loop
-slice-write-out c = search needs
-
-add-t : tie.Need-add-t Inv-loop μ-loop
-add-t c = search needs
-
-loop-less : tie.Need-loop-less Inv-loop μ-loop
-loop-less c = search needs
-
 loop-again : tie.Need-loop-again Inv-loop μ-loop
 unfolding channelAt
 loop-again c =
-    let a = c .before .before .before .before .before .before .args in
-    turn (c .before .before .before .loop .inv) (search needs) (c .bit-of .ensures ∙ ap (λ (b : ℕ). bit (bitAt b (a .c))) (c .before .byte-at .ensures))
-
-same-length : tie.Need-same-length Inv-loop μ-loop
-same-length c = search needs
+    let l = c .before .before .before in let a = l .before .before .before .args in
+    turn (l .loop .inv) (search needs) (c .bit-of .ensures ∙ ap (λ (b : ℕ). bit (bitAt b (a .c))) (c .before .byte-at .ensures))
 
 returns : tie.Need-returns Inv-loop μ-loop
 returns c = done (c .before .loop .inv) (search needs)
@@ -52,11 +34,11 @@ put-channel-spec =
     Inv-loop
     μ-loop
     loop-holds
-    byte-at-requires
-    bit-of-requires
-    slice-write-out
-    add-t
-    loop-less
+    (λ c κs. search needs)
+    (λ c κs. search needs)
+    (λ c. search needs)
+    (λ c. search needs)
+    (λ c. search needs)
     loop-again
-    same-length
+    (λ c. search needs)
     returns)

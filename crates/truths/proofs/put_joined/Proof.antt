@@ -21,34 +21,12 @@ abbrev μ-loop : tie.MeasureT-loop
 loop-holds : tie.Need-loop-holds Inv-loop μ-loop
 loop-holds c = begun refl
 
-element-copy-out-joined-byte : tie.Need-element-copy-out-joined-byte Inv-loop μ-loop
-element-copy-out-joined-byte c = search needs
-
-element-copy-out-joined-byte-2 : tie.Need-element-copy-out-joined-byte-2 Inv-loop μ-loop
-element-copy-out-joined-byte-2 c = search needs
-
-joined-byte-requires : tie.Need-joined-byte-requires Inv-loop μ-loop
-joined-byte-requires c κs = search needs
-
-slice-write-out : tie.Need-slice-write-out Inv-loop μ-loop
-slice-write-out c = search needs
-
-add-e : tie.Need-add-e Inv-loop μ-loop
-add-e c = search needs
-
-loop-less : tie.Need-loop-less Inv-loop μ-loop
-loop-less c = search needs
-
 loop-again : tie.Need-loop-again Inv-loop μ-loop
 loop-again c =
-    let s = c .before .before .before .before .before .before in
-    let l = c .before .before .before .before .loop in
+    let w = c .before .before .before .before in let s = w .before .before in let l = w .loop in
     let both = ap₂ (joinedByte (s .args .both)) (s .pre .1 .at (l .e)) (s .pre .2 .at (l .e)) in
     let joins = joined-bits (s .args .both) (highAt (s .args .p .now) (l .e)) (highAt (s .args .q .now) (l .e)) in
     turn (l .inv) (search needs) (c .joined-byte .ensures ∙ both ∙ joins)
-
-same-length : tie.Need-same-length Inv-loop μ-loop
-same-length c = search needs
 
 returns : tie.Need-returns Inv-loop μ-loop
 returns c = done (c .before .loop .inv) (search needs)
@@ -60,12 +38,12 @@ put-joined-spec =
     Inv-loop
     μ-loop
     loop-holds
-    element-copy-out-joined-byte
-    element-copy-out-joined-byte-2
-    joined-byte-requires
-    slice-write-out
-    add-e
-    loop-less
+    (λ c. search needs)
+    (λ c. search needs)
+    (λ c κs. search needs)
+    (λ c. search needs)
+    (λ c. search needs)
+    (λ c. search needs)
     loop-again
-    same-length
+    (λ c. search needs)
     returns)

@@ -8,10 +8,9 @@ use native.Mathlib.Omega.{arith}
 use lib.ListN.{length, getD}
 use borrow.Author.Needs.{needs}
 use Rattle.interval.specs.Limits.{maxCount}
-use Rattle.interval.proofs.Fill.{Upto, begun, turn}
+use Rattle.interval.proofs.Fill.{Upto, begun, turn, zeros}
 use Rattle.meaning.specs.Meaning.{bit}
 use Rattle.table.specs.Table.{highAt}
-use Rattle.table.proofs.Rows.{zeros}
 use Rattle.truths.proofs.Taken.{taken}
 use Rattle.truths.proofs.truth_from.Statement.{statement}
 use Rattle.truths.proofs.truth_from.Tie as tie
@@ -22,37 +21,10 @@ Inv-loop assignment first n t₀ at e₀ e-end t e = (e ≤ e-end) × Upto maxCo
 abbrev μ-loop : tie.MeasureT-loop
 μ-loop assignment first n t₀ at e₀ e-end t e = e-end - e
 
-all-of-requires : tie.Need-all-of-requires Inv-loop μ-loop
-all-of-requires c κs = search needs
-
-sub-at : tie.Need-sub-at Inv-loop μ-loop
-sub-at c = search needs
-
-places-from-requires : tie.Need-places-from-requires Inv-loop μ-loop
-places-from-requires c κs = search needs
-
 loop-holds : tie.Need-loop-holds Inv-loop μ-loop
 loop-holds c =
     let e = c .before .before .all-of .ensures in
     (omega arith, begun _ _ _ _ (ap length e) (λ y. ap (λ (t : List ℕ). getD t y 0) e ∙ zeros maxCount y))
-
-add-byte-of : tie.Need-add-byte-of Inv-loop μ-loop
-add-byte-of c = search needs
-
-shared-slice-read-byte-of : tie.Need-shared-slice-read-byte-of Inv-loop μ-loop
-shared-slice-read-byte-of c = search needs
-
-byte-of-requires : tie.Need-byte-of-requires Inv-loop μ-loop
-byte-of-requires c κs = search needs
-
-array-write-t : tie.Need-array-write-t Inv-loop μ-loop
-array-write-t c = search needs
-
-add-e : tie.Need-add-e Inv-loop μ-loop
-add-e c = search needs
-
-loop-less : tie.Need-loop-less Inv-loop μ-loop
-loop-less c = search needs
 
 loop-again : tie.Need-loop-again Inv-loop μ-loop
 loop-again c =
@@ -61,8 +33,7 @@ loop-again c =
 
 returns : tie.Need-returns Inv-loop μ-loop
 returns c =
-    let s = c .before .before .before .before .before .before in
-    let j = c .before .before .before .if1 in
+    let e1 = c .before .before .before in let s = e1 .before .before .before in let j = e1 .if1 in
     let o : j .at ≡ s .args .first - 1 = ⊎-elim (λ w. omega arith) (λ w. omega arith) (j .came) in
     taken (s .args .assignment .now) (s .args .first) (j .at) (s .args .n) o (omega arith) (c .before .loop .inv .1)
 
@@ -72,15 +43,15 @@ truth-from-spec =
     (tie.spec
     Inv-loop
     μ-loop
-    all-of-requires
-    sub-at
-    places-from-requires
+    (λ c κs. search needs)
+    (λ c. search needs)
+    (λ c κs. search needs)
     loop-holds
-    add-byte-of
-    shared-slice-read-byte-of
-    byte-of-requires
-    array-write-t
-    add-e
-    loop-less
+    (λ c. search needs)
+    (λ c. search needs)
+    (λ c κs. search needs)
+    (λ c. search needs)
+    (λ c. search needs)
+    (λ c. search needs)
     loop-again
     returns)

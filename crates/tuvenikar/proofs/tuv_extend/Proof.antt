@@ -5,17 +5,8 @@ use Rattle.tuvenikar.proofs.Left.{assignment-left}
 use Rattle.tuvenikar.proofs.tuv_extend.Statement.{statement}
 use Rattle.tuvenikar.proofs.tuv_extend.Tie as tie
 
-extend-requires : tie.Need-extend-requires
-extend-requires c κs = search needs
-
-pack-written-requires : tie.Need-pack-written-requires
-pack-written-requires c κs = search needs
-
-same-length : tie.Need-same-length
-same-length c = search needs
-
 returns : tie.Need-returns
 returns c = assignment-left (c .before .before .before .extend .ensures) (c .pack-written .ensures)
 
 pub tuv-extend-spec : {M : Type 1} → statement M
-tuv-extend-spec = tie.close (tie.spec extend-requires pack-written-requires same-length returns)
+tuv-extend-spec = tie.close (tie.spec (λ c κs. search needs) (λ c κs. search needs) (λ c. search needs) returns)

@@ -6,14 +6,8 @@ use borrow.Author.Needs.{needs}
 use Rattle.tuvenikar.proofs.tuv_node_text.Statement.{statement}
 use Rattle.tuvenikar.proofs.tuv_node_text.Tie as tie
 
-node-place-requires : tie.Need-node-place-requires
-node-place-requires c κs = search needs
-
-pack-located-requires : tie.Need-pack-located-requires
-pack-located-requires c κs = search needs
-
 returns : tie.Need-returns
 returns c = c .pack-located .ensures ∙ ap packLocated (c .before .node-place .ensures)
 
 pub tuv-node-text-spec : {M : Type 1} → statement M
-tuv-node-text-spec = tie.close (tie.spec node-place-requires pack-located-requires returns)
+tuv-node-text-spec = tie.close (tie.spec (λ c κs. search needs) (λ c κs. search needs) returns)

@@ -9,55 +9,54 @@ use borrow.Author.Needs.{needs}
 use Rattle.unmet.proofs.ask_chop.Statement.{statement}
 use Rattle.unmet.proofs.ask_chop.Tie as tie
 
-beyond-requires : tie.Need-beyond-requires
-beyond-requires c κs = search needs
+-- the places that the needs speak of
+abbrev start : tie.After-intervals-of → tie.Start
+start c = c .before .before .before .before
 
-triples-of-requires : tie.Need-triples-of-requires
-triples-of-requires c κs = search needs
-
-intervals-of-requires : tie.Need-intervals-of-requires
-intervals-of-requires c κs = search needs
+abbrev after-intervals-of : tie.After-clauses → tie.After-intervals-of
+after-intervals-of c = c .before .before .before .before
 
 ask-block-requires : tie.Need-ask-block-requires
-ask-block-requires c κs = let h = halves (c .before .before .before .before .args .block) (c .before .before .beyond .ensures) (c .before .triples-of .ensures) (c .intervals-of .ensures) in let s = c .before .before .before .before .pre in ((triples-bounded _ h (s .0 .0), omega (arith, s .0 .1)), triples-mentioned _ h (s .1))
-
-enum-known-r : tie.Need-enum-known-r
-enum-known-r c = search needs
+ask-block-requires c κs =
+    let h = halves (start c .args .block) (c .before .before .beyond .ensures) (c .before .triples-of .ensures) (c .intervals-of .ensures) in let s = start c .pre in
+    ((triples-bounded _ h (s .0 .0), omega (arith, s .0 .1)), triples-mentioned _ h (s .1))
 
 returns : tie.Need-returns
-returns c = triples-no _ (halves (c .before .before .before .before .before .before .before .before .args .block) (c .before .before .before .before .before .before .beyond .ensures) (c .before .before .before .before .before .triples-of .ensures) (c .before .before .before .before .intervals-of .ensures)) _ _ (c .before .before .before .ask-block .ensures) (c .before .r .given .1)
-
-enum-told : tie.Need-enum-told
-enum-told c = search needs
-
-clauses-requires : tie.Need-clauses-requires
-clauses-requires c κs = search needs
+returns c =
+    let a = c .before .before .before in let i = a .before in let t = i .before in
+    triples-no _ (halves (start i .args .block) (t .before .beyond .ensures) (t .triples-of .ensures) (i .intervals-of .ensures)) _ _ (a .ask-block .ensures)
+    (c .before .r .given .1)
 
 weigh-requires : tie.Need-weigh-requires
-weigh-requires c κs = let s = c .before .before .before .before .before .before .before .before .pre .0 .0 in record { small = small (c .clauses .ensures) (omega arith) (omega arith) (omega arith) (s .bounded .steps); points = s .points; number = omega arith }
-
-add-ask-block : tie.Need-add-ask-block
-add-ask-block c = search needs
+weigh-requires c κs =
+    let s = start (after-intervals-of c) .pre .0 .0 in
+    record { small = small (c .clauses .ensures) (omega arith) (omega arith) (omega arith) (s .bounded .steps); points = s .points; number = omega arith }
 
 ask-block-requires-2 : tie.Need-ask-block-requires-2
-ask-block-requires-2 c κs = let h = halves (c .before .before .before .before .before .before .before .before .before .args .block) (c .before .before .before .before .before .before .before .beyond .ensures) (c .before .before .before .before .before .before .triples-of .ensures) (c .before .before .before .before .before .intervals-of .ensures) in let s = c .before .before .before .before .before .before .before .before .before .pre in ((intervals-bounded _ h (s .0 .0), omega (arith, s .0 .1, c .weigh .ensures .1)), intervals-mentioned _ h (s .1))
+ask-block-requires-2 c κs =
+    let i = after-intervals-of (c .before) in let t = i .before in
+    let h = halves (start i .args .block) (t .before .beyond .ensures) (t .triples-of .ensures) (i .intervals-of .ensures) in let s = start i .pre in
+    ((intervals-bounded _ h (s .0 .0), omega (arith, s .0 .1, c .weigh .ensures .1)), intervals-mentioned _ h (s .1))
 
 returns-2 : tie.Need-returns-2
-returns-2 c = intervals-asked _ (halves (c .before .before .before .before .before .before .before .before .before .before .args .block) (c .before .before .before .before .before .before .before .before .beyond .ensures) (c .before .before .before .before .before .before .before .triples-of .ensures) (c .before .before .before .before .before .before .intervals-of .ensures)) _ _ (c .before .before .before .before .before .ask-block .ensures) (c .before .before .before .enum-told .given .1) (c .before .before .clauses .ensures) (c .before .weigh .ensures .0) (c .ask-block2 .ensures)
+returns-2 c =
+    let clauses = c .before .before in let e = clauses .before in let i = after-intervals-of clauses in let t = i .before in
+    intervals-asked _ (halves (start i .args .block) (t .before .beyond .ensures) (t .triples-of .ensures) (i .intervals-of .ensures)) _ _
+    (e .before .before .ask-block .ensures) (e .enum-told .given .1) (clauses .clauses .ensures) (c .before .weigh .ensures .0) (c .ask-block2 .ensures)
 
 pub ask-chop-spec : {M : Type 1} → statement M
 ask-chop-spec =
     tie.close
     (tie.spec
-    beyond-requires
-    triples-of-requires
-    intervals-of-requires
+    (λ c κs. search needs)
+    (λ c κs. search needs)
+    (λ c κs. search needs)
     ask-block-requires
-    enum-known-r
+    (λ c. search needs)
     returns
-    enum-told
-    clauses-requires
+    (λ c. search needs)
+    (λ c κs. search needs)
     weigh-requires
-    add-ask-block
+    (λ c. search needs)
     ask-block-requires-2
     returns-2)

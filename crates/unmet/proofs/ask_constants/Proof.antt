@@ -18,29 +18,25 @@ Inv-loop assignment w n up m e₀ e = Met (valueIn assignment) m (constants w n 
 abbrev μ-loop : tie.MeasureT-loop
 μ-loop assignment w n up m e₀ e = n - e
 
+-- the places that the needs speak of
+abbrev start : tie.In-loop Inv-loop μ-loop → tie.Start Inv-loop μ-loop
+start c = c .before .before .before
+
 loop-holds : tie.Need-loop-holds Inv-loop μ-loop
 loop-holds c = constants-begun _ _ _ _ _
 
-add-high : tie.Need-add-high Inv-loop μ-loop
-add-high c = search needs
-
 high-requires : tie.Need-high-requires Inv-loop μ-loop
-high-requires c κs = c .before .before .before .pre .3 _ (c .loop-test .taken)
-
-add-t10 : tie.Need-add-t10 Inv-loop μ-loop
-add-t10 c = search needs
+high-requires c κs = start c .pre .3 _ (c .loop-test .taken)
 
 returns : tie.Need-returns Inv-loop μ-loop
-returns c = constants-stopped _ _ _ _ _ (c .before .before .before .loop .inv) (c .before .before .loop-test .taken) (c .before .high .ensures) (differ (c .before .high .result) (c .before .before .before .before .before .args .up) (not-true _ (c .if1 .taken)) refl)
-
-add-e : tie.Need-add-e Inv-loop μ-loop
-add-e c = search needs
-
-loop-less : tie.Need-loop-less Inv-loop μ-loop
-loop-less c = search needs
+returns c =
+    let h = c .before in let i = h .before in
+    constants-stopped _ _ _ _ _ (i .before .loop .inv) (i .loop-test .taken) (h .high .ensures) (differ (h .high .result) (start i .args .up) (not-true _ (c .if1 .taken)) refl)
 
 loop-again : tie.Need-loop-again Inv-loop μ-loop
-loop-again c = constants-turn _ _ _ _ _ (c .before .before .before .loop .inv) (c .before .before .loop-test .taken) (c .before .high .ensures) (beq-exactly (c .before .high .result) (c .before .before .before .before .before .args .up) .0 (not-false _ (c .if1 .left)))
+loop-again c =
+    let h = c .before in let i = h .before in
+    constants-turn _ _ _ _ _ (i .before .loop .inv) (i .loop-test .taken) (h .high .ensures) (beq-exactly (h .high .result) (start i .args .up) .0 (not-false _ (c .if1 .left)))
 
 returns-2 : tie.Need-returns-2 Inv-loop μ-loop
 returns-2 c = constants-done _ _ _ _ _ (c .before .loop .inv) (c .loop-test .left)
@@ -52,11 +48,11 @@ ask-constants-spec =
     Inv-loop
     μ-loop
     loop-holds
-    add-high
+    (λ c. search needs)
     high-requires
-    add-t10
+    (λ c. search needs)
     returns
-    add-e
-    loop-less
+    (λ c. search needs)
+    (λ c. search needs)
     loop-again
     returns-2)

@@ -7,30 +7,9 @@ use borrow.Author.Needs.{needs}
 use Rattle.unmet_gate.proofs.clause_count.Statement.{statement}
 use Rattle.unmet_gate.proofs.clause_count.Tie as tie
 
-enum-told : tie.Need-enum-told
-enum-told c = search needs
-
-enum-told-2 : tie.Need-enum-told-2
-enum-told-2 c = search needs
-
-enum-told-3 : tie.Need-enum-told-3
-enum-told-3 c = search needs
-
-enum-told-4 : tie.Need-enum-told-4
-enum-told-4 c = search needs
-
-enum-told-5 : tie.Need-enum-told-5
-enum-told-5 c = search needs
-
-enum-known-gate : tie.Need-enum-known-gate
-enum-known-gate c = search needs
-
 add-result : tie.Need-add-result
 unfolding weightOf
 add-result c = omega (arith, ap (weightOf clauseWeight) (c .before .gate .given .1))
-
-enum-told-6 : tie.Need-enum-told-6
-enum-told-6 c = search needs
 
 returns : tie.Need-returns
 unfolding weightOf
@@ -64,14 +43,14 @@ pub clause-count-spec : {M : Type 1} → statement M
 clause-count-spec =
     tie.close
     (tie.spec
-    enum-told
-    enum-told-2
-    enum-told-3
-    enum-told-4
-    enum-told-5
-    enum-known-gate
+    (λ c. search needs)
+    (λ c. search needs)
+    (λ c. search needs)
+    (λ c. search needs)
+    (λ c. search needs)
+    (λ c. search needs)
     add-result
-    enum-told-6
+    (λ c. search needs)
     returns
     returns-2
     returns-3

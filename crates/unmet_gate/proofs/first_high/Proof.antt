@@ -19,20 +19,11 @@ abbrev μ-loop : tie.MeasureT-loop
 loop-holds : tie.Need-loop-holds Inv-loop μ-loop
 loop-holds c = (omega arith, below-none _)
 
-add-high : tie.Need-add-high Inv-loop μ-loop
-add-high c = search needs
-
 high-requires : tie.Need-high-requires Inv-loop μ-loop
 high-requires c κs = c .before .before .before .pre .1 _ (c .loop-test .taken)
 
 returns : tie.Need-returns Inv-loop μ-loop
 returns c = record { upto = omega arith; low = c .before .before .before .loop .inv .1; high = λ l. (cc) }
-
-add-e : tie.Need-add-e Inv-loop μ-loop
-add-e c = search needs
-
-loop-less : tie.Need-loop-less Inv-loop μ-loop
-loop-less c = search needs
 
 loop-again : tie.Need-loop-again Inv-loop μ-loop
 loop-again c = (omega arith, below-more _ _ (c .before .before .before .loop .inv .1) (cc))
@@ -47,10 +38,10 @@ first-high-spec =
     Inv-loop
     μ-loop
     loop-holds
-    add-high
+    (λ c. search needs)
     high-requires
     returns
-    add-e
-    loop-less
+    (λ c. search needs)
+    (λ c. search needs)
     loop-again
     returns-2)

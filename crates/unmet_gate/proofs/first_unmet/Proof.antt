@@ -7,35 +7,14 @@ use borrow.Author.Needs.{needs}
 use Rattle.unmet_gate.proofs.first_unmet.Statement.{statement}
 use Rattle.unmet_gate.proofs.first_unmet.Tie as tie
 
-enum-told : tie.Need-enum-told
-enum-told c = search needs
-
-enum-told-2 : tie.Need-enum-told-2
-enum-told-2 c = search needs
-
-enum-told-3 : tie.Need-enum-told-3
-enum-told-3 c = search needs
-
-enum-known-gate : tie.Need-enum-known-gate
-enum-known-gate c = search needs
-
 high-requires : tie.Need-high-requires
 high-requires c κs = (rw (c .before .before .gate .given .1) at (c .before .before .before .before .before .pre .0)) .0
-
-enum-known-gate-2 : tie.Need-enum-known-gate-2
-enum-known-gate-2 c = search needs
 
 high-requires-2 : tie.Need-high-requires-2
 high-requires-2 c κs = (rw (c .before .before .gate2 .given .1) at (c .before .before .before .before .before .pre .0)) .0
 
-enum-known-gate-3 : tie.Need-enum-known-gate-3
-enum-known-gate-3 c = search needs
-
 first-high-requires : tie.Need-first-high-requires
 first-high-requires c κs = let e = c .before .gate3 .given .1 in let p = c .before .before .before .before .pre in ((rw e at (p .1)) .1, rw e at (p .0))
-
-enum-known-gate-4 : tie.Need-enum-known-gate-4
-enum-known-gate-4 c = search needs
 
 high-requires-3 : tie.Need-high-requires-3
 high-requires-3 c κs = let p = rw (c .before .before .gate4 .given .1) at (c .before .before .before .before .before .pre .0) in search (p .1, p .2)
@@ -62,10 +41,22 @@ returns-6 : tie.Need-returns-6
 returns-6 c = unmet-known _ _ (c .before .before .gate .given .1) (rw (not-true (c .before .before .before .before .before .args .up) (c .if3 .taken)))
 
 returns-7 : tie.Need-returns-7
-returns-7 c = unmet-known _ _ (c .before .before .before .before .gate .given .1) (rw (not-false (c .before .before .before .before .before .before .before .args .up) (c .before .before .if3 .left), sym (c .before .high .ensures), c .if4 .taken))
+returns-7 c =
+    unmet-known _ _ (c .before .before .before .before .gate .given .1)
+    (rw (
+      not-false (c .before .before .before .before .before .before .before .args .up) (c .before .before .if3 .left),
+      sym (c .before .high .ensures),
+      c .if4 .taken,
+    ))
 
 returns-8 : tie.Need-returns-8
-returns-8 c = unmet-known _ _ (c .before .before .before .before .gate .given .1) (rw (not-false (c .before .before .before .before .before .before .before .args .up) (c .before .before .if3 .left), sym (c .before .high .ensures), c .if4 .left))
+returns-8 c =
+    unmet-known _ _ (c .before .before .before .before .gate .given .1)
+    (rw (
+      not-false (c .before .before .before .before .before .before .before .args .up) (c .before .before .if3 .left),
+      sym (c .before .high .ensures),
+      c .if4 .left,
+    ))
 
 returns-9 : tie.Need-returns-9
 returns-9 c = unmet-known _ _ (c .before .before .gate2 .given .1) (rw (c .if5 .taken))
@@ -95,16 +86,16 @@ pub first-unmet-spec : {M : Type 1} → statement M
 first-unmet-spec =
     tie.close
     (tie.spec
-    enum-told
-    enum-told-2
-    enum-told-3
-    enum-known-gate
+    (λ c. search needs)
+    (λ c. search needs)
+    (λ c. search needs)
+    (λ c. search needs)
     high-requires
-    enum-known-gate-2
+    (λ c. search needs)
     high-requires-2
-    enum-known-gate-3
+    (λ c. search needs)
     first-high-requires
-    enum-known-gate-4
+    (λ c. search needs)
     high-requires-3
     high-requires-4
     returns

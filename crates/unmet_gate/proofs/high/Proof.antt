@@ -6,15 +6,9 @@ use borrow.Author.Needs.{needs}
 use Rattle.unmet_gate.proofs.high.Statement.{statement}
 use Rattle.unmet_gate.proofs.high.Tie as tie
 
-sub-result : tie.Need-sub-result
-sub-result c = search needs
-
-shared-slice-read-result : tie.Need-shared-slice-read-result
-shared-slice-read-result c = search needs
-
 returns : tie.Need-returns
 unfolding valueIn
 returns c = refl
 
 pub high-spec : {M : Type 1} → statement M
-high-spec = tie.close (tie.spec sub-result shared-slice-read-result returns)
+high-spec = tie.close (tie.spec (λ c. search needs) (λ c. search needs) returns)

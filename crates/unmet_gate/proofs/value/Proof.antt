@@ -6,23 +6,11 @@ use borrow.Author.Needs.{needs}
 use Rattle.unmet_gate.proofs.value.Statement.{statement}
 use Rattle.unmet_gate.proofs.value.Tie as tie
 
-enum-known-gate : tie.Need-enum-known-gate
-enum-known-gate c = search needs
-
-enum-known-gate-2 : tie.Need-enum-known-gate-2
-enum-known-gate-2 c = search needs
-
 high-requires : tie.Need-high-requires
 high-requires c κs = rw (c .before .gate2 .given .1) at (c .before .before .before .before .pre .0)
 
-enum-known-gate-3 : tie.Need-enum-known-gate-3
-enum-known-gate-3 c = search needs
-
 high-requires-2 : tie.Need-high-requires-2
 high-requires-2 c κs = rw (c .before .gate3 .given .1) at (c .before .before .before .before .pre .0)
-
-enum-known-gate-4 : tie.Need-enum-known-gate-4
-enum-known-gate-4 c = search needs
 
 high-requires-3 : tie.Need-high-requires-3
 high-requires-3 c κs = (rw (c .before .gate4 .given .1) at (c .before .before .before .before .pre .0)) .0
@@ -30,23 +18,14 @@ high-requires-3 c κs = (rw (c .before .gate4 .given .1) at (c .before .before .
 high-requires-4 : tie.Need-high-requires-4
 high-requires-4 c κs = (rw (c .before .before .gate4 .given .1) at (c .before .before .before .before .before .pre .0)) .1
 
-enum-known-gate-5 : tie.Need-enum-known-gate-5
-enum-known-gate-5 c = search needs
-
 high-requires-5 : tie.Need-high-requires-5
 high-requires-5 c κs = (rw (c .before .gate5 .given .1) at (c .before .before .before .before .pre .0)) .0
 
 high-requires-6 : tie.Need-high-requires-6
 high-requires-6 c κs = (rw (c .before .before .gate5 .given .1) at (c .before .before .before .before .before .pre .0)) .1
 
-enum-known-gate-6 : tie.Need-enum-known-gate-6
-enum-known-gate-6 c = search needs
-
 first-high-requires : tie.Need-first-high-requires
 first-high-requires c κs = let e = c .before .gate6 .given .1 in let p = c .before .before .before .before .pre in ((rw e at (p .1)) .1, rw e at (p .0))
-
-enum-known-gate-7 : tie.Need-enum-known-gate-7
-enum-known-gate-7 c = search needs
 
 high-requires-7 : tie.Need-high-requires-7
 high-requires-7 c κs = (rw (c .before .gate7 .given .1) at (c .before .before .before .before .pre .0)) .0
@@ -89,20 +68,20 @@ pub value-spec : {M : Type 1} → statement M
 value-spec =
     tie.close
     (tie.spec
-    enum-known-gate
-    enum-known-gate-2
+    (λ c. search needs)
+    (λ c. search needs)
     high-requires
-    enum-known-gate-3
+    (λ c. search needs)
     high-requires-2
-    enum-known-gate-4
+    (λ c. search needs)
     high-requires-3
     high-requires-4
-    enum-known-gate-5
+    (λ c. search needs)
     high-requires-5
     high-requires-6
-    enum-known-gate-6
+    (λ c. search needs)
     first-high-requires
-    enum-known-gate-7
+    (λ c. search needs)
     high-requires-7
     high-requires-8
     high-requires-9

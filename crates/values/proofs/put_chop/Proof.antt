@@ -19,58 +19,34 @@ rest-put a x r y e =
     let n : length (x ++ r) - a ≡ length r = omega (arith, length-append x r) in
     rw (n, take-at x r a e, drop-at x r a e, drop-length r, append-nil y)
 
-count-requires : tie.Need-count-requires
-count-requires c κs = search needs
-
-slice-relend-prefix-put-table : tie.Need-slice-relend-prefix-put-table
-slice-relend-prefix-put-table c = search needs
-
 slice-aggregate-put-table : tie.Need-slice-aggregate-put-table
 slice-aggregate-put-table c = sym (length-take-le _ _ (omega arith))
 
-chop-table-requires : tie.Need-chop-table-requires
-chop-table-requires c κs = search needs
-
 put-table-requires : tie.Need-put-table-requires
-put-table-requires c κs = omega (arith, length-take-le (c .before .before .before .count .result) (c .before .before .before .before .before .args .out .now) (omega arith))
-
-sub-put-triples : tie.Need-sub-put-triples
-sub-put-triples c = search needs
-
-part-put-triples-start : tie.Need-part-put-triples-start
-part-put-triples-start c = search needs
-
-part-put-triples-end : tie.Need-part-put-triples-end
-part-put-triples-end c = search needs
-
-put-triples-requires : tie.Need-put-triples-requires
-put-triples-requires c κs = search needs
-
-same-length : tie.Need-same-length
-same-length c = search needs
+put-table-requires c κs =
+    let count = c .before .before .before in omega (arith, length-take-le (count .count .result) (count .before .before .args .out .now) (omega arith))
 
 returns : tie.Need-returns
-returns c = let a = c .before .before .before .before .before .before .before .before .before .before .before .before .args in
-    let s = c .before .before .before .before .before .before .before .before .before .before .before .before .pre in
-    let n = c .before .before .before .before .before .before .before .before .before .before .count in
+returns c =
+    let p = c .before .before in let pt = p .before .before .before .before in let ct = pt .before .before in let count = ct .before .before in
+    let start₀ = count .before .before in let a = start₀ .args in let s = start₀ .pre in let n = count .count in
     let w : length (take (n .result) (a .out .now)) ≡ countOf (a .k) = length-take-le (n .result) (a .out .now) (omega arith) ∙ n .ensures .0 in
-    let T = c .before .before .before .before .before .before .before .before .chop-table .ensures _ _ (bits-table (s .2)) (bits-table (s .3)) in
-    let t = c .before .before .before .before .before .before .put-table in
+    let T = ct .chop-table .ensures _ _ (bits-table (s .2)) (bits-table (s .3)) in let t = pt .put-table in
     let e = t .ensures ∙ table-values (a .k) _ w T in
-    rest-put (n .result) (t .last .0) (drop (n .result) (a .out .now)) _ (search needs) ∙ ap₂ (λ (x y : List ℕ). x ++ y) e (c .before .before .put-triples .ensures)
+    rest-put (n .result) (t .last .0) (drop (n .result) (a .out .now)) _ (search needs) ∙ ap₂ (λ (x y : List ℕ). x ++ y) e (p .put-triples .ensures)
 
 pub put-chop-spec : {M : Type 1} → statement M
 put-chop-spec =
     tie.close
     (tie.spec
-    count-requires
-    slice-relend-prefix-put-table
+    (λ c κs. search needs)
+    (λ c. search needs)
     slice-aggregate-put-table
-    chop-table-requires
+    (λ c κs. search needs)
     put-table-requires
-    sub-put-triples
-    part-put-triples-start
-    part-put-triples-end
-    put-triples-requires
-    same-length
+    (λ c. search needs)
+    (λ c. search needs)
+    (λ c. search needs)
+    (λ c κs. search needs)
+    (λ c. search needs)
     returns)

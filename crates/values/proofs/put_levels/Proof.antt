@@ -6,7 +6,7 @@ use Prim.Native.Nat.{ℕ, suc, _+_, _-_}
 use Rattle.interval.specs.Places.{countOf}
 use Rattle.grammar.specs.declared.Sort.the-variants.{Formula}
 use Rattle.meaning.specs.Meaning.{bitAt, lasts}
-use Rattle.word.specs.Word.{WordOf}
+use Rattle.meaning.specs.Words.{WordOf}
 use Rattle.table.specs.declared.Measure.the-variants.{AtLeast}
 use Rattle.table.proofs.Measuring.{measured-word}
 use Rattle.assignments.specs.Extension.{truthValues}
@@ -19,62 +19,50 @@ use Rattle.values.proofs.put_levels.Statement.{statement}
 use Rattle.values.proofs.put_levels.Tie as tie
 
 abbrev Inv-loop : tie.InvT-loop
-Inv-loop out₀ n word k count at₀ c₀ c-end out at c = (c-end ≡ suc n) × ((f : ℕ → Bool) → WordOf k f word → Parts (λ c. truthValues Formula k (lasts c f)) (λ c. countOf k) (suc n) out₀ at out c)
+Inv-loop out₀ n word k count at₀ c₀ c-end out at c =
+    (c-end ≡ suc n) × ((f : ℕ → Bool) → WordOf k f word →
+    Parts (λ c. truthValues Formula k (lasts c f)) (λ c. countOf k) (suc n) out₀ at out c)
 
 abbrev μ-loop : tie.MeasureT-loop
 μ-loop out₀ n word k count at₀ c₀ c-end out at c = suc n - c
 
+-- the places that the needs speak of
+abbrev start : tie.After-count Inv-loop μ-loop → tie.Start Inv-loop μ-loop
+start c = c .before .before
+
+abbrev at-turn : tie.After-measured-table Inv-loop μ-loop → tie.At-loop Inv-loop μ-loop
+at-turn c = c .before .before .before
+
 -- by the word itself
 sofar : (c : tie.At-loop Inv-loop μ-loop) → let a = c .before .before .before .args in let l = c .loop in
     Parts (λ n. truthValues Formula (a .k) (lasts n (bitAt (a .word)))) (λ n. countOf (a .k)) (suc (a .n)) (a .out .now) (l .at) (l .out) (l .c)
-sofar c = c .loop .inv .1 (bitAt (c .before .before .before .args .word)) (record { at = λ t h. refl })
-
-count-requires : tie.Need-count-requires Inv-loop μ-loop
-count-requires c κs = search needs
-
-add-c-end : tie.Need-add-c-end Inv-loop μ-loop
-add-c-end c = search needs
+sofar c = c .loop .inv .1 (bitAt (start (c .before) .args .word)) (record { at = λ t h. refl })
 
 loop-holds : tie.Need-loop-holds Inv-loop μ-loop
-loop-holds c = (omega arith, λ f W. begun-even (λ n. truth-length Formula _ (lasts n f)) (c .before .before .pre .2))
+loop-holds c = (omega arith, λ f W. begun-even (λ n. truth-length Formula _ (lasts n f)) (start c .pre .2))
 
 add-end : tie.Need-add-end Inv-loop μ-loop
 add-end c = omega (arith, room (sofar (c .before)) (omega arith), sofar (c .before) .long)
 
-cast-level : tie.Need-cast-level Inv-loop μ-loop
-cast-level c = search needs
-
-sub-put-table : tie.Need-sub-put-table Inv-loop μ-loop
-sub-put-table c = search needs
-
-part-put-table-start : tie.Need-part-put-table-start Inv-loop μ-loop
-part-put-table-start c = search needs
-
 part-put-table-end : tie.Need-part-put-table-end Inv-loop μ-loop
 part-put-table-end c = omega (arith, room (sofar (c .before)) (omega arith))
 
-measured-table-requires : tie.Need-measured-table-requires Inv-loop μ-loop
-measured-table-requires c κs = search needs
-
 put-table-requires : tie.Need-put-table-requires Inv-loop μ-loop
-put-table-requires c κs = let l = c .before .before .before .before .loop in
-    omega (arith, part-length (sofar (c .before .before .before .before)) (omega arith) (l .at + c .before .before .before .before .before .count .result) (omega arith))
-
-add-c : tie.Need-add-c Inv-loop μ-loop
-add-c c = search needs
-
-loop-less : tie.Need-loop-less Inv-loop μ-loop
-loop-less c = search needs
+put-table-requires c κs =
+    let w = at-turn (c .before) in let l = w .loop in
+    omega (arith, part-length (sofar w) (omega arith) (l .at + w .before .count .result) (omega arith))
 
 loop-again : tie.Need-loop-again Inv-loop μ-loop
-loop-again c = let a = c .before .before .before .before .before .before .before .before .before .before .args in
-    let l = c .before .before .before .before .before .before .before .loop in
-    let t = c .before .before .before .before .measured-table in (
+loop-again c =
+    let pt = c .before .before in let m = pt .before .before in let w = at-turn m in let count = w .before in let a = start count .args in
+    let l = w .loop in
+    let t = m .measured-table in (
       l .inv .0,
       λ f W.
           let p = l .inv .1 f W in
-          let o : l .at + c .before .before .before .before .before .before .before .before .count .result ≡ l .at + countOf (a .k) = omega arith in
-          turn p (omega arith) _ o (c .before .before .put-table .ensures ∙ table-values (a .k) (lasts (l .c) f) (part-length p (omega arith) _ o) (measured-word (a .k) (AtLeast (l .c)) (a .word) f _ W (t .ensures))),
+          let o : l .at + count .count .result ≡ l .at + countOf (a .k) = omega arith in
+          turn p (omega arith) _ o (pt .put-table .ensures ∙
+          table-values (a .k) (lasts (l .c) f) (part-length p (omega arith) _ o) (measured-word (a .k) (AtLeast (l .c)) (a .word) f _ W (t .ensures))),
     )
 
 same-length : tie.Need-same-length Inv-loop μ-loop
@@ -89,18 +77,18 @@ put-levels-spec =
     (tie.spec
     Inv-loop
     μ-loop
-    count-requires
-    add-c-end
+    (λ c κs. search needs)
+    (λ c. search needs)
     loop-holds
     add-end
-    cast-level
-    sub-put-table
-    part-put-table-start
+    (λ c. search needs)
+    (λ c. search needs)
+    (λ c. search needs)
     part-put-table-end
-    measured-table-requires
+    (λ c κs. search needs)
     put-table-requires
-    add-c
-    loop-less
+    (λ c. search needs)
+    (λ c. search needs)
     loop-again
     same-length
     returns)

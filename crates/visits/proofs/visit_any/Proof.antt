@@ -7,40 +7,33 @@ use Rattle.visits.proofs.Loops.{any-clauses}
 use Rattle.visits.proofs.visit_any.Statement.{statement}
 use Rattle.visits.proofs.visit_any.Tie as tie
 
-visit-each-requires : tie.Need-visit-each-requires
-visit-each-requires c κs = search needs
-
-same-length : tie.Need-same-length
-same-length c = search needs
-
-same-length-2 : tie.Need-same-length-2
-same-length-2 c = search needs
+-- the places that the needs speak of
+abbrev after-visit-each : tie.After-slice-known4 → tie.After-visit-each
+after-visit-each c = c .before .before .before .before
 
 returns : tie.Need-returns
-returns c = visited-named (any-clauses _ _ _) (visited-stop (c .before .before .before .before .before .visit-each .ensures) _ (c .if1 .taken))
+returns c = visited-named (any-clauses _ _ _) (visited-stop (after-visit-each (c .before) .visit-each .ensures) _ (c .if1 .taken))
 
 visit-long-requires : tie.Need-visit-long-requires
-visit-long-requires c κs = let s = c .before .before .before .before .before .before .before .before .before .before .before .before .pre in let k = c .before .before .before .before .before .before .before .visit-each in
+visit-long-requires c κs =
+    let v = after-visit-each (c .before .before .before) in
+    let s = v .before .before .before .before .before .pre in let k = v .visit-each in
     (k .ensures .grown .trailing, there (k .kept .0) (s .1), (s .2 .0, λ e h. there (k .kept .0) (s .2 .1 e h)))
 
-same-length-3 : tie.Need-same-length-3
-same-length-3 c = search needs
-
-same-length-4 : tie.Need-same-length-4
-same-length-4 c = search needs
-
 returns-2 : tie.Need-returns-2
-returns-2 c = visited-named (any-clauses _ _ _) (visited-then (c .before .before .before .before .before .before .before .before .before .before .before .before .visit-each .ensures) _ (c .before .before .before .before .before .before .before .if1 .left) (c .before .before .before .before .visit-long .ensures))
+returns-2 c =
+    let v = c .before .before .before .before in let e1 = v .before .before .before in
+    visited-named (any-clauses _ _ _) (visited-then (after-visit-each (e1 .before) .visit-each .ensures) _ (e1 .if1 .left) (v .visit-long .ensures))
 
 pub visit-any-spec : {M : Type 1} → statement M
 visit-any-spec =
     tie.close
     (tie.spec
-    visit-each-requires
-    same-length
-    same-length-2
+    (λ c κs. search needs)
+    (λ c. search needs)
+    (λ c. search needs)
     returns
     visit-long-requires
-    same-length-3
-    same-length-4
+    (λ c. search needs)
+    (λ c. search needs)
     returns-2)

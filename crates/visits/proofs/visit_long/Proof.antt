@@ -16,14 +16,9 @@ Inv-loop values trail top v w n free₀ last₀ mark₀ e₀ free last mark e = 
 abbrev μ-loop : tie.MeasureT-loop
 μ-loop values trail top v w n free₀ last₀ mark₀ e₀ free last mark e = n - e
 
-opposed-requires : tie.Need-opposed-requires Inv-loop μ-loop
-opposed-requires c κs = search needs
-
-one-free-requires : tie.Need-one-free-requires Inv-loop μ-loop
-one-free-requires c κs = search needs
-
 loop-holds : tie.Need-loop-holds Inv-loop μ-loop
-loop-holds c = let o = sym (c .before .opposed .ensures) in
+loop-holds c =
+    let o = sym (c .before .opposed .ensures) in
     (omega arith, reading-none (c .before .before .before .before .before .pre .1) (⊎-elim (λ w. inl (w .0, o ∙ w .1)) (λ w. inr (w .0, o ∙ w .1)) (c .one-free .ensures)))
 
 add-opposed : tie.Need-add-opposed Inv-loop μ-loop
@@ -32,40 +27,31 @@ add-opposed c = omega (arith, c .before .before .before .before .before .before 
 opposed-requires-2 : tie.Need-opposed-requires-2 Inv-loop μ-loop
 opposed-requires-2 c κs = c .before .before .before .before .before .before .before .before .pre .2 .1 _ (c .before .loop-test .taken)
 
-same-length : tie.Need-same-length Inv-loop μ-loop
-same-length c = search needs
-
 returns : tie.Need-returns Inv-loop μ-loop
-returns c = tallied-more (c .before .before .before .before .before .before .before .before .before .before .before .pre .0) _ (reading-two (c .before .before .before .before .before .loop .inv .1) (sym (c .before .before .opposed2 .ensures) ∙ not-true _ (c .before .if1 .taken)) (c .if2 .taken) _ (c .before .before .before .before .loop-test .taken))
+returns c =
+    let o = c .before .before in let l = o .before .before in let w = l .before in
+    tallied-more (w .before .before .before .before .before .before .pre .0) _
+    (reading-two (w .loop .inv .1) (sym (o .opposed2 .ensures) ∙ not-true _ (c .before .if1 .taken)) (c .if2 .taken) _ (l .loop-test .taken))
     (λ e. absurd (omega arith)) (λ e. absurd (omega arith))
 
-add-last : tie.Need-add-last Inv-loop μ-loop
-add-last c = search needs
-
-add-e : tie.Need-add-e Inv-loop μ-loop
-add-e c = search needs
-
-loop-less : tie.Need-loop-less Inv-loop μ-loop
-loop-less c = search needs
-
 loop-again : tie.Need-loop-again Inv-loop μ-loop
-loop-again c = let i = c .before .before .before .before .loop .inv in let o = sym (c .before .opposed2 .ensures) in (
-  omega (arith, c .before .before .before .loop-test .taken),
-  ⊎-elim (λ w. reading-moved (w .2) (w .3) (w .4) (reading-first (i .1) (o ∙ not-true _ (w .0 .taken)) (w .1 .left) (c .before .before .before .before .before .before .before .before .before .before .pre .2 .1 _ (c .before .before .before .loop-test .taken))))
-      (λ w. reading-moved (w .1) (w .2) (w .3) (reading-same (i .1) (o ∙ not-false _ (w .0 .left)))) (c .if1 .came),
-)
+loop-again c =
+    let l = c .before .before .before in let u = l .before in
+    let i = u .loop .inv in let o = sym (c .before .opposed2 .ensures) in (
+      omega (arith, l .loop-test .taken),
+      ⊎-elim (λ w. reading-moved (w .2) (w .3) (w .4)
+          (reading-first (i .1) (o ∙ not-true _ (w .0 .taken)) (w .1 .left) (u .before .before .before .before .before .before .pre .2 .1 _ (l .loop-test .taken))))
+          (λ w. reading-moved (w .1) (w .2) (w .3) (reading-same (i .1) (o ∙ not-false _ (w .0 .left)))) (c .if1 .came),
+    )
 
 visit-tallied-requires : tie.Need-visit-tallied-requires Inv-loop μ-loop
-visit-tallied-requires c κs = let i = c .before .before .before .loop .inv .1 in (c .before .before .before .before .before .before .before .before .before .pre .0, i .within, reading-free i)
-
-same-length-2 : tie.Need-same-length-2 Inv-loop μ-loop
-same-length-2 c = search needs
-
-same-length-3 : tie.Need-same-length-3 Inv-loop μ-loop
-same-length-3 c = search needs
+visit-tallied-requires c κs =
+    let l = c .before .before .before in let i = l .loop .inv .1 in (l .before .before .before .before .before .before .pre .0, i .within, reading-free i)
 
 returns-2 : tie.Need-returns-2 Inv-loop μ-loop
-returns-2 c = let i = c .before .before .before .before .before .before .before .before .loop .inv in c .before .before .before .before .visit-tallied .ensures _ (omega arith) (reading-all _ (i .0) (omega (arith, c .before .before .before .before .before .before .before .loop-test .left)) (i .1) .tally)
+returns-2 c =
+    let v = c .before .before .before .before in let l = v .before .before .before in
+    let i = l .before .loop .inv in v .visit-tallied .ensures _ (omega arith) (reading-all _ (i .0) (omega (arith, l .loop-test .left)) (i .1) .tally)
 
 pub visit-long-spec : {M : Type 1} → statement M
 visit-long-spec =
@@ -73,18 +59,18 @@ visit-long-spec =
     (tie.spec
     Inv-loop
     μ-loop
-    opposed-requires
-    one-free-requires
+    (λ c κs. search needs)
+    (λ c κs. search needs)
     loop-holds
     add-opposed
     opposed-requires-2
-    same-length
+    (λ c. search needs)
     returns
-    add-last
-    add-e
-    loop-less
+    (λ c. search needs)
+    (λ c. search needs)
+    (λ c. search needs)
     loop-again
     visit-tallied-requires
-    same-length-2
-    same-length-3
+    (λ c. search needs)
+    (λ c. search needs)
     returns-2)

@@ -6,15 +6,6 @@ use borrow.Author.Needs.{needs}
 use Rattle.weights.proofs.longer.Statement.{statement}
 use Rattle.weights.proofs.longer.Tie as tie
 
-add-empty : tie.Need-add-empty
-add-empty c = search needs
-
-count-requires : tie.Need-count-requires
-count-requires c κs = search needs
-
-cast-result : tie.Need-cast-result
-cast-result c = search needs
-
 sub-result : tie.Need-sub-result
 sub-result c = omega (arith, suc-le-count (c .before .args .k))
 
@@ -26,10 +17,10 @@ add-result c = sum-fits _ _ _ (search needs) (search needs) (search needs)
 
 returns : tie.Need-returns
 returns c =
-    let e = longer-code (c .count .result) (c .before .args .k) (c .before .args .step) (c .count .ensures .0) in
-    (e, omega (arith, e, longer-le (c .before .args .k) (c .before .args .step) (search needs) (search needs)))
+    let a = c .before .args in let e = longer-code (c .count .result) (a .k) (a .step) (c .count .ensures .0) in
+    (e, omega (arith, e, longer-le (a .k) (a .step) (search needs) (search needs)))
 
 pub longer-spec : {M : Type 1} → statement M
 longer-spec =
     tie.close
-    (tie.spec add-empty count-requires cast-result sub-result mul-result add-result returns)
+    (tie.spec (λ c. search needs) (λ c κs. search needs) (λ c. search needs) sub-result mul-result add-result returns)

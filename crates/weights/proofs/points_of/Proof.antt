@@ -7,12 +7,6 @@ use mathlib.Core.Path.{_∙_}
 use Rattle.weights.proofs.points_of.Statement.{statement}
 use Rattle.weights.proofs.points_of.Tie as tie
 
-count-requires : tie.Need-count-requires
-count-requires c κs = search needs
-
-cast-result : tie.Need-cast-result
-cast-result c = search needs
-
 returns : tie.Need-returns
 returns c = (points-state _ _ (search needs), omega arith)
 
@@ -20,4 +14,4 @@ returns-2 : tie.Need-returns-2
 returns-2 c = (c .count .ensures .0 ∙ points-formula _ _ (search needs), search needs)
 
 pub points-of-spec : {M : Type 1} → statement M
-points-of-spec = tie.close (tie.spec count-requires cast-result returns returns-2)
+points-of-spec = tie.close (tie.spec (λ c κs. search needs) (λ c. search needs) returns returns-2)

@@ -6,41 +6,34 @@ use Rattle.weights.proofs.Rows.{row-light, row-chop, row-other}
 use Rattle.weights.proofs.row_weight.Statement.{statement}
 use Rattle.weights.proofs.row_weight.Tie as tie
 
-points-of-requires : tie.Need-points-of-requires
-points-of-requires c κs = search needs
-
-rule-of-requires : tie.Need-rule-of-requires
-rule-of-requires c κs = search needs
-
 weigh-requires : tie.Need-weigh-requires
 weigh-requires c κs = row-light _ _ (c .rule-of .ensures) (search needs) (omega arith) (search needs)
 
-is-chop-requires : tie.Need-is-chop-requires
-is-chop-requires c κs = search needs
-
-weigh-requires-2 : tie.Need-weigh-requires-2
-weigh-requires-2 c κs = search needs
-
-add-result : tie.Need-add-result
-add-result c = search needs
-
 returns : tie.Need-returns
-returns c = let b = c .before .before in
-    (row-chop _ _ _ _ (b .before .before .before .points-of .ensures .0) (b .before .before .rule-of .ensures) (b .is-chop .ensures) (c .before .if1 .taken) (b .before .weigh .ensures .0) (c .weigh2 .ensures .0), omega arith)
+returns c =
+    let b = c .before .before in (
+      row-chop _ _ _ _ (b .before .before .before .points-of .ensures .0) (b .before .before .rule-of .ensures) (b .is-chop .ensures) (c .before .if1 .taken)
+          (b .before .weigh .ensures .0) (c .weigh2 .ensures .0),
+      omega arith,
+    )
 
 returns-2 : tie.Need-returns-2
-returns-2 c = let b = c .before in
-    (row-other _ _ _ _ (b .before .before .before .points-of .ensures .0) (b .before .before .rule-of .ensures) (b .is-chop .ensures) (c .if1 .left) (b .before .weigh .ensures .0), omega arith)
+returns-2 c =
+    let b = c .before in (
+      row-other _ _ _ _ (b .before .before .before .points-of .ensures .0) (b .before .before .rule-of .ensures) (b .is-chop .ensures) (c .if1 .left)
+          (b .before .weigh .ensures .0),
+      omega arith,
+    )
 
 pub row-weight-spec : {M : Type 1} → statement M
 row-weight-spec =
     tie.close
     (tie.spec
-    points-of-requires
-    rule-of-requires
+    (λ c κs. search needs)
+    (λ c κs. search needs)
     weigh-requires
-    is-chop-requires
-    weigh-requires-2
-    add-result
+    (λ c κs. search needs)
+    (λ c κs. search needs)
+    (λ c. search needs)
     returns
     returns-2)

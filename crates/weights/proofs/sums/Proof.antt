@@ -14,44 +14,30 @@ use Rattle.weights.proofs.sums.Tie as tie
 
 abbrev Inv-loop : tie.InvT-loop
 Inv-loop kinds numbers count k w start out₀ total₀ x₀ out total x =
-    (x ≤ count) × (total ≡ start + weightTo w k kinds numbers x) × (total ≤ 2 ^ 20 + x * (2 * maxWeight)) × Upto maxNodes (λ y. start + weightTo w k kinds numbers y) (λ y. getD out₀ y 0) x out
+    (x ≤ count) × (total ≡ start + weightTo w k kinds numbers x) × (total ≤ 2 ^ 20 + x * (2 * maxWeight)) ×
+    Upto maxNodes (λ y. start + weightTo w k kinds numbers y) (λ y. getD out₀ y 0) x out
 
 abbrev μ-loop : tie.MeasureT-loop
 μ-loop kinds numbers count k w start out₀ total₀ x₀ out total x = count - x
 
+-- the places that the needs speak of
+abbrev at-turn : tie.After-row-weight-arg2 Inv-loop μ-loop → tie.At-loop Inv-loop μ-loop
+at-turn c = c .before .before .before
+
 loop-holds : tie.Need-loop-holds Inv-loop μ-loop
 loop-holds c = (omega arith, total-first _ _ _ _ _, omega arith, begun _ _ _ _ (search needs) (λ y. refl))
 
-mul-out : tie.Need-mul-out Inv-loop μ-loop
-mul-out c = search needs
-
-element-write-out : tie.Need-element-write-out Inv-loop μ-loop
-element-write-out c = search needs
-
-element-copy-out-row-weight : tie.Need-element-copy-out-row-weight Inv-loop μ-loop
-element-copy-out-row-weight c = search needs
-
-element-copy-out-row-weight-2 : tie.Need-element-copy-out-row-weight-2 Inv-loop μ-loop
-element-copy-out-row-weight-2 c = search needs
-
 row-weight-requires : tie.Need-row-weight-requires Inv-loop μ-loop
-row-weight-requires c κs = c .before .before .before .before .pre .0
-
-add-total : tie.Need-add-total Inv-loop μ-loop
-add-total c = search needs
-
-add-x : tie.Need-add-x Inv-loop μ-loop
-add-x c = search needs
-
-loop-less : tie.Need-loop-less Inv-loop μ-loop
-loop-less c = search needs
+row-weight-requires c κs = at-turn c .before .pre .0
 
 loop-again : tie.Need-loop-again Inv-loop μ-loop
-loop-again c = let l = c .before .before .before .before .loop in
+loop-again c =
+    let l = at-turn (c .before) .loop in
     (omega arith, total-next _ _ _ _ _ _ (l .inv .1) (c .row-weight .ensures .0), omega arith, turn _ _ _ _ _ _ (l .inv .3) (search needs) (l .inv .1))
 
 returns : tie.Need-returns Inv-loop μ-loop
-returns c = let l = c .before .loop in
+returns c =
+    let l = c .before .loop in
     summed _ _ _ _ _ _ _ _ (l .x) (l .total) (omega arith) (l .inv .1) (omega arith) (l .inv .3)
 
 pub sums-spec : {M : Type 1} → statement M
@@ -61,13 +47,13 @@ sums-spec =
     Inv-loop
     μ-loop
     loop-holds
-    mul-out
-    element-write-out
-    element-copy-out-row-weight
-    element-copy-out-row-weight-2
+    (λ c. search needs)
+    (λ c. search needs)
+    (λ c. search needs)
+    (λ c. search needs)
     row-weight-requires
-    add-total
-    add-x
-    loop-less
+    (λ c. search needs)
+    (λ c. search needs)
+    (λ c. search needs)
     loop-again
     returns)

@@ -9,53 +9,21 @@ use borrow.Author.Needs.{needs}
 use Rattle.weights.proofs.weigh.Statement.{statement}
 use Rattle.weights.proofs.weigh.Tie as tie
 
-mul-both : tie.Need-mul-both
-mul-both c = search needs
-
-add-both : tie.Need-add-both
-add-both c = search needs
-
-enum-told : tie.Need-enum-told
-enum-told c = search needs
-
-enum-told-2 : tie.Need-enum-told-2
-enum-told-2 c = search needs
+-- the places that the needs speak of
+abbrev after-rule : tie.After-longer → tie.After-rule
+after-rule c = c .before .before .before
 
 mul-result : tie.Need-mul-result
 mul-result c = product-fits _ _ (search needs) (search needs)
 
-enum-told-3 : tie.Need-enum-told-3
-enum-told-3 c = search needs
-
 mul-result-2 : tie.Need-mul-result-2
 mul-result-2 c = product-fits _ _ (search needs) (search needs)
-
-enum-told-4 : tie.Need-enum-told-4
-enum-told-4 c = search needs
 
 mul-result-3 : tie.Need-mul-result-3
 mul-result-3 c = product-fits _ _ (search needs) (search needs)
 
-enum-told-5 : tie.Need-enum-told-5
-enum-told-5 c = search needs
-
 mul-result-4 : tie.Need-mul-result-4
 mul-result-4 c = product-fits _ _ (search needs) (search needs)
-
-enum-told-6 : tie.Need-enum-told-6
-enum-told-6 c = search needs
-
-count-requires : tie.Need-count-requires
-count-requires c κs = search needs
-
-cast-result : tie.Need-cast-result
-cast-result c = search needs
-
-count-requires-2 : tie.Need-count-requires-2
-count-requires-2 c κs = search needs
-
-cast-result-2 : tie.Need-cast-result-2
-cast-result-2 c = search needs
 
 mul-result-5 : tie.Need-mul-result-5
 mul-result-5 c = product-fits _ _ (search needs) (search needs)
@@ -63,38 +31,11 @@ mul-result-5 c = product-fits _ _ (search needs) (search needs)
 add-result : tie.Need-add-result
 add-result c = sum-fits _ _ _ (search needs) (search needs) (search needs)
 
-enum-known-rule : tie.Need-enum-known-rule
-enum-known-rule c = search needs
-
-count-requires-3 : tie.Need-count-requires-3
-count-requires-3 c κs = search needs
-
-cast-result-3 : tie.Need-cast-result-3
-cast-result-3 c = search needs
-
-longer-requires : tie.Need-longer-requires
-longer-requires c κs = search needs
-
 mul-result-6 : tie.Need-mul-result-6
-mul-result-6 c = product-fits _ _ (omega (arith, level-le (search needs) (c .before .before .before .rule .given .1))) (search needs)
+mul-result-6 c = product-fits _ _ (omega (arith, level-le (search needs) (after-rule c .rule .given .1))) (search needs)
 
 add-result-2 : tie.Need-add-result-2
-add-result-2 c = sum-fits _ _ _ (search needs) (omega (arith, level-le (search needs) (c .before .before .before .rule .given .1))) (search needs)
-
-enum-told-7 : tie.Need-enum-told-7
-enum-told-7 c = search needs
-
-longer-requires-2 : tie.Need-longer-requires-2
-longer-requires-2 c κs = search needs
-
-enum-told-8 : tie.Need-enum-told-8
-enum-told-8 c = search needs
-
-count-requires-4 : tie.Need-count-requires-4
-count-requires-4 c κs = search needs
-
-cast-result-4 : tie.Need-cast-result-4
-cast-result-4 c = search needs
+add-result-2 c = sum-fits _ _ _ (search needs) (omega (arith, level-le (search needs) (after-rule c .rule .given .1))) (search needs)
 
 mul-result-7 : tie.Need-mul-result-7
 mul-result-7 c = product-fits _ _ (search needs) (search needs)
@@ -125,7 +66,7 @@ returns-6 c = weighed (search needs) Chop (c .before .before .before .enum-told6
 
 returns-7 : tie.Need-returns-7
 unfolding weightBy
-returns-7 c = weighed (search needs) (Duration _) (c .before .before .before .rule .given .1) cc
+returns-7 c = weighed (search needs) (Duration _) (after-rule c .rule .given .1) cc
 
 returns-8 : tie.Need-returns-8
 unfolding weightBy
@@ -139,35 +80,35 @@ pub weigh-spec : {M : Type 1} → statement M
 weigh-spec =
     tie.close
     (tie.spec
-    mul-both
-    add-both
-    enum-told
-    enum-told-2
+    (λ c. search needs)
+    (λ c. search needs)
+    (λ c. search needs)
+    (λ c. search needs)
     mul-result
-    enum-told-3
+    (λ c. search needs)
     mul-result-2
-    enum-told-4
+    (λ c. search needs)
     mul-result-3
-    enum-told-5
+    (λ c. search needs)
     mul-result-4
-    enum-told-6
-    count-requires
-    cast-result
-    count-requires-2
-    cast-result-2
+    (λ c. search needs)
+    (λ c κs. search needs)
+    (λ c. search needs)
+    (λ c κs. search needs)
+    (λ c. search needs)
     mul-result-5
     add-result
-    enum-known-rule
-    count-requires-3
-    cast-result-3
-    longer-requires
+    (λ c. search needs)
+    (λ c κs. search needs)
+    (λ c. search needs)
+    (λ c κs. search needs)
     mul-result-6
     add-result-2
-    enum-told-7
-    longer-requires-2
-    enum-told-8
-    count-requires-4
-    cast-result-4
+    (λ c. search needs)
+    (λ c κs. search needs)
+    (λ c. search needs)
+    (λ c κs. search needs)
+    (λ c. search needs)
     mul-result-7
     returns
     returns-2

@@ -5,11 +5,8 @@ use borrow.Author.Needs.{needs}
 use Rattle.word.proofs.count_high.Statement.{statement}
 use Rattle.word.proofs.count_high.Tie as tie
 
-window-requires : tie.Need-window-requires
-window-requires c κs = search needs
-
 returns : tie.Need-returns
 returns c = ones-window (c .before .args .word) (c .before .pre .0) (c .window .ensures)
 
 pub count-high-spec : {M : Type 1} → statement M
-count-high-spec = tie.close (tie.spec window-requires returns)
+count-high-spec = tie.close (tie.spec (λ c κs. search needs) returns)

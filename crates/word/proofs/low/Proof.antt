@@ -8,15 +8,6 @@ use Rattle.word.proofs.Words.{width, shifted}
 use Rattle.word.proofs.low.Statement.{statement}
 use Rattle.word.proofs.low.Tie as tie
 
-sub-result : tie.Need-sub-result
-sub-result c = search needs
-
-cast-result : tie.Need-cast-result
-cast-result c = search needs
-
-shr-result : tie.Need-shr-result
-shr-result c = search needs
-
 returns : tie.Need-returns
 returns c = ap (λ (n : ℕ). 2 ^ n - 1) (sym (c .if1 .taken))
 
@@ -24,4 +15,4 @@ returns-2 : tie.Need-returns-2
 returns-2 c = shifted width (c .before .args .n) (width - c .before .args .n) (omega arith)
 
 pub low-spec : {M : Type 1} → statement M
-low-spec = tie.close (tie.spec sub-result cast-result shr-result returns returns-2)
+low-spec = tie.close (tie.spec (λ c. search needs) (λ c. search needs) (λ c. search needs) returns returns-2)

@@ -6,18 +6,6 @@ use borrow.Author.Needs.{needs}
 use Rattle.word.proofs.window.Statement.{statement}
 use Rattle.word.proofs.window.Tie as tie
 
-mul-result : tie.Need-mul-result
-mul-result c = search needs
-
-element-copy-out-result : tie.Need-element-copy-out-result
-element-copy-out-result c = search needs
-
-mul-result-2 : tie.Need-mul-result-2
-mul-result-2 c = search needs
-
-element-copy-out-result-2 : tie.Need-element-copy-out-result-2
-element-copy-out-result-2 c = search needs
-
 sub-result : tie.Need-sub-result
 sub-result c = let o = c .before .before .pre in
     let a = c .before .before .args in
@@ -32,9 +20,9 @@ pub window-spec : {M : Type 1} → statement M
 window-spec =
     tie.close
     (tie.spec
-    mul-result
-    element-copy-out-result
-    mul-result-2
-    element-copy-out-result-2
+    (λ c. search needs)
+    (λ c. search needs)
+    (λ c. search needs)
+    (λ c. search needs)
     sub-result
     returns)

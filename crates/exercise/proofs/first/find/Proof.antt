@@ -19,15 +19,6 @@ slice-aggregate-search-3 c = sym (length-replicate {A = ℕ} 81920 0)
 slice-aggregate-search-4 : tie.Need-slice-aggregate-search-4
 slice-aggregate-search-4 c = sym (length-replicate {A = ℕ} 81920 0)
 
-search-requires : tie.Need-search-requires
-search-requires c κs = search needs
-
-same-length : tie.Need-same-length
-same-length c = search needs
-
-returns : tie.Need-returns
-returns c = search needs
-
 pub find-spec : {M : Type 1} → statement M
 find-spec =
     tie.close
@@ -36,6 +27,6 @@ find-spec =
     slice-aggregate-search-2
     slice-aggregate-search-3
     slice-aggregate-search-4
-    search-requires
-    same-length
-    returns)
+    (λ c κs. search needs)
+    (λ c. search needs)
+    (λ c. search needs))

@@ -7,27 +7,17 @@ use borrow.Author.Needs.{needs}
 use Rattle.file_line.proofs.parts.read_line.Statement.{statement}
 use Rattle.file_line.proofs.parts.read_line.Tie as tie
 
-item-at-requires : tie.Need-item-at-requires
-item-at-requires c κs = search needs
-
-enum-known-e : tie.Need-enum-known-e
-enum-known-e c = search needs
-
-steps-at-requires : tie.Need-steps-at-requires
-steps-at-requires c κs = search needs
-
-enum-told : tie.Need-enum-told
-enum-told c = search needs
-
 returns : tie.Need-returns
-returns c = let l = c .before .before .before .before .before .before .args .input .now in
-    (c .steps-at .ensures .0 ∙ line-good l _ _ (sym (ap (takenBy l) (c .before .before .e .given .1)) ∙ c .before .before .before .before .item-at .ensures), c .steps-at .ensures .1)
+returns c =
+    let e = c .before .before in let i = e .before .before in let l = i .before .before .args .input .now in
+    (c .steps-at .ensures .0 ∙ line-good l _ _ (sym (ap (takenBy l) (e .e .given .1)) ∙ i .item-at .ensures), c .steps-at .ensures .1)
 
 returns-2 : tie.Need-returns-2
-returns-2 c = let l = c .before .before .before .before .args .input .now in
-    (line-bad l (sym (ap (takenBy l) (c .enum-told .given .1)) ∙ c .before .before .item-at .ensures), tt)
+returns-2 c =
+    let i = c .before .before in let l = i .before .before .args .input .now in
+    (line-bad l (sym (ap (takenBy l) (c .enum-told .given .1)) ∙ i .item-at .ensures), tt)
 
 pub read-line-spec : {M : Type 1} → statement M
 read-line-spec =
     tie.close
-    (tie.spec item-at-requires enum-known-e steps-at-requires enum-told returns returns-2)
+    (tie.spec (λ c κs. search needs) (λ c. search needs) (λ c κs. search needs) (λ c. search needs) returns returns-2)

@@ -5,12 +5,6 @@ use borrow.Author.Needs.{needs}
 use Rattle.file_line.proofs.parts.text_at.Statement.{statement}
 use Rattle.file_line.proofs.parts.text_at.Tie as tie
 
-sub-end : tie.Need-sub-end
-sub-end c = search needs
-
-shared-slice-read-if2 : tie.Need-shared-slice-read-if2
-shared-slice-read-if2 c = search needs
-
 returns : tie.Need-returns
 returns c = (text-good _ _ _ _ (c .before .before .if1 .taken) (c .if2 .taken), search needs)
 
@@ -21,4 +15,4 @@ returns-3 : tie.Need-returns-3
 returns-3 c = (text-end _ _ _ _ (c .if1 .left), search needs)
 
 pub text-at-spec : {M : Type 1} → statement M
-text-at-spec = tie.close (tie.spec sub-end shared-slice-read-if2 returns returns-2 returns-3)
+text-at-spec = tie.close (tie.spec (λ c. search needs) (λ c. search needs) returns returns-2 returns-3)

@@ -21,33 +21,12 @@ abbrev μ-loop : tie.MeasureT-loop
 loop-holds : tie.Need-loop-holds Inv-loop μ-loop
 loop-holds c = (omega arith, refl, omega arith, begun _ _ _ _ refl (λ y. refl))
 
-slice-read-raised : tie.Need-slice-read-raised Inv-loop μ-loop
-slice-read-raised c = search needs
-
-shared-slice-read-raised : tie.Need-shared-slice-read-raised Inv-loop μ-loop
-shared-slice-read-raised c = search needs
-
-raised-requires : tie.Need-raised-requires Inv-loop μ-loop
-raised-requires c κs = search needs
-
-slice-write-recording : tie.Need-slice-write-recording Inv-loop μ-loop
-slice-write-recording c = search needs
-
-add-t : tie.Need-add-t Inv-loop μ-loop
-add-t c = search needs
-
-loop-less : tie.Need-loop-less Inv-loop μ-loop
-loop-less c = search needs
-
 loop-again : tie.Need-loop-again Inv-loop μ-loop
 loop-again c =
     let l = c .before .before .before .before .loop in
     let u = l .inv .3 in
     let old = u .beyond (l .t) (omega arith) in
     (omega arith, refl, omega arith, turn _ _ _ (l .t) (l .recording) _ u (omega arith) (c .raised .ensures ∙ ap (raisedBy _ _) old))
-
-same-length : tie.Need-same-length Inv-loop μ-loop
-same-length c = search needs
 
 returns : tie.Need-returns Inv-loop μ-loop
 returns c =
@@ -65,12 +44,12 @@ raise-spec =
     Inv-loop
     μ-loop
     loop-holds
-    slice-read-raised
-    shared-slice-read-raised
-    raised-requires
-    slice-write-recording
-    add-t
-    loop-less
+    (λ c. search needs)
+    (λ c. search needs)
+    (λ c κs. search needs)
+    (λ c. search needs)
+    (λ c. search needs)
+    (λ c. search needs)
     loop-again
-    same-length
+    (λ c. search needs)
     returns)

@@ -5,12 +5,9 @@ use Rattle.interval.specs.Limits.{askInterval}
 use Rattle.interval.proofs.Interval.ask_interval.Statement.{statement}
 use Rattle.interval.proofs.Interval.ask_interval.Tie as tie
 
-ask-within-requires : tie.Need-ask-within-requires
-ask-within-requires c κs = search needs
-
 returns : tie.Need-returns
 unfolding askInterval
 returns c = c .ask-within .ensures
 
 pub ask-interval-spec : {M : Type 1} → statement M
-ask-interval-spec = tie.close (tie.spec ask-within-requires returns)
+ask-interval-spec = tie.close (tie.spec (λ c κs. search needs) returns)

@@ -5,12 +5,9 @@ use Rattle.interval.specs.Limits.{askSteps}
 use Rattle.interval.proofs.Interval.ask_steps.Statement.{statement}
 use Rattle.interval.proofs.Interval.ask_steps.Tie as tie
 
-ask-requires : tie.Need-ask-requires
-ask-requires c κs = search needs
-
 returns : tie.Need-returns
 unfolding askSteps
 returns c = c .ask .ensures
 
 pub ask-steps-spec : {M : Type 1} → statement M
-ask-steps-spec = tie.close (tie.spec ask-requires returns)
+ask-steps-spec = tie.close (tie.spec (λ c κs. search needs) returns)

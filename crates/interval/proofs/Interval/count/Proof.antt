@@ -8,12 +8,6 @@ use Rattle.interval.proofs.Counts.{twice-count-le}
 use Rattle.interval.proofs.Interval.count.Statement.{statement}
 use Rattle.interval.proofs.Interval.count.Tie as tie
 
-add-result : tie.Need-add-result
-add-result c = search needs
-
-add-result-2 : tie.Need-add-result-2
-add-result-2 c = search needs
-
 mul-result : tie.Need-mul-result
 mul-result c = omega (arith, twice-count-le maxSteps (c .args .k) (search needs))
 
@@ -22,4 +16,4 @@ unfolding countOf
 returns c = omega (arith, twice-count-le maxSteps (c .args .k) (search needs))
 
 pub count-spec : {M : Type 1} → statement M
-count-spec = tie.close (tie.spec add-result add-result-2 mul-result returns)
+count-spec = tie.close (tie.spec (λ c. search needs) (λ c. search needs) mul-result returns)

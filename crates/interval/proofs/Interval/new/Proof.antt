@@ -6,54 +6,38 @@ use Rattle.interval.specs.Limits.{madeOf}
 use Rattle.interval.proofs.Interval.new.Statement.{statement}
 use Rattle.interval.proofs.Interval.new.Tie as tie
 
-ask-steps-requires : tie.Need-ask-steps-requires
-ask-steps-requires c κs = search needs
-
-enum-known-r : tie.Need-enum-known-r
-enum-known-r c = search needs
-
 returns : tie.Need-returns
 unfolding madeOf
 returns c = simp (sym (c .before .before .before .ask-steps .ensures) ∙ c .before .r .given .1)
 
-enum-told : tie.Need-enum-told
-enum-told c = search needs
-
-ask-interval-requires : tie.Need-ask-interval-requires
-ask-interval-requires c κs = search needs
-
-enum-known-r-2 : tie.Need-enum-known-r-2
-enum-known-r-2 c = search needs
-
 returns-2 : tie.Need-returns-2
 unfolding madeOf
 returns-2 c =
+    let a = c .before .before .before in let e = a .before in
     simp (
-      sym (c .before .before .before .before .before .before .ask-steps .ensures) ∙ c .before .before .before .before .enum-told .given .1,
-      sym (c .before .before .before .ask-interval .ensures) ∙ c .before .r2 .given .1,
+      sym (e .before .before .ask-steps .ensures) ∙ e .enum-told .given .1,
+      sym (a .ask-interval .ensures) ∙ c .before .r2 .given .1,
     )
-
-enum-told-2 : tie.Need-enum-told-2
-enum-told-2 c = search needs
 
 returns-3 : tie.Need-returns-3
 unfolding madeOf
 returns-3 c =
+    let a = c .before .before in let e = a .before in
     simp (
-      sym (c .before .before .before .before .before .ask-steps .ensures) ∙ c .before .before .before .enum-told .given .1,
-      sym (c .before .before .ask-interval .ensures) ∙ c .enum-told2 .given .1,
+      sym (e .before .before .ask-steps .ensures) ∙ e .enum-told .given .1,
+      sym (a .ask-interval .ensures) ∙ c .enum-told2 .given .1,
     )
 
 pub new-spec : {M : Type 1} → statement M
 new-spec =
     tie.close
     (tie.spec
-    ask-steps-requires
-    enum-known-r
+    (λ c κs. search needs)
+    (λ c. search needs)
     returns
-    enum-told
-    ask-interval-requires
-    enum-known-r-2
+    (λ c. search needs)
+    (λ c κs. search needs)
+    (λ c. search needs)
     returns-2
-    enum-told-2
+    (λ c. search needs)
     returns-3)

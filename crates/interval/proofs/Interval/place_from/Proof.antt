@@ -18,30 +18,19 @@ by-counts k i d a b h e =
     let p = interval-place-code k (record { i = i; j = i + d }) a b (omega arith) (h .2) e in
     (p .0, omega (arith, count-le maxSteps k (h .1)), omega (arith, p .1))
 
-sub-count : tie.Need-sub-count
-sub-count c = search needs
-
-cast-count : tie.Need-cast-count
-cast-count c = search needs
-
-count-requires : tie.Need-count-requires
-count-requires c κs = search needs
-
-cast-result : tie.Need-cast-result
-cast-result c = search needs
-
 sub-result : tie.Need-sub-result
 sub-result c = let s = c .before in by-counts (s .args .k) (s .args .i) (s .args .steps) (s .args .all) _ (s .pre) (c .count .ensures .0) .0
 
 add-result : tie.Need-add-result
-add-result c = let s = c .before in omega (arith, by-counts (s .args .k) (s .args .i) (s .args .steps) (s .args .all) _ (s .pre) (c .count .ensures .0), s .pre)
+add-result c =
+    let s = c .before in omega (arith, by-counts (s .args .k) (s .args .i) (s .args .steps) (s .args .all) _ (s .pre) (c .count .ensures .0), s .pre)
 
 returns : tie.Need-returns
 unfolding countOf
-returns c = let s = c .before in
-    let p = by-counts (s .args .k) (s .args .i) (s .args .steps) (s .args .all) _ (s .pre) (c .count .ensures .0) in
+returns c =
+    let s = c .before in let p = by-counts (s .args .k) (s .args .i) (s .args .steps) (s .args .all) _ (s .pre) (c .count .ensures .0) in
     let b = intervals-numbered (s .args .k) .below (record { i = s .args .i; j = s .args .i + s .args .steps }) (omega (arith, s .pre)) in
     (p .2, omega (arith, p .2, b, count-le maxSteps (s .args .k) (s .pre .1)))
 
 pub place-from-spec : {M : Type 1} → statement M
-place-from-spec = tie.close (tie.spec sub-count cast-count count-requires cast-result sub-result add-result returns)
+place-from-spec = tie.close (tie.spec (λ c. search needs) (λ c. search needs) (λ c κs. search needs) (λ c. search needs) sub-result add-result returns)

@@ -8,17 +8,8 @@ use Rattle.interval.proofs.Counts.{twice-count-le, six-count-le}
 use Rattle.interval.proofs.Triple.count.Statement.{statement}
 use Rattle.interval.proofs.Triple.count.Tie as tie
 
-add-result : tie.Need-add-result
-add-result c = search needs
-
-add-result-2 : tie.Need-add-result-2
-add-result-2 c = search needs
-
 mul-result : tie.Need-mul-result
 mul-result c = omega (arith, twice-count-le maxSteps (c .args .k) (search needs))
-
-add-result-3 : tie.Need-add-result-3
-add-result-3 c = search needs
 
 mul-result-2 : tie.Need-mul-result-2
 mul-result-2 c = omega (arith, six-count-le maxSteps (c .args .k) (search needs))
@@ -29,4 +20,4 @@ returns c = omega (arith, six-count-le maxSteps (c .args .k) (search needs))
 
 pub count-spec : {M : Type 1} → statement M
 count-spec =
-    tie.close (tie.spec add-result add-result-2 mul-result add-result-3 mul-result-2 returns)
+    tie.close (tie.spec (λ c. search needs) (λ c. search needs) mul-result (λ c. search needs) mul-result-2 returns)

@@ -6,9 +6,6 @@ use Rattle.node_clauses.proofs.Walk.{goes-on, small-here}
 use Rattle.node_clauses.proofs.cursor.Cursor.next.Statement.{statement}
 use Rattle.node_clauses.proofs.cursor.Cursor.next.Tie as tie
 
-add-t5 : tie.Need-add-t5
-add-t5 c = search needs
-
 next-requires : tie.Need-next-requires
 next-requires c κs = let p = c .before .pre in small-here (p .1) (p .2) (p .0)
 
@@ -16,4 +13,4 @@ returns : tie.Need-returns
 returns c = let p = c .before .before .pre in (goes-on (p .1) (p .2) (c .next .ensures), refl)
 
 pub next-spec : {M : Type 1} → statement M
-next-spec = tie.close (tie.spec add-t5 next-requires returns)
+next-spec = tie.close (tie.spec (λ c. search needs) next-requires returns)

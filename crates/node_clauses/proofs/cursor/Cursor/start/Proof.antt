@@ -7,20 +7,14 @@ use Rattle.node_clauses.proofs.Walk.{begins, light}
 use Rattle.node_clauses.proofs.cursor.Cursor.start.Statement.{statement}
 use Rattle.node_clauses.proofs.cursor.Cursor.start.Tie as tie
 
-variables-requires : tie.Need-variables-requires
-variables-requires c κs = search needs
-
 weigh-requires : tie.Need-weigh-requires
 weigh-requires c κs = light (c .before .pre) (c .variables .ensures) (omega arith) (omega arith) (omega arith)
 
 count-requires : tie.Need-count-requires
 count-requires c κs = c .before .before .pre .steps
 
-cast-t8 : tie.Need-cast-t8
-cast-t8 c = search needs
-
 returns : tie.Need-returns
-returns c = (begins (c .before .before .variables .ensures) (c .before .weigh .ensures .0) (c .before .weigh .ensures .1) (c .count .ensures .0), refl)
+returns c = let w = c .before in (begins (w .before .variables .ensures) (w .weigh .ensures .0) (w .weigh .ensures .1) (c .count .ensures .0), refl)
 
 pub start-spec : {M : Type 1} → statement M
-start-spec = tie.close (tie.spec variables-requires weigh-requires count-requires cast-t8 returns)
+start-spec = tie.close (tie.spec (λ c κs. search needs) weigh-requires count-requires (λ c. search needs) returns)

@@ -1,0 +1,3 @@
+pub mod Asking
+pub mod Passed
+pub mod Gives

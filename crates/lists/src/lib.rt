@@ -1,0 +1,1 @@
+// Lists made by counting, and what holds of every entry: no code.

@@ -1,0 +1,108 @@
+// The search in its lent arrays: what the queue goes by, the tree of tries, and the recording drawn.
+use grammar::MAX_NODES;
+use interval::Interval;
+use rows::NodeTable;
+use search_answer::Answer;
+use table_layout::Layout;
+use tries::Below;
+ghost use mathlib.Core.Path.{_≡_};
+ghost use Prim.Native.Nat.{_*_, _^_, _≤_, _<_};
+ghost use lib.ListN.{length};
+ghost use Rattle.moments.specs.Moments.{old};
+ghost use Rattle.interval.specs.Limits.{maxSteps};
+ghost use Rattle.grammar.specs.Limits.{maxNodes, maxChannels};
+ghost use Rattle.grammar.specs.Trees.{Tree};
+ghost use Rattle.grammar.specs.declared.Sort.the-variants.{Formula};
+ghost use Rattle.closure.specs.Tree.{tree};
+ghost use Rattle.nodes.specs.Rows.{nodeTableOf, TableFor};
+ghost use Rattle.table_layout.specs.Rows.{Measured};
+ghost use Rattle.decode.specs.Decode.{Tables};
+ghost use Rattle.tries.specs.Tries.{GroundOf, tableClauses};
+ghost use Rattle.search_answer.specs.Search.{treeOf, limited};
+ghost use Rattle.search_answer.specs.Left.{left};
+
+// The tree of tries of a node table, with values and trail for its variables and a byte for each instant.
+fn draw(
+    values: &mut [u8],
+    trail: &mut [u32],
+    recording: &mut [u8],
+    table: NodeTable,
+    firsts: &[u32; MAX_NODES],
+    seats: &[u32; MAX_NODES],
+    parents: &[u8; MAX_NODES],
+    intervals: &[u16],
+    starts: &[u32],
+    c: u32,
+    k: u32,
+    limit: u32,
+) -> Answer
+    requires { ⌜ GroundOf c k table firsts seats parents values × Tables k (now intervals) (now starts) ⌝ }
+    requires { ⌜ (length (now values) ≤ length (now trail)) × (length (now values) < 2 ^ 32) × (length (now recording) ≡ k) ⌝ }
+    ensures { λ r. ⌜ left r recording ≡ limited c k limit (old recording) (tree (tableClauses c k table (old firsts)) (length (old values)) (k * c)) ⌝ }
+{
+    let below = search_tree::start(
+        values,
+        trail,
+        table,
+        firsts,
+        seats,
+        parents,
+        intervals,
+        starts,
+        c,
+        k,
+        limit,
+    );
+    match below {
+        Below::Dead(n) => Answer::None(n),
+        Below::Found(n) => {
+            check_recording::put_recording(recording, values, c as usize);
+            Answer::Found(n)
+        }
+        Below::Spent => Answer::Spent(limit),
+    }
+}
+
+// The search of an accepted formula whose sizes fit the lent arrays: what the queue goes by, and the tree of tries.
+pub fn search_lent(
+    table: NodeTable,
+    layout: Layout,
+    c: u32,
+    k: u32,
+    limit: u32,
+    values: &mut [u8],
+    trail: &mut [u32],
+    recording: &mut [u8],
+) -> Answer
+    requires { ⌜ (c ≤ maxChannels) × (k ≤ maxSteps) × (table .count ≤ maxNodes) × ((f : Tree Formula) × TableFor c f table) ⌝ }
+    requires { ⌜ Measured c k (table .kinds) (table .numbers) (table .count) (layout .firsts) (layout .sizes) ⌝ }
+    requires { ⌜ (layout .sizes .variables ≤ length (now values)) × (layout .sizes .variables ≤ length (now trail)) × (k ≤ length (now recording)) ⌝ }
+    ensures { λ r. ⌜ ((f : Tree Formula) → table ≡ nodeTableOf f
+        → left r recording ≡ limited c k limit (old recording) (treeOf c k f)) ⌝ }
+{
+    let mut seats = [0; MAX_NODES];
+    table_layout::put_seats(&table.kinds, &table.numbers, &layout.firsts, k, &mut seats);
+    let mut parents = [0; MAX_NODES];
+    parents::put_parents(&table.sizes, table.count, &mut parents);
+    let steps = k as usize;
+    let mut intervals = [0; Interval::MAX_COUNT];
+    decode::put_intervals(&mut intervals, steps);
+    let mut starts = [0; Interval::MAX_ENDS];
+    decode::put_starts(&mut starts, steps);
+    let s = layout.sizes;
+    let v = s.variables as usize;
+    draw(
+        &mut values[..v],
+        &mut trail[..v],
+        &mut recording[..steps],
+        table,
+        &layout.firsts,
+        &seats,
+        &parents,
+        &intervals,
+        &starts,
+        c,
+        k,
+        limit,
+    )
+}
