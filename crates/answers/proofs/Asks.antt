@@ -7,28 +7,28 @@ use Rattle.refusal.specs.Asked.{Asks}
 use Rattle.refusal.specs.declared.Reply.{Reply}
 use Rattle.refusal.proofs.Numbers.{asks-append}
 use Rattle.interval.proofs.Gives.{interval-gives}
-use Rattle.grammar.specs.Nodes.{nodesIn}
-use Rattle.grammar.specs.Questions.{formulaQuestions}
-use Rattle.grammar.proofs.Gives.{formula-asks}
-use Rattle.nodes.specs.Calls.{askNode, nodeQuestions}
-use Rattle.nodes.proofs.Gives.{node-gives}
-use Rattle.circuit.specs.Circuit.{variablesOf}
-use Rattle.meaning.specs.Recording.{askRecording, askBytes}
-use Rattle.evaluator.specs.Evaluation.{recordingQuestions}
-use Rattle.meaning.proofs.Recording.{recording-gives, below-gives}
-use Rattle.clauses.specs.Entries.{placesIn}
-use Rattle.clause_table.specs.Table.{askRoom, tableQuestions}
+use Rattle.paper_grammar.specs.Nodes.{nodesIn}
+use Rattle.paper_grammar.specs.Questions.{formulaQuestions}
+use Rattle.paper_grammar.proofs.Gives.{formula-asks}
+use Rattle.node_calls.specs.Calls.{askNode, nodeQuestions}
+use Rattle.node_calls.proofs.Gives.{node-gives}
+use Rattle.paper_circuit.specs.Circuit.{variablesOf}
+use Rattle.paper_meaning.specs.Recording.{askRecording, askBytes}
+use Rattle.truth_calls.specs.Evaluation.{recordingQuestions}
+use Rattle.paper_meaning.proofs.Recording.{recording-gives, below-gives}
+use Rattle.paper_clauses.specs.Entries.{placesIn}
+use Rattle.table_calls.specs.Table.{askRoom, tableQuestions}
 use Rattle.table_layout.specs.declared.Sizes.{Sizes}
-use Rattle.clause_table.proofs.Gives.{room-gives}
-use Rattle.assignments.specs.Extension.{valueIn}
-use Rattle.assignments.specs.Calls.{askAssignment, askValues, askClauses, askPlaces, clausesIn, extensionQuestions, proposalQuestions}
-use Rattle.assignments.proofs.Gives.{assignment-gives, clauses-gives, places-gives}
+use Rattle.table_calls.proofs.Gives.{room-gives}
+use Rattle.paper_assignments.specs.Extension.{valueIn}
+use Rattle.paper_assignments.specs.Calls.{askAssignment, askValues, askClauses, askPlaces, clausesIn, extensionQuestions, proposalQuestions}
+use Rattle.paper_assignments.proofs.Gives.{assignment-gives, clauses-gives, places-gives}
 use Rattle.file_numbers.specs.File.{sizesAt, variablesAt, marksAt}
 use Rattle.file_questions.specs.Questions.{askFileRoom, arrayQuestions, fileQuestions}
 use Rattle.file_questions.proofs.Gives.{file-gives, arrays-gives, entries-gives, closed-gives, bytes-gives}
-use Rattle.search_answer.specs.Search.{askLent, searchQuestions}
-use Rattle.search_answer.specs.declared.Lent.{Lent}
-use Rattle.search_answer.proofs.Gives.{lent-gives}
+use Rattle.paper_search.specs.Search.{askLent, searchQuestions}
+use Rattle.paper_search.specs.declared.Lent.{Lent}
+use Rattle.paper_search.proofs.Gives.{lent-gives}
 use Rattle.answers.specs.Numbers.{formulaNumbers, nodeNumbers, evaluationNumbers, tableNumbers, searchNumbers, extensionNumbers, proposalNumbers, fileNumbers}
 
 module _ (C k : ℕ) (t : List ℕ) where

@@ -15,26 +15,26 @@ use Rattle.refusal.specs.declared.Reply.{Reply}
 use Rattle.refusal.specs.declared.Reply.the-variants.{Yes, No}
 use Rattle.refusal.proofs.Laws.{all-yes-answers}
 use Rattle.refusal.proofs.Numbers.{asked-meets}
-use Rattle.grammar.specs.Limits.{maxLength}
-use Rattle.grammar.specs.Trees.{textOf}
-use Rattle.grammar.specs.Reader.{read}
+use Rattle.paper_grammar.specs.Limits.{maxLength}
+use Rattle.paper_grammar.specs.Trees.{textOf}
+use Rattle.paper_grammar.specs.Reader.{read}
 use Rattle.lists.proofs.Tests.{both}
-use Rattle.grammar.specs.Nodes.{Node, nodesIn}
-use Rattle.grammar.specs.Questions.{formulaQuestions}
-use Rattle.formula.proofs.Laws.{accepted}
-use Rattle.nodes.specs.Calls.{nodeQuestions, nodeRefusalOf, partPlace, nodePlaceOf}
-use Rattle.nodes.specs.declared.Located.the-variants.{Refused}
-use Rattle.nodes.proofs.Laws.{both-yes, part-within}
-use Rattle.evaluator.specs.Evaluation.{recordingQuestions, readHolds, evaluated}
-use Rattle.clause_table.specs.Table.{After, askRoom, tableQuestions, tabled}
+use Rattle.paper_grammar.specs.Nodes.{Node, nodesIn}
+use Rattle.paper_grammar.specs.Questions.{formulaQuestions}
+use Rattle.formula_text.proofs.Laws.{accepted}
+use Rattle.node_calls.specs.Calls.{nodeQuestions, nodeRefusalOf, partPlace, nodePlaceOf}
+use Rattle.node_calls.specs.declared.Located.the-variants.{Refused}
+use Rattle.node_calls.proofs.Laws.{both-yes, part-within}
+use Rattle.truth_calls.specs.Evaluation.{recordingQuestions, readHolds, evaluated}
+use Rattle.table_calls.specs.Table.{After, askRoom, tableQuestions, tabled}
 use Rattle.table_layout.specs.declared.Sizes.{Sizes}
-use Rattle.assignments.specs.Calls.{extensionQuestions, Extended, extended, proposalQuestions, Proposed, proposed}
+use Rattle.paper_assignments.specs.Calls.{extensionQuestions, Extended, extended, proposalQuestions, Proposed, proposed}
 use Rattle.file_numbers.specs.File.{sizesAt}
 use Rattle.file_questions.specs.Questions.{askFileRoom, arrayQuestions, fileQuestions}
-use Rattle.clause_file.specs.Calls.{FileAfter, fileWritten, fileRead}
-use Rattle.search_answer.specs.Search.{searchQuestions, Searched, treeIn, searched}
-use Rattle.search_answer.specs.declared.Lent.{Lent}
-use Rattle.search_answer.proofs.Ends.{End, finds, lacks, spends, end}
+use Rattle.file_calls.specs.Calls.{FileAfter, fileWritten, fileRead}
+use Rattle.paper_search.specs.Search.{searchQuestions, Searched, treeIn, searched}
+use Rattle.paper_search.specs.declared.Lent.{Lent}
+use Rattle.paper_search.proofs.Ends.{End, finds, lacks, spends, end}
 use Rattle.answers.specs.Answers.{Told, packVerdict, verdictBy, packWritten, writtenBy, packChecked, checkedBy, packAnswer, answerBy, packLocated, locatedBy}
 use Rattle.answers.specs.Numbers.{nodeNumbers, evaluationNumbers, tableNumbers, searchNumbers, extensionNumbers, proposalNumbers, fileNumbers}
 use Rattle.answers.proofs.Asks.{node-asks, evaluation-asks, table-asks, search-asks, extension-asks, proposal-asks, writer-asks, reader-asks}

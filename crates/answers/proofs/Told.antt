@@ -8,12 +8,12 @@ use native.Mathlib.Omega.{arith}
 use lib.Dec.{eqb}
 use borrow.Author.Tests.{ne-eqb}
 use Rattle.refusal.specs.declared.Refusal.{Refusal}
-use Rattle.evaluator.specs.Evaluation.{verdictOf}
-use Rattle.evaluator.specs.declared.Verdict.the-variants as verdict
+use Rattle.truth_calls.specs.Evaluation.{verdictOf}
+use Rattle.truth_calls.specs.declared.Verdict.the-variants as verdict
 use Rattle.refusal.specs.declared.Written.the-variants as written
-use Rattle.assignments.specs.declared.Checked.the-variants as checked
-use Rattle.search_answer.specs.declared.Answer.the-variants as answer
-use Rattle.nodes.specs.declared.Located.the-variants as located
+use Rattle.paper_assignments.specs.declared.Checked.the-variants as checked
+use Rattle.paper_search.specs.declared.Answer.the-variants as answer
+use Rattle.node_calls.specs.declared.Located.the-variants as located
 use Rattle.answers.specs.Answers.{tuvNo, tuvYes, tuvWritten, tuvAccepted, tuvFound, tuvNone, tuvSpent, tuvNodeText, packed, halves, Told, packVerdict, verdictBy, packWritten, writtenBy, packChecked, checkedBy, packAnswer, answerBy, packLocated, locatedBy}
 
 -- a number below m, and m times another

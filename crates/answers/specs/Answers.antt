@@ -5,16 +5,16 @@ use mathlib.Core.Bool.{cond}
 use Prim.Native.Nat.{ℕ, _+_, _*_, _/_, _%_, _^_}
 use lib.Dec.{eqb}
 use Rattle.refusal.specs.declared.Refusal.{Refusal}
-use Rattle.evaluator.specs.declared.Verdict.{Verdict}
-use Rattle.evaluator.specs.declared.Verdict.the-variants as verdict
+use Rattle.truth_calls.specs.declared.Verdict.{Verdict}
+use Rattle.truth_calls.specs.declared.Verdict.the-variants as verdict
 use Rattle.refusal.specs.declared.Written.{Written}
 use Rattle.refusal.specs.declared.Written.the-variants as written
-use Rattle.assignments.specs.declared.Checked.{Checked}
-use Rattle.assignments.specs.declared.Checked.the-variants as checked
-use Rattle.search_answer.specs.declared.Answer.{Answer}
-use Rattle.search_answer.specs.declared.Answer.the-variants as answer
-use Rattle.nodes.specs.declared.Located.{Located}
-use Rattle.nodes.specs.declared.Located.the-variants as located
+use Rattle.paper_assignments.specs.declared.Checked.{Checked}
+use Rattle.paper_assignments.specs.declared.Checked.the-variants as checked
+use Rattle.paper_search.specs.declared.Answer.{Answer}
+use Rattle.paper_search.specs.declared.Answer.the-variants as answer
+use Rattle.node_calls.specs.declared.Located.{Located}
+use Rattle.node_calls.specs.declared.Located.the-variants as located
 
 -- the numbers, as include/tuvenikar.h names them (TUV_NO, ..)
 abbrev pub tuvNo : ℕ

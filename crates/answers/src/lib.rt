@@ -1,11 +1,11 @@
 // The numbers of answers for C, as include/tuvenikar.h names them, and answers packed into one number; a refusal goes by its question's
 // number, 1 to 18. That an answer's number tells the answer is in proofs/.
-use assignments::Checked;
-use evaluator::Verdict;
-use nodes::Located;
+use node_calls::Located;
+use paper_assignments::Checked;
+use paper_search::Answer;
 use refusal::Refusal;
 use refusal::Written;
-use search_answer::Answer;
+use truth_calls::Verdict;
 ghost use mathlib.Core.Path.{_≡_};
 ghost use Rattle.answers.specs.Answers.{packed, packRefusal, packVerdict, packLocated, packWritten, packChecked, packAnswer};
 

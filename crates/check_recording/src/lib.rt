@@ -5,10 +5,10 @@ ghost use lib.ListN.{length};
 ghost use Rattle.moments.specs.Moments.{old, new};
 ghost use Rattle.lists.specs.Listing.{sum};
 ghost use Rattle.interval.specs.Limits.{maxSteps};
-ghost use Rattle.grammar.specs.Limits.{maxChannels};
-ghost use Rattle.meaning.specs.Meaning.{bit};
-ghost use Rattle.circuit.specs.Circuit.{channelOf};
-ghost use Rattle.assignments.specs.Extension.{valueIn, recordingOf};
+ghost use Rattle.paper_grammar.specs.Limits.{maxChannels};
+ghost use Rattle.paper_meaning.specs.Meaning.{bit};
+ghost use Rattle.paper_circuit.specs.Circuit.{channelOf};
+ghost use Rattle.paper_assignments.specs.Extension.{valueIn, recordingOf};
 
 // The byte of instant t: bit b where channel b is high.
 fn recorded(assignment: &[u8], c: usize, t: usize) -> u8
@@ -18,7 +18,7 @@ fn recorded(assignment: &[u8], c: usize, t: usize) -> u8
     let at = t * c;
     let mut byte: u8 = 0;
     for b in 0..c {
-        byte += table::byte_of(assignment[at + b] == 1) << b;
+        byte += truth_table::byte_of(assignment[at + b] == 1) << b;
     }
     byte
 }

@@ -5,19 +5,19 @@ use mathlib.Core.Path.{_≡_, sym, _∙_}
 use mathlib.Core.List.{List}
 use Prim.Native.Nat.{ℕ}
 use Rattle.file_numbers.specs.File.{Octets}
-use Rattle.nodes.specs.Calls.{nodePlaceOf}
-use Rattle.evaluator.specs.Evaluation.{evaluated}
-use Rattle.clause_table.specs.Table.{tabled}
+use Rattle.node_calls.specs.Calls.{nodePlaceOf}
+use Rattle.truth_calls.specs.Evaluation.{evaluated}
+use Rattle.table_calls.specs.Table.{tabled}
 use Rattle.table_layout.specs.declared.Sizes.{Sizes}
-use Rattle.assignments.specs.Calls.{extended, proposed}
-use Rattle.clause_file.specs.Calls.{fileWritten, fileRead}
+use Rattle.paper_assignments.specs.Calls.{extended, proposed}
+use Rattle.file_calls.specs.Calls.{fileWritten, fileRead}
 use Rattle.file_line.specs.Output.{outputOf}
 use Rattle.demands.specs.Demand2.{Evaluates, Locates, Tables, Extends, Checks, Writes, Reads, Outputs}
 use Rattle.demands.specs.Demand3.{Search, Searches}
 use Rattle.demands.proofs.Answers.{evaluated-obeys, evaluated-only, located-obeys, located-only, tabled-obeys, tabled-only, extended-obeys, extended-only, proposed-obeys, proposed-only}
 use Rattle.demands.proofs.Files.{written-follows, written-only, read-follows, read-only, output-obeys, output-only}
 use Rattle.demands.proofs.Search.{Contract, Alike, contract-searches, searches-contract, searches-alike}
-use Rattle.search_answer.specs.Search.{Arrays}
+use Rattle.paper_search.specs.Search.{Arrays}
 
 -- a demand that one answer fulfils, and no other
 pub record Exactly {A : Type 0} (Demand : A → Type 0) (ours : A) : Type 0 where

@@ -10,30 +10,30 @@ use Rattle.refusal.specs.Asked.{question, AllYes}
 use Rattle.refusal.specs.declared.Reply.{Reply}
 use Rattle.refusal.specs.declared.Reply.the-variants.{Yes, No}
 use Rattle.refusal.proofs.Laws.{all-yes-answers}
-use Rattle.grammar.specs.Trees.{Tree}
-use Rattle.grammar.specs.Reader.{Read, onTree}
-use Rattle.grammar.specs.declared.Sort.the-variants.{Formula}
-use Rattle.grammar.specs.Nodes.{Node, nodesOf, nodesIn}
-use Rattle.formula.proofs.Standing.{text-is}
-use Rattle.formula.proofs.Laws.{nodes-read}
-use Rattle.nodes.specs.Calls.{askNode, nodeRefusalOf, partPlace, nodePlaceOf}
-use Rattle.nodes.specs.declared.Located.{Located}
-use Rattle.nodes.proofs.Laws.{chosen}
-use Rattle.circuit.specs.Circuit.{variablesOf}
-use Rattle.clauses.specs.Clauses.{clauseTable}
-use Rattle.clauses.specs.Entries.{flat, placesIn}
-use Rattle.clause_table.specs.Table.{sizesOf, sizesIn, askRoom, After, writtenTable, tabled}
+use Rattle.paper_grammar.specs.Trees.{Tree}
+use Rattle.paper_grammar.specs.Reader.{Read, onTree}
+use Rattle.paper_grammar.specs.declared.Sort.the-variants.{Formula}
+use Rattle.paper_grammar.specs.Nodes.{Node, nodesOf, nodesIn}
+use Rattle.formula_text.proofs.Standing.{text-is}
+use Rattle.formula_text.proofs.Laws.{nodes-read}
+use Rattle.node_calls.specs.Calls.{askNode, nodeRefusalOf, partPlace, nodePlaceOf}
+use Rattle.node_calls.specs.declared.Located.{Located}
+use Rattle.node_calls.proofs.Laws.{chosen}
+use Rattle.paper_circuit.specs.Circuit.{variablesOf}
+use Rattle.paper_clauses.specs.Clauses.{clauseTable}
+use Rattle.paper_clauses.specs.Entries.{flat, placesIn}
+use Rattle.table_calls.specs.Table.{sizesOf, sizesIn, askRoom, After, writtenTable, tabled}
 use Rattle.moments.specs.Moments.{over}
 use Rattle.refusal.specs.declared.Written.the-variants.{Done}
-use Rattle.meaning.specs.Recording.{askRecording, askBytes}
-use Rattle.evaluator.specs.Evaluation.{recordingQuestions, readHolds, verdictOf, evaluated}
-use Rattle.evaluator.specs.declared.Verdict.{Verdict}
-use Rattle.assignments.specs.Extension.{valueIn, extensionOf, recordingOf}
-use Rattle.assignments.specs.Calls.{askPlaces, askAssignment, askValues, askClauses, clausesIn, Extended, extended, Proposed, proposed}
-use Rattle.assignments.specs.declared.Checked.the-variants as checked
-use Rattle.assignments.proofs.Values.{extension-length}
-use Rattle.assignments.proofs.Recordings.{recording-length, recording-below, recording-channels, recording-only}
-use Rattle.assignments.proofs.Laws.{extension-bits, extension-channels, extension-meets, extension-only}
+use Rattle.paper_meaning.specs.Recording.{askRecording, askBytes}
+use Rattle.truth_calls.specs.Evaluation.{recordingQuestions, readHolds, verdictOf, evaluated}
+use Rattle.truth_calls.specs.declared.Verdict.{Verdict}
+use Rattle.paper_assignments.specs.Extension.{valueIn, extensionOf, recordingOf}
+use Rattle.paper_assignments.specs.Calls.{askPlaces, askAssignment, askValues, askClauses, clausesIn, Extended, extended, Proposed, proposed}
+use Rattle.paper_assignments.specs.declared.Checked.the-variants as checked
+use Rattle.paper_assignments.proofs.Values.{extension-length}
+use Rattle.paper_assignments.proofs.Recordings.{recording-length, recording-below, recording-channels, recording-only}
+use Rattle.paper_assignments.proofs.Laws.{extension-bits, extension-channels, extension-meets, extension-only}
 use Rattle.demands.specs.Calls.{IsText, formulaReplies}
 use Rattle.demands.specs.Demand2.{Evaluates, NodeText, Locates, Tables, ExtensionOf, Extends, RecordingOf, Checks}
 use Rattle.demands.proofs.Obeyed.{yes-both, reads-as, formula-asked, letters-in, asked-obeys, obeys-same}

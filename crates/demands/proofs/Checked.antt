@@ -14,21 +14,21 @@ use Rattle.refusal.specs.declared.Refusal.{Refusal}
 use Rattle.refusal.specs.declared.Reply.{Reply}
 use Rattle.refusal.specs.declared.Reply.the-variants.{Yes, No}
 use Rattle.refusal.proofs.Laws.{all-yes-or-first-no, test-yes}
-use Rattle.grammar.specs.Trees.{Tree, Letters}
-use Rattle.grammar.specs.declared.Sort.the-variants.{Formula}
+use Rattle.paper_grammar.specs.Trees.{Tree, Letters}
+use Rattle.paper_grammar.specs.declared.Sort.the-variants.{Formula}
 use Rattle.lists.proofs.Tests.{both}
-use Rattle.grammar.specs.Nodes.{nodesOf}
-use Rattle.grammar.specs.Questions.{atFirst}
-use Rattle.meaning.specs.Meaning.{holds}
-use Rattle.circuit.specs.Gates.{Assignment}
-use Rattle.circuit.specs.Circuit.{variablesOf, definitionsOf, rootOf}
-use Rattle.clauses.specs.Clauses.{Clause, plain, clausesBy, clauseTable, meetsClause, meetsAll}
+use Rattle.paper_grammar.specs.Nodes.{nodesOf}
+use Rattle.paper_grammar.specs.Questions.{atFirst}
+use Rattle.paper_meaning.specs.Meaning.{holds}
+use Rattle.paper_circuit.specs.Gates.{Assignment}
+use Rattle.paper_circuit.specs.Circuit.{variablesOf, definitionsOf, rootOf}
+use Rattle.paper_clauses.specs.Clauses.{Clause, plain, clausesBy, clauseTable, meetsClause, meetsAll}
 use Rattle.moments.specs.Moments.{over}
-use Rattle.meaning.specs.Recording.{notBelow, askBelow}
-use Rattle.assignments.specs.Extension.{valueIn, extensionOf, recordingOf, EachBelow, meetsLast}
-use Rattle.assignments.specs.Calls.{askAssignment, askValues, askClauses, askPlaces, Proposed, notAccepted, proposed}
-use Rattle.assignments.specs.declared.Checked.the-variants.{Accepted}
-use Rattle.assignments.proofs.Laws.{extension-last, extension-only, holds-meets, accepted-exactly}
+use Rattle.paper_meaning.specs.Recording.{notBelow, askBelow}
+use Rattle.paper_assignments.specs.Extension.{valueIn, extensionOf, recordingOf, EachBelow, meetsLast}
+use Rattle.paper_assignments.specs.Calls.{askAssignment, askValues, askClauses, askPlaces, Proposed, notAccepted, proposed}
+use Rattle.paper_assignments.specs.declared.Checked.the-variants.{Accepted}
+use Rattle.paper_assignments.proofs.Laws.{extension-last, extension-only, holds-meets, accepted-exactly}
 use Rattle.demands.specs.Calls.{IsText, formulaReplies}
 use Rattle.demands.specs.Demand2.{ExtensionOf}
 use Rattle.demands.proofs.Obeyed.{yes-both, one-yes, letters-in}

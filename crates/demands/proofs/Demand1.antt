@@ -8,26 +8,26 @@ use Prim.Native.Nat.{ℕ}
 use lib.ListN.{length}
 use Rattle.refusal.specs.declared.Refusal.{Refusal}
 use Rattle.refusal.specs.declared.Reply.the-variants.{No}
-use Rattle.grammar.specs.Nodes.{nodesIn}
-use Rattle.grammar.specs.Questions.{formulaQuestions}
-use Rattle.nodes.specs.Calls.{nodeQuestions, nodePlaceOf, nodeTextOf, nodeRefusalOf}
-use Rattle.nodes.specs.declared.Located.the-variants as located
-use Rattle.circuit.specs.Circuit.{variablesOf}
-use Rattle.clauses.specs.Entries.{placesIn}
-use Rattle.clause_table.specs.Table.{askRoom, tableQuestions, After, refused, tabled}
+use Rattle.paper_grammar.specs.Nodes.{nodesIn}
+use Rattle.paper_grammar.specs.Questions.{formulaQuestions}
+use Rattle.node_calls.specs.Calls.{nodeQuestions, nodePlaceOf, nodeTextOf, nodeRefusalOf}
+use Rattle.node_calls.specs.declared.Located.the-variants as located
+use Rattle.paper_circuit.specs.Circuit.{variablesOf}
+use Rattle.paper_clauses.specs.Entries.{placesIn}
+use Rattle.table_calls.specs.Table.{askRoom, tableQuestions, After, refused, tabled}
 use Rattle.table_layout.specs.declared.Sizes.{Sizes}
 use Rattle.refusal.specs.declared.Written.the-variants as written
 use Rattle.refusal.specs.declared.Written.the-variants as written
-use Rattle.evaluator.specs.Evaluation.{recordingQuestions, evaluated}
-use Rattle.evaluator.specs.declared.Verdict.the-variants as verdict
-use Rattle.assignments.specs.Calls.{extensionQuestions, Extended, notExtended, extended, proposalQuestions, Proposed, notAccepted, proposed}
-use Rattle.assignments.specs.declared.Checked.the-variants as checked
-use Rattle.search_answer.specs.Search.{Searched, unwritten, lentOf, searchQuestions, searched}
-use Rattle.search_answer.specs.declared.Answer.the-variants as answer
-use Rattle.search_answer.specs.declared.Lent.{Lent}
+use Rattle.truth_calls.specs.Evaluation.{recordingQuestions, evaluated}
+use Rattle.truth_calls.specs.declared.Verdict.the-variants as verdict
+use Rattle.paper_assignments.specs.Calls.{extensionQuestions, Extended, notExtended, extended, proposalQuestions, Proposed, notAccepted, proposed}
+use Rattle.paper_assignments.specs.declared.Checked.the-variants as checked
+use Rattle.paper_search.specs.Search.{Searched, unwritten, lentOf, searchQuestions, searched}
+use Rattle.paper_search.specs.declared.Answer.the-variants as answer
+use Rattle.paper_search.specs.declared.Lent.{Lent}
 use Rattle.file_numbers.specs.File.{fileLength, sizesAt}
 use Rattle.file_questions.specs.Questions.{askFileRoom, arrayQuestions, fileQuestions}
-use Rattle.clause_file.specs.Calls.{FileAfter, fileRefused, fileWritten, fileRead}
+use Rattle.file_calls.specs.Calls.{FileAfter, fileRefused, fileWritten, fileRead}
 use Rattle.answers.specs.Answers.{Told, packVerdict, verdictBy, packWritten, writtenBy, packChecked, checkedBy, packAnswer, answerBy, packLocated, locatedBy}
 use Rattle.answers.specs.Numbers.{nodeNumbers, evaluationNumbers, tableNumbers, searchNumbers, extensionNumbers, proposalNumbers, fileNumbers}
 use Rattle.answers.proofs.Calls.{evaluated-told, located-told, tabled-told, extended-told, proposed-told, searched-told, file-written-told, file-read-told}

@@ -10,29 +10,29 @@ use Rattle.refusal.specs.Asked.{question, asked, AllYes, FirstNo}
 use Rattle.refusal.specs.declared.Refusal.{Refusal}
 use Rattle.refusal.specs.declared.Reply.the-variants.{Yes, No}
 use Rattle.interval.specs.Limits.{askInterval}
-use Rattle.grammar.specs.Trees.{Tree}
-use Rattle.grammar.specs.declared.Sort.the-variants.{Formula}
-use Rattle.grammar.specs.Nodes.{nodesOf}
-use Rattle.grammar.specs.Questions.{acceptOf}
-use Rattle.nodes.specs.Calls.{nodePlaceOf}
-use Rattle.meaning.specs.Meaning.{holds}
-use Rattle.circuit.specs.Circuit.{variablesOf}
-use Rattle.clauses.specs.Clauses.{clauseTable}
-use Rattle.clauses.specs.Entries.{flat, variablesIn, marksIn, placesIn}
-use Rattle.clause_table.specs.Table.{sizesOf, sizesIn, fiveOf, askRoom, refused, written, writtenTable, tabled}
+use Rattle.paper_grammar.specs.Trees.{Tree}
+use Rattle.paper_grammar.specs.declared.Sort.the-variants.{Formula}
+use Rattle.paper_grammar.specs.Nodes.{nodesOf}
+use Rattle.paper_grammar.specs.Questions.{acceptOf}
+use Rattle.node_calls.specs.Calls.{nodePlaceOf}
+use Rattle.paper_meaning.specs.Meaning.{holds}
+use Rattle.paper_circuit.specs.Circuit.{variablesOf}
+use Rattle.paper_clauses.specs.Clauses.{clauseTable}
+use Rattle.paper_clauses.specs.Entries.{flat, variablesIn, marksIn, placesIn}
+use Rattle.table_calls.specs.Table.{sizesOf, sizesIn, fiveOf, askRoom, refused, written, writtenTable, tabled}
 use Rattle.moments.specs.Moments.{over}
 use Rattle.table_layout.specs.declared.Sizes.{Sizes}
 use Rattle.refusal.specs.declared.Written.the-variants.{Done}
-use Rattle.meaning.specs.Recording.{askRecording, askBytes}
-use Rattle.evaluator.specs.Evaluation.{verdictOf, evaluated}
-use Rattle.assignments.specs.Extension.{valueIn, extensionOf, recordingOf, EachBelow, meetsLast}
-use Rattle.assignments.specs.Calls.{askPlaces, extended, notAccepted, proposed}
-use Rattle.assignments.specs.declared.Checked.the-variants.{Accepted}
+use Rattle.paper_meaning.specs.Recording.{askRecording, askBytes}
+use Rattle.truth_calls.specs.Evaluation.{verdictOf, evaluated}
+use Rattle.paper_assignments.specs.Extension.{valueIn, extensionOf, recordingOf, EachBelow, meetsLast}
+use Rattle.paper_assignments.specs.Calls.{askPlaces, extended, notAccepted, proposed}
+use Rattle.paper_assignments.specs.declared.Checked.the-variants.{Accepted}
 use Rattle.file_numbers.specs.File.{fileOf, fileLength, sizesBy, sizesAt, variablesAt, marksAt, Words, Octets}
 use Rattle.file_questions.specs.Questions.{askFileRoom, arrayQuestions, fileQuestions}
-use Rattle.clause_file.specs.Calls.{fileRefused, fileWritten, fileRead}
-use Rattle.clause_file.proofs.Laws.{read-written, write-read}
-use Rattle.clause_file.proofs.Writable.{table-written}
+use Rattle.file_calls.specs.Calls.{fileRefused, fileWritten, fileRead}
+use Rattle.file_calls.proofs.Laws.{read-written, write-read}
+use Rattle.file_calls.proofs.Writable.{table-written}
 use Rattle.file_line.specs.Line.{lineOf}
 use Rattle.file_line.specs.Output.{askLiterals, outputOf}
 use Rattle.demands.specs.Calls.{IsText, formulaReplies}

@@ -7,15 +7,15 @@ use mathlib.Core.List.{List, _++_}
 use Prim.Native.Nat.{ℕ, _+_, _-_, _*_, _^_, _≤_}
 use native.Mathlib.Omega.{arith}
 use lib.ListN.{length}
-use Rattle.assignments.specs.Extension.{EachBelow}
+use Rattle.paper_assignments.specs.Extension.{EachBelow}
 use Rattle.refusal.specs.Asked.{AllYes, FirstNo}
 use Rattle.refusal.specs.declared.Refusal.{Refusal}
-use Rattle.grammar.specs.Trees.{Tree}
-use Rattle.grammar.specs.declared.Sort.the-variants.{Formula}
-use Rattle.search_answer.specs.Search.{Arrays, earlier, treeOf, unwritten, searched}
-use Rattle.search_answer.specs.declared.Answer.the-variants.{Refused}
-use Rattle.search_answer.proofs.Order.{order-one-way, order-either}
-use Rattle.search_answer.proofs.Outcome.{trials-bound}
+use Rattle.paper_grammar.specs.Trees.{Tree}
+use Rattle.paper_grammar.specs.declared.Sort.the-variants.{Formula}
+use Rattle.paper_search.specs.Search.{Arrays, earlier, treeOf, unwritten, searched}
+use Rattle.paper_search.specs.declared.Answer.the-variants.{Refused}
+use Rattle.paper_search.proofs.Order.{order-one-way, order-either}
+use Rattle.paper_search.proofs.Outcome.{trials-bound}
 use Rattle.demands.specs.Calls.{IsText, Ungrammatical, formulaReplies}
 use Rattle.demands.specs.Demand3.{Trials, Draws}
 use Rattle.demands.proofs.Obeyed.{otherReplies}

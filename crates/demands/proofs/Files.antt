@@ -13,22 +13,22 @@ use Rattle.refusal.specs.declared.Reply.{Reply}
 use Rattle.refusal.specs.declared.Reply.the-variants.{Yes, No}
 use Rattle.refusal.proofs.Laws.{all-yes-answers}
 use Rattle.lists.specs.Listing.{rows}
-use Rattle.grammar.specs.Reader.{Read, onTree}
-use Rattle.grammar.specs.declared.Sort.the-variants.{Formula}
+use Rattle.paper_grammar.specs.Reader.{Read, onTree}
+use Rattle.paper_grammar.specs.declared.Sort.the-variants.{Formula}
 use Rattle.lists.proofs.Lists.{all-rows}
-use Rattle.clauses.specs.Clauses.{clauseTable}
-use Rattle.clauses.specs.Entries.{flat, variablesIn, marksIn, placesIn}
-use Rattle.clause_table.specs.Table.{sizesOf, sizesIn, fiveOf, askRoom, After, refused, written}
+use Rattle.paper_clauses.specs.Clauses.{clauseTable}
+use Rattle.paper_clauses.specs.Entries.{flat, variablesIn, marksIn, placesIn}
+use Rattle.table_calls.specs.Table.{sizesOf, sizesIn, fiveOf, askRoom, After, refused, written}
 use Rattle.table_layout.specs.declared.Sizes.{Sizes}
 use Rattle.refusal.specs.declared.Written.the-variants.{Done, Refused}
 use Rattle.file_numbers.specs.File.{bytesOf, fileOf, numberAt, sizesAt, variablesAt, marksAt, Words, Octets}
 use Rattle.file_questions.specs.Questions.{askArrays, entryQuestions, fileQuestions}
 use Rattle.file_numbers.specs.Held.{Held}
-use Rattle.clause_file.specs.Calls.{FileAfter, fileWritten, fileRead}
+use Rattle.file_calls.specs.Calls.{FileAfter, fileWritten, fileRead}
 use Rattle.file_numbers.proofs.Stored.{variables-count, marks-count}
 use Rattle.file_questions.proofs.Asking.{file-held}
 use Rattle.file_numbers.proofs.Bytes.{all-bytes-back}
-use Rattle.clause_file.proofs.Laws.{read-written}
+use Rattle.file_calls.proofs.Laws.{read-written}
 use Rattle.demands.specs.Calls.{Obeys}
 use Rattle.file_line.specs.Line.{Line, line, other, lineOf, readLine}
 use Rattle.file_line.specs.Output.{askLiterals, outputFor, outputOf}

@@ -12,14 +12,14 @@ use Rattle.refusal.specs.declared.Reply.{Reply}
 use Rattle.refusal.specs.declared.Reply.the-variants.{Yes, No}
 use Rattle.refusal.proofs.Laws.{all-yes-or-first-no, all-yes-answers, first-no-answers}
 use Rattle.interval.specs.Limits.{askSteps}
-use Rattle.grammar.specs.Trees.{Tree, Letters, Place}
-use Rattle.grammar.specs.Reader.{Read, parsed, stopped, read}
-use Rattle.grammar.specs.declared.Sort.the-variants.{Formula}
-use Rattle.grammar.proofs.Printed.{reads-back}
-use Rattle.grammar.proofs.Laws.{prints-as-text, stops-at-place}
-use Rattle.grammar.specs.Nodes.{Node, nodesIn}
-use Rattle.grammar.specs.Questions.{askChannels, askLength, askGrammar, askLetters, askNumbers, askNodes, formulaQuestions, acceptOf, onRead}
-use Rattle.formula.proofs.Laws.{Accepted, accepted, nodes-read}
+use Rattle.paper_grammar.specs.Trees.{Tree, Letters, Place}
+use Rattle.paper_grammar.specs.Reader.{Read, parsed, stopped, read}
+use Rattle.paper_grammar.specs.declared.Sort.the-variants.{Formula}
+use Rattle.paper_grammar.proofs.Printed.{reads-back}
+use Rattle.paper_grammar.proofs.Laws.{prints-as-text, stops-at-place}
+use Rattle.paper_grammar.specs.Nodes.{Node, nodesIn}
+use Rattle.paper_grammar.specs.Questions.{askChannels, askLength, askGrammar, askLetters, askNumbers, askNodes, formulaQuestions, acceptOf, onRead}
+use Rattle.formula_text.proofs.Laws.{Accepted, accepted, nodes-read}
 use Rattle.demands.specs.Calls.{IsText, Ungrammatical, Follows, formulaReplies, Obeys}
 
 -- ---- questions one after another

@@ -10,11 +10,11 @@ use lib.Dec.{leb}
 use lib.ListN.{length, drop, length-append, length-drop, length-map}
 use lib.Seq.{drop-append-seam}
 use borrow.Author.Tests.{leb-true}
-use Rattle.assignments.specs.declared.Checked.the-variants as checked
+use Rattle.paper_assignments.specs.declared.Checked.the-variants as checked
 use Rattle.refusal.specs.declared.Written.the-variants as written
-use Rattle.evaluator.specs.declared.Verdict.the-variants as verdict
-use Rattle.nodes.specs.declared.Located.the-variants as located
-use Rattle.search_answer.specs.declared.Answer.the-variants as answer
+use Rattle.truth_calls.specs.declared.Verdict.the-variants as verdict
+use Rattle.node_calls.specs.declared.Located.the-variants as located
+use Rattle.paper_search.specs.declared.Answer.the-variants as answer
 use Rattle.refusal.specs.Asked.{asked, AllYes, FirstNo, here, later, Asks}
 use Rattle.refusal.specs.declared.Refusal.{Refusal}
 use Rattle.refusal.specs.declared.Reply.{Reply}
@@ -22,31 +22,31 @@ use Rattle.refusal.specs.declared.Reply.the-variants.{Yes, No}
 use Rattle.refusal.proofs.Laws.{all-yes-or-first-no, first-no-answers, all-yes-answers, test-yes}
 use Rattle.refusal.proofs.Numbers.{first-no-number}
 use Rattle.lists.proofs.Tests.{both}
-use Rattle.clause_table.specs.Table.{askRoom, sizesIn, fiveOf, tableQuestions, After, refused, tabled}
-use Rattle.clauses.specs.Entries.{placesIn, Entry, variablesIn, marksIn}
+use Rattle.table_calls.specs.Table.{askRoom, sizesIn, fiveOf, tableQuestions, After, refused, tabled}
+use Rattle.paper_clauses.specs.Entries.{placesIn, Entry, variablesIn, marksIn}
 use Rattle.moments.specs.Moments.{over}
-use Rattle.assignments.specs.Calls.{askPlaces, extensionQuestions, Extended, notExtended, extended, proposalQuestions, Proposed, notAccepted, proposed}
-use Rattle.assignments.specs.Extension.{recordingBy, valueIn, extensionOf, recordingOf}
-use Rattle.assignments.proofs.Recordings.{recording-length}
-use Rattle.closure.specs.Runs.{highIn}
-use Rattle.closure.specs.Tree.{Trial}
-use Rattle.search_answer.specs.Search.{askLent, Searched, treeIn, unwritten, lentOf, searchQuestions, searched}
-use Rattle.search_answer.specs.declared.Lent.{Lent}
-use Rattle.search_answer.proofs.Ends.{End, finds, lacks, spends, end}
-use Rattle.grammar.specs.Reader.{read}
-use Rattle.grammar.specs.Nodes.{Node, nodesIn}
-use Rattle.grammar.specs.Questions.{formulaQuestions, acceptOf}
-use Rattle.nodes.specs.Calls.{nodeQuestions, partPlace, partOf, nodePlaceOf, nodeTextOf, nodeRefusalOf}
-use Rattle.circuit.specs.Circuit.{variablesOf}
+use Rattle.paper_assignments.specs.Calls.{askPlaces, extensionQuestions, Extended, notExtended, extended, proposalQuestions, Proposed, notAccepted, proposed}
+use Rattle.paper_assignments.specs.Extension.{recordingBy, valueIn, extensionOf, recordingOf}
+use Rattle.paper_assignments.proofs.Recordings.{recording-length}
+use Rattle.paper_closure.specs.Runs.{highIn}
+use Rattle.paper_closure.specs.Tree.{Trial}
+use Rattle.paper_search.specs.Search.{askLent, Searched, treeIn, unwritten, lentOf, searchQuestions, searched}
+use Rattle.paper_search.specs.declared.Lent.{Lent}
+use Rattle.paper_search.proofs.Ends.{End, finds, lacks, spends, end}
+use Rattle.paper_grammar.specs.Reader.{read}
+use Rattle.paper_grammar.specs.Nodes.{Node, nodesIn}
+use Rattle.paper_grammar.specs.Questions.{formulaQuestions, acceptOf}
+use Rattle.node_calls.specs.Calls.{nodeQuestions, partPlace, partOf, nodePlaceOf, nodeTextOf, nodeRefusalOf}
+use Rattle.paper_circuit.specs.Circuit.{variablesOf}
 use Rattle.table_layout.specs.declared.Sizes.{Sizes}
-use Rattle.evaluator.specs.Evaluation.{recordingQuestions, readHolds, verdictOf, evaluated}
-use Rattle.assignments.proofs.Values.{extension-length}
+use Rattle.truth_calls.specs.Evaluation.{recordingQuestions, readHolds, verdictOf, evaluated}
+use Rattle.paper_assignments.proofs.Values.{extension-length}
 use Rattle.file_numbers.specs.File.{fileOf, fileLength, sizesAt, variablesAt, marksAt}
 use Rattle.file_questions.specs.Questions.{askFileRoom, arrayQuestions, fileQuestions}
-use Rattle.clause_file.specs.Calls.{FileAfter, fileRefused, fileWritten, fileRead}
+use Rattle.file_calls.specs.Calls.{FileAfter, fileRefused, fileWritten, fileRead}
 use Rattle.file_questions.proofs.Asking.{length-written, room-written, file-held}
 use Rattle.file_numbers.proofs.Stored.{variables-count, marks-count}
-use Rattle.clause_file.proofs.Writable.{five-sizes}
+use Rattle.file_calls.proofs.Writable.{five-sizes}
 use Rattle.answers.specs.Numbers.{nodeNumbers, evaluationNumbers, tableNumbers, searchNumbers, extensionNumbers, proposalNumbers, fileNumbers}
 use Rattle.answers.proofs.Asks.{node-asks, evaluation-asks, table-asks, search-asks, extension-asks, proposal-asks, writer-asks, reader-asks}
 use Rattle.demands.specs.Demand1.{Kept, Orderly}

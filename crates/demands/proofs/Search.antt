@@ -10,28 +10,28 @@ use native.Mathlib.Omega.{arith}
 use lib.ListN.{length}
 use Rattle.refusal.specs.declared.Refusal.{Refusal}
 use Rattle.refusal.specs.declared.Reply.{Reply}
-use Rattle.grammar.specs.Trees.{Tree, Letters}
-use Rattle.grammar.specs.Reader.{Read, parsed, stopped, read, onTree}
-use Rattle.grammar.specs.declared.Sort.the-variants.{Formula}
-use Rattle.grammar.specs.Nodes.{Node, nodesOf, nodesIn}
-use Rattle.formula.proofs.Laws.{nodes-read}
-use Rattle.circuit.specs.Circuit.{variablesOf}
-use Rattle.clauses.specs.Clauses.{clauseTable}
-use Rattle.clauses.specs.Entries.{flat, placesIn}
+use Rattle.paper_grammar.specs.Trees.{Tree, Letters}
+use Rattle.paper_grammar.specs.Reader.{Read, parsed, stopped, read, onTree}
+use Rattle.paper_grammar.specs.declared.Sort.the-variants.{Formula}
+use Rattle.paper_grammar.specs.Nodes.{Node, nodesOf, nodesIn}
+use Rattle.formula_text.proofs.Laws.{nodes-read}
+use Rattle.paper_circuit.specs.Circuit.{variablesOf}
+use Rattle.paper_clauses.specs.Clauses.{clauseTable}
+use Rattle.paper_clauses.specs.Entries.{flat, placesIn}
 use Rattle.moments.specs.Moments.{over}
-use Rattle.assignments.specs.Extension.{recordingBy}
-use Rattle.closure.specs.Closure.{Literals, nothing}
-use Rattle.closure.specs.Runs.{dead, Run, highIn}
-use Rattle.closure.specs.Tree.{closure, Trial, trial}
-use Rattle.closure.proofs.Closure.{closure-is, closure-one}
-use Rattle.closure.proofs.Runs.{tree-runs, tree-run}
-use Rattle.search_answer.specs.Search.{Arrays, lentOf, askLent, treeOf, treeIn, Searched, unwritten, limited, searched, Unchanged, Earliest, countIn}
-use Rattle.search_answer.specs.declared.Lent.{Lent}
-use Rattle.search_answer.specs.declared.Answer.{Answer}
-use Rattle.search_answer.specs.declared.Answer.the-variants.{Found, None, Spent, Refused}
-use Rattle.search_answer.proofs.Order.{order-one-way}
-use Rattle.search_answer.proofs.Outcome.{dead-none, found-satisfies, found-earliest}
-use Rattle.search_answer.proofs.Ends.{End, finds, lacks, spends, end, found-first, found-within, none-within, spent-beyond, count-least, only-found-writes}
+use Rattle.paper_assignments.specs.Extension.{recordingBy}
+use Rattle.paper_closure.specs.Closure.{Literals, nothing}
+use Rattle.paper_closure.specs.Runs.{dead, Run, highIn}
+use Rattle.paper_closure.specs.Tree.{closure, Trial, trial}
+use Rattle.paper_closure.proofs.Closure.{closure-is, closure-one}
+use Rattle.paper_closure.proofs.Runs.{tree-runs, tree-run}
+use Rattle.paper_search.specs.Search.{Arrays, lentOf, askLent, treeOf, treeIn, Searched, unwritten, limited, searched, Unchanged, Earliest, countIn}
+use Rattle.paper_search.specs.declared.Lent.{Lent}
+use Rattle.paper_search.specs.declared.Answer.{Answer}
+use Rattle.paper_search.specs.declared.Answer.the-variants.{Found, None, Spent, Refused}
+use Rattle.paper_search.proofs.Order.{order-one-way}
+use Rattle.paper_search.proofs.Outcome.{dead-none, found-satisfies, found-earliest}
+use Rattle.paper_search.proofs.Ends.{End, finds, lacks, spends, end, found-first, found-within, none-within, spent-beyond, count-least, only-found-writes}
 use Rattle.demands.specs.Calls.{IsText, formulaReplies, Obeys}
 use Rattle.demands.specs.Demand3.{Trials, Draws, Search, Searches}
 use Rattle.demands.proofs.Obeyed.{yes-both, reads-as, letters-in, asked-obeys, obeys-two, obeys-through}

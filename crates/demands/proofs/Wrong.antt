@@ -8,18 +8,18 @@ use Prim.Native.Nat.{ℕ}
 use native.Mathlib.Omega.{arith}
 use lib.ListN.{length, getD, replicate, length-replicate}
 use Rattle.refusal.specs.declared.Refusal.{Refusal}
-use Rattle.grammar.specs.Ascii.{ascii}
-use Rattle.grammar.specs.Nodes.{nodesIn}
-use Rattle.circuit.specs.Circuit.{variablesOf}
-use Rattle.clauses.specs.Entries.{placesIn}
-use Rattle.clause_table.specs.Table.{After}
-use Rattle.evaluator.specs.declared.Verdict.{Verdict}
-use Rattle.search_answer.specs.Search.{Arrays, Searched, searched}
-use Rattle.search_answer.specs.declared.Answer.{Answer}
-use Rattle.search_answer.specs.declared.Answer.the-variants.{Found, None, Spent, Refused}
-use Rattle.search_answer.specs.declared.Lent.{Lent}
-use Rattle.starred.specs.Edges.{most, lent, edges}
-use Rattle.starred.proofs.Edges.{edges-hold}
+use Rattle.paper_grammar.specs.Ascii.{ascii}
+use Rattle.paper_grammar.specs.Nodes.{nodesIn}
+use Rattle.paper_circuit.specs.Circuit.{variablesOf}
+use Rattle.paper_clauses.specs.Entries.{placesIn}
+use Rattle.table_calls.specs.Table.{After}
+use Rattle.truth_calls.specs.declared.Verdict.{Verdict}
+use Rattle.paper_search.specs.Search.{Arrays, Searched, searched}
+use Rattle.paper_search.specs.declared.Answer.{Answer}
+use Rattle.paper_search.specs.declared.Answer.the-variants.{Found, None, Spent, Refused}
+use Rattle.paper_search.specs.declared.Lent.{Lent}
+use Rattle.demands_starred.specs.Edges.{most, lent, edges}
+use Rattle.demands_starred.proofs.Edges.{edges-hold}
 use Rattle.demands.specs.Demand2.{Evaluates, Tables}
 use Rattle.demands.specs.Demand3.{Search, Searches}
 use Rattle.demands.proofs.Answers.{evaluated-only, tabled-only}

@@ -8,10 +8,10 @@ use Rattle.refusal.specs.declared.Refusal.{Refusal}
 use Rattle.refusal.specs.declared.Reply.{Reply}
 use Rattle.refusal.specs.declared.Reply.the-variants.{Yes, No}
 use Rattle.interval.specs.Limits.{askSteps}
-use Rattle.grammar.specs.Trees.{Tree, Letters, textOf, Place}
-use Rattle.grammar.specs.declared.Sort.the-variants.{Formula}
-use Rattle.grammar.specs.Nodes.{nodesOf}
-use Rattle.grammar.specs.Questions.{askChannels, askLength, askLetters, askNumbers, askNodes}
+use Rattle.paper_grammar.specs.Trees.{Tree, Letters, textOf, Place}
+use Rattle.paper_grammar.specs.declared.Sort.the-variants.{Formula}
+use Rattle.paper_grammar.specs.Nodes.{nodesOf}
+use Rattle.paper_grammar.specs.Questions.{askChannels, askLength, askLetters, askNumbers, askNodes}
 
 -- the text is this formula's: it "reads by the grammar, channels a to h, length, n and nodes unbounded"
 abbrev pub IsText : List ℕ → Tree Formula → Type 0

@@ -8,29 +8,29 @@ use lib.Dec.{leb}
 use lib.ListN.{length, take, drop}
 use Rattle.refusal.specs.Asked.{question, AllYes}
 use Rattle.interval.specs.Limits.{askInterval}
-use Rattle.grammar.specs.Trees.{Tree, textOf}
-use Rattle.grammar.specs.declared.Sort.the-variants.{Formula}
-use Rattle.grammar.specs.Nodes.{Node, nodesOf}
-use Rattle.nodes.specs.declared.Located.{Located}
-use Rattle.nodes.specs.declared.Located.the-variants as located
-use Rattle.meaning.specs.Meaning.{channelAt, holds}
-use Rattle.circuit.specs.Circuit.{channelOf, variablesOf}
-use Rattle.clauses.specs.Clauses.{clauseTable}
-use Rattle.clauses.specs.Entries.{flat, variablesIn, marksIn}
-use Rattle.clause_table.specs.Table.{sizesOf, fiveOf, askRoom, After, refused, written}
+use Rattle.paper_grammar.specs.Trees.{Tree, textOf}
+use Rattle.paper_grammar.specs.declared.Sort.the-variants.{Formula}
+use Rattle.paper_grammar.specs.Nodes.{Node, nodesOf}
+use Rattle.node_calls.specs.declared.Located.{Located}
+use Rattle.node_calls.specs.declared.Located.the-variants as located
+use Rattle.paper_meaning.specs.Meaning.{channelAt, holds}
+use Rattle.paper_circuit.specs.Circuit.{channelOf, variablesOf}
+use Rattle.paper_clauses.specs.Clauses.{clauseTable}
+use Rattle.paper_clauses.specs.Entries.{flat, variablesIn, marksIn}
+use Rattle.table_calls.specs.Table.{sizesOf, fiveOf, askRoom, After, refused, written}
 use Rattle.moments.specs.Moments.{over}
 use Rattle.table_layout.specs.declared.Sizes.{Sizes}
 use Rattle.refusal.specs.declared.Written.the-variants.{Done}
-use Rattle.meaning.specs.Recording.{askRecording, askBytes}
-use Rattle.evaluator.specs.Evaluation.{verdictOf}
-use Rattle.evaluator.specs.declared.Verdict.{Verdict}
-use Rattle.evaluator.specs.declared.Verdict.the-variants as verdict
-use Rattle.assignments.specs.Extension.{valueIn, EachBelow, MeetsButLast}
-use Rattle.assignments.specs.Calls.{askAssignment, askValues, askClauses, askPlaces, Extended, notExtended, Proposed, notAccepted}
-use Rattle.assignments.specs.declared.Checked.the-variants as checked
+use Rattle.paper_meaning.specs.Recording.{askRecording, askBytes}
+use Rattle.truth_calls.specs.Evaluation.{verdictOf}
+use Rattle.truth_calls.specs.declared.Verdict.{Verdict}
+use Rattle.truth_calls.specs.declared.Verdict.the-variants as verdict
+use Rattle.paper_assignments.specs.Extension.{valueIn, EachBelow, MeetsButLast}
+use Rattle.paper_assignments.specs.Calls.{askAssignment, askValues, askClauses, askPlaces, Extended, notExtended, Proposed, notAccepted}
+use Rattle.paper_assignments.specs.declared.Checked.the-variants as checked
 use Rattle.file_numbers.specs.File.{fileOf, sizesAt, Words}
 use Rattle.file_questions.specs.Questions.{askFileRoom, arrayQuestions, fileQuestions}
-use Rattle.clause_file.specs.Calls.{FileAfter, fileRefused}
+use Rattle.file_calls.specs.Calls.{FileAfter, fileRefused}
 use Rattle.file_line.specs.Line.{lineOf}
 use Rattle.file_line.specs.Output.{askLiterals}
 use Rattle.demands.specs.Calls.{Follows, Obeys}

@@ -4,18 +4,18 @@ use mathlib.Core.Logic.{_↔_, _≢_}
 use mathlib.Core.List.{List, [], _∷_}
 use Prim.Native.Nat.{ℕ, _*_, _≤_, _<_, min}
 use lib.ListN.{length}
-use Rattle.grammar.specs.Trees.{Tree}
-use Rattle.grammar.specs.declared.Sort.the-variants.{Formula}
-use Rattle.grammar.specs.Nodes.{nodesOf}
-use Rattle.circuit.specs.Circuit.{variablesOf}
-use Rattle.clauses.specs.Clauses.{clauseTable}
-use Rattle.clauses.specs.Entries.{flat}
+use Rattle.paper_grammar.specs.Trees.{Tree}
+use Rattle.paper_grammar.specs.declared.Sort.the-variants.{Formula}
+use Rattle.paper_grammar.specs.Nodes.{nodesOf}
+use Rattle.paper_circuit.specs.Circuit.{variablesOf}
+use Rattle.paper_clauses.specs.Clauses.{clauseTable}
+use Rattle.paper_clauses.specs.Entries.{flat}
 use Rattle.moments.specs.Moments.{over}
-use Rattle.closure.specs.Closure.{Literals, nothing, ClosureOf}
-use Rattle.closure.specs.Runs.{Outcome, Run}
-use Rattle.search_answer.specs.Search.{Arrays, lentOf, askLent, Satisfies, Earliest, countIn}
-use Rattle.search_answer.specs.declared.Answer.{Answer}
-use Rattle.search_answer.specs.declared.Answer.the-variants.{Found, None, Spent, Refused}
+use Rattle.paper_closure.specs.Closure.{Literals, nothing, ClosureOf}
+use Rattle.paper_closure.specs.Runs.{Outcome, Run}
+use Rattle.paper_search.specs.Search.{Arrays, lentOf, askLent, Satisfies, Earliest, countIn}
+use Rattle.paper_search.specs.declared.Answer.{Answer}
+use Rattle.paper_search.specs.declared.Answer.the-variants.{Found, None, Spent, Refused}
 use Rattle.demands.specs.Calls.{Obeys}
 
 -- N, "the number of tries until found, or until the whole tree is dead": "start from the closure of nothing"

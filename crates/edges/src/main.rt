@@ -2,8 +2,8 @@
 // questions 1 to 7 with the node count, and node x: the refusal's number and place, or its own text. Then lines of the file program:
 // how many bytes it writes, and whether the rest of its array is as it was. Then searches, in arrays of 255 before.
 use file_line::FILE_BYTES;
+use paper_search::Answer;
 use refusal::Reply;
-use search_answer::Answer;
 
 fn put(bytes: &[u8]) {
     io::write_all(1, bytes);
@@ -26,9 +26,9 @@ fn put_reply(r: Reply) {
 
 // Questions 1 to 7, and the count of the node table.
 fn put_accepted(text: &[u8], c: u32, k: u32) {
-    let answer = formula::accept(text, c, k);
+    let answer = formula_text::accept(text, c, k);
     put_reply(answer);
-    let tabled = nodes::node_table(text, c, k);
+    let tabled = node_calls::node_table(text, c, k);
     let table = tabled.table;
     put(b" | ");
     io::print_decimal(1, table.count as u64);
@@ -38,10 +38,10 @@ fn put_accepted(text: &[u8], c: u32, k: u32) {
 fn put_node(text: &[u8], c: u32, k: u32, x: u32) {
     put_number(b" nodes | node ", x);
     put(b": ");
-    let refusal = nodes::node_refusal(text, c, k, x);
+    let refusal = node_calls::node_refusal(text, c, k, x);
     put_reply(refusal);
     put(b" `");
-    put(nodes::node_text(text, c, k, x));
+    put(node_calls::node_text(text, c, k, x));
     put(b"`\n");
 }
 
@@ -234,7 +234,7 @@ fn sought(text: &[u8], c: u32, k: u32, limit: u32) {
     let mut values = [255; 256];
     let mut trail = [4294967295; 256];
     let mut recording = [255; 4];
-    let answer = search::search(
+    let answer = search_calls::search(
         text,
         c,
         k,

@@ -85,7 +85,7 @@ pub fn put_table(text: &[u8], c: u32, k: u32) {
     let mut sizes = [0u32; 5];
     let mut variables = [0u32; MAX_LITERALS];
     let mut marks = [0u8; MAX_LITERALS];
-    let written = clause_table::table(text, c, k, &mut sizes, &mut variables, &mut marks);
+    let written = table_calls::table(text, c, k, &mut sizes, &mut variables, &mut marks);
     match written {
         Written::Done => put_written(sizes, &variables, &marks),
         Written::Refused(r) => words::put_refusal(text, c, r),

@@ -1,6 +1,6 @@
 // A line of glyphs for a row of bytes: the recording, a line a channel, and the formula with its mark.
 use crate::print;
-use grammar::MAX_CHANNELS;
+use paper_grammar::MAX_CHANNELS;
 
 // What a line shows of each byte.
 pub enum Show {

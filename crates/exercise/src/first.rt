@@ -4,8 +4,8 @@ use crate::print::put;
 use crate::print::put_number;
 use crate::words;
 use interval::Interval;
+use paper_search::Answer;
 use refusal::Refusal;
-use search_answer::Answer;
 
 // Room for a clause table of so many literals, and for so many variables: a formula whose table has no more literals has no more of these.
 const LITERALS: usize = 524288;
@@ -70,7 +70,7 @@ fn find(text: &[u8], c: u32, k: u32, limit: u32, recording: &mut [u8]) -> Answer
     let mut marks = [0u8; LITERALS];
     let mut values = [0u8; VARIABLES];
     let mut trail = [0u32; VARIABLES];
-    search::search(
+    search_calls::search(
         text,
         c,
         k,
@@ -88,7 +88,7 @@ pub fn put_first(text: &[u8], c: u32, k: u32, limit: u32) {
     let mut recording = [0u8; Interval::MAX_STEPS];
     let answer = find(text, c, k, limit, &mut recording);
     match answer {
-        Answer::Found(n) => put_found(text, c, input_line::first(&recording, k as usize), n),
+        Answer::Found(n) => put_found(text, c, exercise_lines::first(&recording, k as usize), n),
         Answer::None(n) => put_none(text, k, n),
         Answer::Spent(n) => put_spent(n),
         Answer::Refused(r) => put_refusal(text, c, r),

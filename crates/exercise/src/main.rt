@@ -8,15 +8,15 @@ mod first;
 mod print;
 mod words;
 
-use arguments::Fault;
-use arguments::search::Sought;
-use arguments::task::Task;
-use evaluator::Verdict;
-use grammar::MAX_CHANNELS;
-use input_line::number::Number;
+use exercise_arguments::Fault;
+use exercise_arguments::search::Sought;
+use exercise_arguments::task::Task;
+use exercise_lines::number::Number;
 use interval::Interval;
 use libc::STDIN_FILENO;
+use paper_grammar::MAX_CHANNELS;
 use refusal::Reply;
+use truth_calls::Verdict;
 
 // So many bytes are read at most, and no good exercise has as many.
 const INPUT: usize = 1024;
@@ -32,11 +32,11 @@ fn exercise(input: &[u8]) {
     if input.len() == INPUT {
         return words::put_fault(Fault::Long);
     }
-    let rest = input_line::after_line(input);
+    let rest = exercise_lines::after_line(input);
     if rest.len() == 0 {
         return words::put_fault(Fault::Few);
     }
-    let count = input_line::number::decimal(input_line::line(input));
+    let count = exercise_lines::number::decimal(exercise_lines::line(input));
     match count {
         Number::Of(c) => answer(rest, c),
         Number::Zero => words::put_fault(Fault::Zero),
@@ -50,16 +50,20 @@ fn answer(lines: &[u8], c: u32) {
     if let Reply::No(r) = refusal::ask_within(1, c as usize, 1, MAX_CHANNELS) {
         return words::put_refusal(lines, c, r);
     }
-    if input_line::is_search(lines) {
+    if exercise_lines::is_search(lines) {
         return search_for(lines, c);
     }
-    work_on(input_line::line(lines), c, input_line::after_line(lines));
+    work_on(
+        exercise_lines::line(lines),
+        c,
+        exercise_lines::after_line(lines),
+    );
 }
 
 // The steps, the formula, and perhaps a limit.
 fn search_for(lines: &[u8], c: u32) {
-    let text = input_line::line(input_line::after_line(lines));
-    let sought = arguments::search::take_search(lines);
+    let text = exercise_lines::line(exercise_lines::after_line(lines));
+    let sought = exercise_arguments::search::take_search(lines);
     match sought {
         Sought::First { steps, limit } => first::put_first(text, c, steps, limit),
         Sought::Wrong(fault) => words::put_fault(fault),
@@ -69,13 +73,13 @@ fn search_for(lines: &[u8], c: u32) {
 // The lines after the formula.
 fn work_on(text: &[u8], c: u32, lines: &[u8]) {
     let mut recording = [0u8; Interval::MAX_STEPS];
-    let task = arguments::task::take_task(&mut recording, lines, c);
+    let task = exercise_arguments::task::take_task(&mut recording, lines, c);
     match task {
         Task::Judge(steps) => put_verdict(
             text,
             c,
             narrow(steps),
-            input_line::first(&recording, steps),
+            exercise_lines::first(&recording, steps),
         ),
         Task::File(k) => clauses::put_table(text, c, k),
         Task::Wrong(fault) => words::put_fault(fault),
@@ -88,7 +92,7 @@ fn narrow(n: usize) -> u32 {
 }
 
 fn put_verdict(text: &[u8], c: u32, k: u32, recording: &[u8]) {
-    let verdict = evaluator::evaluate(text, c, k, 0, k, recording);
+    let verdict = truth_calls::evaluate(text, c, k, 0, k, recording);
     match verdict {
         Verdict::Yes => put_answer(text, c, recording, b"yes: this recording satisfies "),
         Verdict::No => put_answer(text, c, recording, b"no: this recording does not satisfy "),

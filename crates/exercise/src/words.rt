@@ -4,13 +4,13 @@ use crate::drawing::Show;
 use crate::print::put;
 use crate::print::put_byte;
 use crate::print::put_number;
-use arguments::Fault;
+use exercise_arguments::Fault;
 use file_line::MAX_LITERALS;
-use grammar::MAX_CHANNELS;
-use grammar::MAX_LENGTH;
-use grammar::MAX_NODES;
-use grammar::MAX_NUMBER;
 use interval::Interval;
+use paper_grammar::MAX_CHANNELS;
+use paper_grammar::MAX_LENGTH;
+use paper_grammar::MAX_NODES;
+use paper_grammar::MAX_NUMBER;
 use refusal::Refusal;
 
 fn put_limit(what: &[u8], limit: usize) {
@@ -80,7 +80,7 @@ fn put_wrong_search(fault: Fault) {
         Fault::Tries => put(b"tries= is followed by the most tries to make, as in tries=1000"),
         Fault::Many => put_limit(
             b"the most that tries= can allow is ",
-            input_line::number::MAX_TRIES as usize,
+            exercise_lines::number::MAX_TRIES as usize,
         ),
         _ => put(b"after steps and formula only tries= can follow, as in tries=1000"),
     }
@@ -119,7 +119,7 @@ FORMULA   without blanks, in single quotes:\n\
 \x20           T  F                true, false\n\
 \x20         P and Q are formulas; S is a letter, T, F, !S, (S&S) or (S|S)\n\
 LIMIT     how many tries may be made for the first recording: ",
-        arguments::search::TRIES as usize,
+        exercise_arguments::search::TRIES as usize,
     );
     put_limit(
         b" if it is not given\n\
@@ -144,7 +144,7 @@ pub fn put_fault(fault: Fault) {
 fn put_marked(text: &[u8], place: usize) {
     drawing::put_glyphs(Show::Text, text);
     put(b"\n");
-    drawing::put_glyphs(Show::Blank, input_line::first(text, place));
+    drawing::put_glyphs(Show::Blank, exercise_lines::first(text, place));
     put(b"^\n");
 }
 
@@ -156,7 +156,7 @@ fn put_unread(text: &[u8], place: usize) {
     if place == 0 {
         return put(b"a formula cannot begin like this");
     }
-    if rows::byte_at(text, place) == b' ' {
+    if node_rows::byte_at(text, place) == b' ' {
         return put(b"a formula has no blanks");
     }
     put(b"the formula cannot go on like this");
@@ -173,7 +173,7 @@ fn put_why(text: &[u8], c: u32, number: u32, place: usize) {
             MAX_LENGTH,
         ),
         4 => put_unread(text, place),
-        5 => put_outside(rows::byte_at(text, place), c),
+        5 => put_outside(node_rows::byte_at(text, place), c),
         6 => put_limit(b"the number after >= is at most ", MAX_NUMBER),
         7 => put_limit(b"one part too many begins here: the most is ", MAX_NODES),
         18 => put_limit(

@@ -14,19 +14,19 @@ use Rattle.refusal.specs.declared.Refusal.{Refusal}
 use Rattle.refusal.specs.declared.Reply.{Reply}
 use Rattle.refusal.specs.declared.Reply.the-variants.{Yes, No}
 use Rattle.refusal.proofs.Laws.{replied-yes, replied-no, test-yes}
-use Rattle.grammar.specs.Questions.{formulaQuestions, acceptOf}
-use Rattle.formula.proofs.Asked.{asked-one}
-use Rattle.clauses.specs.Entries.{Entry, variablesIn, marksIn, placesIn}
-use Rattle.clause_table.specs.Table.{After, sizesIn, askRoom, refused, writtenTable, tabled}
+use Rattle.paper_grammar.specs.Questions.{formulaQuestions, acceptOf}
+use Rattle.formula_text.proofs.Asked.{asked-one}
+use Rattle.paper_clauses.specs.Entries.{Entry, variablesIn, marksIn, placesIn}
+use Rattle.table_calls.specs.Table.{After, sizesIn, askRoom, refused, writtenTable, tabled}
 use Rattle.moments.specs.Moments.{over}
 use Rattle.refusal.specs.declared.Written.the-variants.{Done, Refused}
 use Rattle.file_numbers.specs.File.{sizesBy, fileLength}
-use Rattle.clause_file.specs.Calls.{FileAfter, fileWritten}
+use Rattle.file_calls.specs.Calls.{FileAfter, fileWritten}
 use Rattle.file_numbers.proofs.Stored.{length-file}
 use Rattle.file_line.specs.Line.{line}
 use Rattle.file_line.specs.Output.{maxLiterals, maxFile, askLiterals, fileIn, programQuestions, outputFor}
 use Rattle.file_line.specs.Parts.{filePut}
-use Rattle.clause_file.proofs.Writable.{five-sizes, table-written}
+use Rattle.file_calls.proofs.Writable.{five-sizes, table-written}
 
 -- the program's arrays, as they are lent
 abbrev five : List ℕ

@@ -7,11 +7,11 @@ use Prim.Native.Nat.{ℕ, zero, suc, _+_, _*_, _-_, _<_}
 use native.Mathlib.Omega.{arith}
 use lib.Dec.{eqb}
 use borrow.Author.Tests.{eqb-true, eqb-false, ne-eqb}
-use Rattle.grammar.specs.Trees.{decimal}
-use Rattle.grammar.specs.Reader.{isDigit}
+use Rattle.paper_grammar.specs.Trees.{decimal}
+use Rattle.paper_grammar.specs.Reader.{isDigit}
 use Rattle.lists.proofs.Tests.{cond-elim, ranged}
-use Rattle.grammar.proofs.Bytes.{digit-is}
-use Rattle.grammar.proofs.Decimal.{decimal-digit, decimal-more, by-digits}
+use Rattle.paper_grammar.proofs.Bytes.{digit-is}
+use Rattle.paper_grammar.proofs.Decimal.{decimal-digit, decimal-more, by-digits}
 use Rattle.file_line.specs.Line.{Taken, taken, none, digits, number, blank}
 
 -- ---- a decimal is read

@@ -9,7 +9,7 @@ use lib.Dec.{eqb}
 use lib.ListN.{length, getD, take, length-append, drop-of-length-le}
 use lib.Seq.{take-at, getD-at, split-at}
 use borrow.Author.Tests.{eqb-true}
-use Rattle.grammar.specs.Trees.{decimal}
+use Rattle.paper_grammar.specs.Trees.{decimal}
 use Rattle.lists.proofs.Tests.{cond-elim}
 use Rattle.file_line.specs.Line.{lineOf, Line, line, Taken, taken, none, number, blank, textLast, stepsNext, channelsFirst, readLine}
 use Rattle.file_line.proofs.Items.{item-reads, item-is}

@@ -12,14 +12,14 @@ use Rattle.refusal.specs.declared.Reply.{Reply}
 use Rattle.refusal.specs.declared.Reply.the-variants.{Yes, No}
 use Rattle.refusal.proofs.Laws.{asked-append, replied-no}
 use Rattle.interval.specs.Limits.{maxSteps}
-use Rattle.grammar.specs.Limits.{maxLength, maxNumber, maxChannels}
-use Rattle.grammar.specs.Trees.{decimal}
-use Rattle.grammar.proofs.Decimal.{decimal-digit, decimal-more, by-digits}
-use Rattle.scan.specs.Scans.{capped}
-use Rattle.scan.proofs.Loops.{limited-in, limited-out}
-use Rattle.grammar.specs.Questions.{formulaQuestions, acceptOf}
-use Rattle.formula.proofs.Laws.{accepted}
-use Rattle.clauses.specs.Entries.{placesIn}
+use Rattle.paper_grammar.specs.Limits.{maxLength, maxNumber, maxChannels}
+use Rattle.paper_grammar.specs.Trees.{decimal}
+use Rattle.paper_grammar.proofs.Decimal.{decimal-digit, decimal-more, by-digits}
+use Rattle.formula_scan.specs.Scans.{capped}
+use Rattle.formula_scan.proofs.Loops.{limited-in, limited-out}
+use Rattle.paper_grammar.specs.Questions.{formulaQuestions, acceptOf}
+use Rattle.formula_text.proofs.Laws.{accepted}
+use Rattle.paper_clauses.specs.Entries.{placesIn}
 use Rattle.file_line.specs.Line.{lineOf, Line, line, other, readLine}
 use Rattle.file_line.specs.Output.{askLiterals, fileIn, outputFor, outputOf, maxInput}
 use Rattle.file_line.specs.Parts.{lineBy, cappedLine}

@@ -10,13 +10,13 @@ use lib.Dec.{eqb}
 use lib.ListN.{length, getD, take, drop, length-drop, drop-of-length-le}
 use lib.Seq.{drop-drop, getD-drop}
 use borrow.Author.Tests.{eq-eqb, ne-eqb}
-use Rattle.grammar.specs.Reader.{isDigit}
-use Rattle.grammar.proofs.Written.{drop-byte}
-use Rattle.reader.specs.Parts.{testAt, isSign, digitCount, numberAt, onGood}
-use Rattle.reader.specs.declared.Got.{Got}
-use Rattle.reader.specs.declared.Got.the-variants.{Good, Bad}
-use Rattle.scan.specs.Scans.{capped, numberFrom}
-use Rattle.formula.proofs.Standing.{read-number}
+use Rattle.paper_grammar.specs.Reader.{isDigit}
+use Rattle.paper_grammar.proofs.Written.{drop-byte}
+use Rattle.formula_reader.specs.Parts.{testAt, isSign, digitCount, numberAt, onGood}
+use Rattle.formula_reader.specs.declared.Got.{Got}
+use Rattle.formula_reader.specs.declared.Got.the-variants.{Good, Bad}
+use Rattle.formula_scan.specs.Scans.{capped, numberFrom}
+use Rattle.formula_text.proofs.Standing.{read-number}
 use Rattle.file_line.specs.Line.{line, other, Taken, taken, none, digits, number, blank, textLast, stepsNext, channelsFirst, readLine}
 use Rattle.file_line.specs.Parts.{cappedTaken, cappedLine}
 use Rattle.file_line.proofs.Items.{item-is}

@@ -5,8 +5,8 @@ use mathlib.Core.List.{List, [], _∷_, _++_}
 use Prim.Native.Nat.{ℕ, _+_, _*_, _-_}
 use lib.Dec.{eqb}
 use lib.ListN.{length, getD, take}
-use Rattle.grammar.specs.Trees.{decimal}
-use Rattle.grammar.specs.Reader.{isDigit}
+use Rattle.paper_grammar.specs.Trees.{decimal}
+use Rattle.paper_grammar.specs.Reader.{isDigit}
 
 -- C, a blank, k, a blank, the text, a line feed
 unfoldable pub lineOf : ℕ → ℕ → List ℕ → List ℕ

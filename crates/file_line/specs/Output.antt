@@ -5,9 +5,9 @@ use lib.Dec.{leb}
 use lib.ListN.{length}
 use Rattle.refusal.specs.Asked.{question, asked}
 use Rattle.refusal.specs.declared.Reply.{Reply}
-use Rattle.grammar.specs.Questions.{formulaQuestions}
-use Rattle.clauses.specs.Entries.{variablesIn, marksIn, placesIn}
-use Rattle.clause_table.specs.Table.{sizesIn}
+use Rattle.paper_grammar.specs.Questions.{formulaQuestions}
+use Rattle.paper_clauses.specs.Entries.{variablesIn, marksIn, placesIn}
+use Rattle.table_calls.specs.Table.{sizesIn}
 use Rattle.file_numbers.specs.File.{fileOf, fileLength}
 use Rattle.file_line.specs.Line.{Line, line, other, readLine}
 

@@ -3,9 +3,9 @@
 use mathlib.Core.List.{List}
 use Prim.Native.Nat.{ℕ, _-_, _≤_}
 use lib.ListN.{length, getD, take, drop}
-use Rattle.scan.specs.Scans.{capped}
+use Rattle.formula_scan.specs.Scans.{capped}
 use Rattle.file_numbers.specs.File.{sizesBy}
-use Rattle.clause_file.specs.Calls.{FileAfter, fileWritten}
+use Rattle.file_calls.specs.Calls.{FileAfter, fileWritten}
 use Rattle.file_line.specs.Line.{Line, line, other, Taken, taken, none}
 use Rattle.file_line.specs.declared.parts.Item.{Item}
 use Rattle.file_line.specs.declared.parts.Item.the-variants.{Of as OfItem, None as NoItem}

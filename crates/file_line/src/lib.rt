@@ -42,7 +42,7 @@ fn put_file(five: [u32; 5], variables: &[u32], marks: &[u8], file: &mut [u8]) ->
         clauses: five[3],
         literals: five[4],
     };
-    clause_file::write(s, &variables[..n], &marks[..n], file);
+    file_calls::write(s, &variables[..n], &marks[..n], file);
     file_numbers::file_length(five[4])
 }
 
@@ -53,7 +53,7 @@ fn file_of_text(text: &[u8], c: u32, k: u32, file: &mut [u8; FILE_BYTES]) -> usi
     let mut five = [0u32; 5];
     let mut variables = [0u32; MAX_LITERALS];
     let mut marks = [0u8; MAX_LITERALS];
-    let w = clause_table::table(text, c, k, &mut five, &mut variables, &mut marks);
+    let w = table_calls::table(text, c, k, &mut five, &mut variables, &mut marks);
     match w {
         Written::Done => put_file(five, &variables, &marks, file),
         Written::Refused(_) => 0,

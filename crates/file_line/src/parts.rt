@@ -1,5 +1,5 @@
 // The parts of a line: C, k and where the text stands.
-use reader::Got;
+use formula_reader::Got;
 ghost use mathlib.Core.Path.{_≡_};
 ghost use lib.ListN.{drop};
 ghost use Rattle.moments.specs.Moments.{old};
@@ -27,10 +27,14 @@ pub enum Parts {
 fn item_at(input: &[u8], at: usize) -> Item
     ensures { λ r. ⌜ takenBy (old input) r ≡ cappedTaken (blank (number (drop at (old input)))) ⌝ }
 {
-    let g = reader::signed_by(input, b' ', reader::numbered_by(input, Got::Good(at)));
+    let g = formula_reader::signed_by(
+        input,
+        b' ',
+        formula_reader::numbered_by(input, Got::Good(at)),
+    );
     match g {
         Got::Good(next) => Item::Of {
-            value: scan::number_at(input, at) as u32,
+            value: formula_scan::number_at(input, at) as u32,
             next,
         },
         Got::Bad(_) => Item::None,

@@ -38,7 +38,7 @@ fn put_number(file: &mut [u8], at: usize, n: u32)
         byte_of(n, 65536),
         byte_of(n, 16777216),
     ];
-    literals::put_bytes(file, at, &bytes);
+    table_literals::put_bytes(file, at, &bytes);
 }
 
 // Stores numbers one after another; the place after them.

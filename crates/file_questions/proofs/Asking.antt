@@ -13,7 +13,7 @@ use Rattle.refusal.specs.declared.Reply.{Reply}
 use Rattle.refusal.specs.declared.Reply.the-variants.{Yes, No}
 use Rattle.lists.proofs.Tests.{both}
 use Rattle.refusal.proofs.Laws.{test-yes}
-use Rattle.clause_table.specs.Table.{fiveOf}
+use Rattle.table_calls.specs.Table.{fiveOf}
 use Rattle.table_layout.specs.declared.Sizes.{Sizes}
 use Rattle.file_numbers.specs.File.{fileOf, fileLength, sizesAt, variablesAt, marksAt}
 use Rattle.file_numbers.specs.Held.{Held}

@@ -10,7 +10,7 @@ use native.Mathlib.Omega.{arith}
 use lib.ListN.{length, getD}
 use mir.Val.{boolByte}
 use Rattle.lists.proofs.Listing.{below-suc}
-use Rattle.meaning.specs.Meaning.{bit, every, highs}
+use Rattle.paper_meaning.specs.Meaning.{bit, every, highs}
 use Rattle.file_questions.specs.Questions.{allPass, howMany}
 
 and-false : (b : Bool) → (b && false) ≡ false

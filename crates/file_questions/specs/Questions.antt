@@ -7,8 +7,8 @@ use lib.ListN.{length, getD}
 use Rattle.refusal.specs.Asked.{question, asked}
 use Rattle.refusal.specs.declared.Reply.{Reply}
 use Rattle.interval.specs.Limits.{askSteps}
-use Rattle.grammar.specs.Questions.{askChannels}
-use Rattle.meaning.specs.Meaning.{every, highs}
+use Rattle.paper_grammar.specs.Questions.{askChannels}
+use Rattle.paper_meaning.specs.Meaning.{every, highs}
 use Rattle.table_layout.specs.declared.Sizes.{Sizes}
 use Rattle.file_numbers.specs.File.{fileLength, sizesAt, variablesAt, marksAt}
 

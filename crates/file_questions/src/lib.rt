@@ -15,7 +15,7 @@ ghost use Rattle.file_questions.specs.Fit.{OfVariables};
 fn in_limits(s: Sizes) -> bool
     ensures { λ r. ⌜ r ≡ inLimits s ⌝ }
 {
-    if let Reply::No(_) = formula::ask_channels(s.channels) {
+    if let Reply::No(_) = formula_text::ask_channels(s.channels) {
         return false;
     }
     if let Reply::No(_) = Interval::ask_steps(s.steps as usize) {

@@ -1,9 +1,9 @@
 // Document 01's grammar: what each byte of a text can be.
-use grammar::Joint;
-use grammar::Lead;
-use grammar::Sort;
+use paper_grammar::Joint;
+use paper_grammar::Lead;
+use paper_grammar::Sort;
 ghost use mathlib.Core.Path.{_≡_};
-ghost use Rattle.grammar.specs.Reader.{leadOf, ownLead, jointOf, ownJoint, isDigit, isLetter, isJoint, begins, isStart};
+ghost use Rattle.paper_grammar.specs.Reader.{leadOf, ownLead, jointOf, ownJoint, isDigit, isLetter, isJoint, begins, isStart};
 
 pub fn is_digit(b: u8) -> bool
     ensures { λ r. ⌜ r ≡ isDigit b ⌝ }

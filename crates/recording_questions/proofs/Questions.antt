@@ -13,8 +13,8 @@ use lib.Pow.{shl-exact}
 use lib.Seq.{drop-cons}
 use borrow.Author.Tests.{lt-ltb, le-ltb}
 use Rattle.refusal.specs.declared.Reply.the-variants.{Yes, No}
-use Rattle.grammar.specs.Questions.{atFirst}
-use Rattle.meaning.specs.Recording.{notBelow, askBelow}
+use Rattle.paper_grammar.specs.Questions.{atFirst}
+use Rattle.paper_meaning.specs.Recording.{notBelow, askBelow}
 
 -- 2^C as the code shifts it
 pub shifted : (w c : ℕ) → 1 + c ≤ w → 1 * 2 ^ c % 2 ^ w ≡ 2 ^ c

@@ -6,8 +6,8 @@ ghost use Prim.Native.Nat.{_^_, _≤_, _<_};
 ghost use lib.ListN.{length};
 ghost use Rattle.moments.specs.Moments.{old};
 ghost use Rattle.interval.specs.Limits.{maxSteps};
-ghost use Rattle.grammar.specs.Limits.{maxChannels};
-ghost use Rattle.meaning.specs.Recording.{askRecording, askBelow, askBytes};
+ghost use Rattle.paper_grammar.specs.Limits.{maxChannels};
+ghost use Rattle.paper_meaning.specs.Recording.{askRecording, askBelow, askBytes};
 
 // Question 10.
 pub fn ask_recording(k: u32, recording: &[u8]) -> Reply
@@ -22,7 +22,7 @@ pub fn ask_below(number: u32, most: usize, bytes: &[u8]) -> Reply
     ensures { λ r. ⌜ r ≡ askBelow number most (old bytes) ⌝ }
 {
     for t in 0..bytes.len() {
-        if scan::wide(bytes[t]) >= most {
+        if formula_scan::wide(bytes[t]) >= most {
             let place = t as u32;
             return Reply::No(Refusal { number, place });
         }

@@ -7,32 +7,32 @@ use native.Mathlib.Omega.{arith}
 use lib.ListN.{length, getD, take, drop, length-map, take-append-drop}
 use lib.Seq.{length-take-le}
 use Rattle.interval.specs.Limits.{maxSteps}
-use Rattle.grammar.specs.Limits.{maxNodes, maxChannels}
-use Rattle.grammar.specs.Trees.{Tree, Letters}
-use Rattle.grammar.specs.declared.Sort.the-variants.{Formula}
-use Rattle.grammar.specs.Nodes.{nodesOf, node}
-use Rattle.grammar.proofs.EachNode.{first-node, begins-whole}
-use Rattle.rows.specs.Table.{rowOf, tableOf}
-use Rattle.rows.specs.declared.NodeTable.{NodeTable}
-use Rattle.nodes.proofs.Standing.{nodes-count, stands}
-use Rattle.clauses.specs.Clauses.{Clause}
+use Rattle.paper_grammar.specs.Limits.{maxNodes, maxChannels}
+use Rattle.paper_grammar.specs.Trees.{Tree, Letters}
+use Rattle.paper_grammar.specs.declared.Sort.the-variants.{Formula}
+use Rattle.paper_grammar.specs.Nodes.{nodesOf, node}
+use Rattle.paper_grammar.proofs.EachNode.{first-node, begins-whole}
+use Rattle.node_rows.specs.Table.{rowOf, tableOf}
+use Rattle.node_rows.specs.declared.NodeTable.{NodeTable}
+use Rattle.node_calls.proofs.Standing.{nodes-count, stands}
+use Rattle.paper_clauses.specs.Clauses.{Clause}
 use Rattle.moments.specs.Moments.{over}
 use Rattle.table_layout.specs.declared.Sizes.{Sizes}
 use Rattle.table_layout.proofs.Known.{variables-known}
-use Rattle.nodes.specs.Rows.{nodeTableOf}
+use Rattle.node_calls.specs.Rows.{nodeTableOf}
 use Rattle.table_layout.specs.Rows.{Seated, Measured}
-use Rattle.assignments.specs.Extension.{recordingBy}
-use Rattle.assignments.proofs.Recordings.{recording-length}
-use Rattle.closure.specs.Runs.{dead, found, highIn}
-use Rattle.closure.specs.Tree.{Trial, trial, tree}
-use Rattle.decode.specs.Decode.{Tables}
-use Rattle.sweeps.specs.Sweeps.{tableBy}
-use Rattle.fanout.specs.Fanout.{Nearest, Ground}
-use Rattle.fanout.proofs.Formula.{ground-of, table-known}
-use Rattle.search_answer.specs.Search.{treeOf, Searched, unwritten, limited}
-use Rattle.search_answer.specs.declared.Answer.{Answer}
-use Rattle.search_answer.specs.declared.Answer.the-variants.{Found, None, Spent}
-use Rattle.search_answer.proofs.Ends.{End, finds, lacks, spends, ended-by}
+use Rattle.paper_assignments.specs.Extension.{recordingBy}
+use Rattle.paper_assignments.proofs.Recordings.{recording-length}
+use Rattle.paper_closure.specs.Runs.{dead, found, highIn}
+use Rattle.paper_closure.specs.Tree.{Trial, trial, tree}
+use Rattle.search_decode.specs.Decode.{Tables}
+use Rattle.search_sweeps.specs.Sweeps.{tableBy}
+use Rattle.search_fanout.specs.Fanout.{Nearest, Ground}
+use Rattle.search_fanout.proofs.Formula.{ground-of, table-known}
+use Rattle.paper_search.specs.Search.{treeOf, Searched, unwritten, limited}
+use Rattle.paper_search.specs.declared.Answer.{Answer}
+use Rattle.paper_search.specs.declared.Answer.the-variants.{Found, None, Spent}
+use Rattle.paper_search.proofs.Ends.{End, finds, lacks, spends, ended-by}
 use Rattle.search_draw.proofs.Drawn.{over-whole, within, beyond}
 
 -- ---- the recording's first k bytes

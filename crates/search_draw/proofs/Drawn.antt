@@ -7,19 +7,19 @@ use native.Mathlib.Omega.{arith}
 use lib.Dec.{eqb}
 use lib.ListN.{length, getD, drop-of-length-le}
 use borrow.Author.Tests.{le-leb, lt-leb}
-use Rattle.circuit.specs.Circuit.{channelOf}
-use Rattle.clauses.specs.Clauses.{Clause, plain}
+use Rattle.paper_circuit.specs.Circuit.{channelOf}
+use Rattle.paper_clauses.specs.Clauses.{Clause, plain}
 use Rattle.moments.specs.Moments.{over}
-use Rattle.assignments.specs.Extension.{valueIn, recordingBy, recordingOf}
-use Rattle.assignments.proofs.Recordings.{recording-length, recording-below, recording-channels, recording-only}
-use Rattle.closure.specs.Runs.{dead, found, highIn}
-use Rattle.closure.specs.Tree.{Trial, trial, tree}
-use Rattle.closing.specs.Values.{heldIn}
-use Rattle.tries.specs.Tries.{Result, Started}
-use Rattle.tries.specs.declared.Below.{Below}
-use Rattle.tries.specs.declared.Below.the-variants.{Dead, Found, Spent}
-use Rattle.search_answer.specs.Search.{unwritten, ended, limited}
-use Rattle.search_answer.specs.declared.Answer.the-variants as answer
+use Rattle.paper_assignments.specs.Extension.{valueIn, recordingBy, recordingOf}
+use Rattle.paper_assignments.proofs.Recordings.{recording-length, recording-below, recording-channels, recording-only}
+use Rattle.paper_closure.specs.Runs.{dead, found, highIn}
+use Rattle.paper_closure.specs.Tree.{Trial, trial, tree}
+use Rattle.search_closing.specs.Values.{heldIn}
+use Rattle.search_tries.specs.Tries.{Result, Started}
+use Rattle.search_tries.specs.declared.Below.{Below}
+use Rattle.search_tries.specs.declared.Below.the-variants.{Dead, Found, Spent}
+use Rattle.paper_search.specs.Search.{unwritten, ended, limited}
+use Rattle.paper_search.specs.declared.Answer.the-variants as answer
 
 -- ---- the values found
 

@@ -1,25 +1,25 @@
 // The search in its lent arrays: what the queue goes by, the tree of tries, and the recording drawn.
-use grammar::MAX_NODES;
 use interval::Interval;
-use rows::NodeTable;
-use search_answer::Answer;
+use node_rows::NodeTable;
+use paper_grammar::MAX_NODES;
+use paper_search::Answer;
+use search_tries::Below;
 use table_layout::Layout;
-use tries::Below;
 ghost use mathlib.Core.Path.{_≡_};
 ghost use Prim.Native.Nat.{_*_, _^_, _≤_, _<_};
 ghost use lib.ListN.{length};
 ghost use Rattle.moments.specs.Moments.{old};
 ghost use Rattle.interval.specs.Limits.{maxSteps};
-ghost use Rattle.grammar.specs.Limits.{maxNodes, maxChannels};
-ghost use Rattle.grammar.specs.Trees.{Tree};
-ghost use Rattle.grammar.specs.declared.Sort.the-variants.{Formula};
-ghost use Rattle.closure.specs.Tree.{tree};
-ghost use Rattle.nodes.specs.Rows.{nodeTableOf, TableFor};
+ghost use Rattle.paper_grammar.specs.Limits.{maxNodes, maxChannels};
+ghost use Rattle.paper_grammar.specs.Trees.{Tree};
+ghost use Rattle.paper_grammar.specs.declared.Sort.the-variants.{Formula};
+ghost use Rattle.paper_closure.specs.Tree.{tree};
+ghost use Rattle.node_calls.specs.Rows.{nodeTableOf, TableFor};
 ghost use Rattle.table_layout.specs.Rows.{Measured};
-ghost use Rattle.decode.specs.Decode.{Tables};
-ghost use Rattle.tries.specs.Tries.{GroundOf, tableClauses};
-ghost use Rattle.search_answer.specs.Search.{treeOf, limited};
-ghost use Rattle.search_answer.specs.Left.{left};
+ghost use Rattle.search_decode.specs.Decode.{Tables};
+ghost use Rattle.search_tries.specs.Tries.{GroundOf, tableClauses};
+ghost use Rattle.paper_search.specs.Search.{treeOf, limited};
+ghost use Rattle.paper_search.specs.Left.{left};
 
 // The tree of tries of a node table, with values and trail for its variables and a byte for each instant.
 fn draw(
@@ -83,12 +83,12 @@ pub fn search_lent(
     let mut seats = [0; MAX_NODES];
     table_layout::put_seats(&table.kinds, &table.numbers, &layout.firsts, k, &mut seats);
     let mut parents = [0; MAX_NODES];
-    parents::put_parents(&table.sizes, table.count, &mut parents);
+    search_parents::put_parents(&table.sizes, table.count, &mut parents);
     let steps = k as usize;
     let mut intervals = [0; Interval::MAX_COUNT];
-    decode::put_intervals(&mut intervals, steps);
+    search_decode::put_intervals(&mut intervals, steps);
     let mut starts = [0; Interval::MAX_ENDS];
-    decode::put_starts(&mut starts, steps);
+    search_decode::put_starts(&mut starts, steps);
     let s = layout.sizes;
     let v = s.variables as usize;
     draw(

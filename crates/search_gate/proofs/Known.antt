@@ -6,14 +6,14 @@ use mathlib.Core.Bool.{Bool, true, false}
 use mathlib.Core.List.{List}
 use Prim.Native.Nat.{ℕ, _<_}
 use native.Mathlib.Omega.{arith}
-use Rattle.circuit.specs.declared.Gate.{Gate}
-use Rattle.circuit.specs.declared.Gate.the-variants.{Constant}
-use Rattle.clauses.specs.Clauses.{Clause, clausesOf}
-use Rattle.closing.specs.declared.Closed.{Closed as Ended}
-use Rattle.patterns.specs.Patterns.{among, renamed, patternOf}
-use Rattle.patterns.proofs.Steps.{patterns}
-use Rattle.visits.specs.Visits.{Visited}
-use Rattle.visits.proofs.Parts.{visited-named}
+use Rattle.paper_circuit.specs.declared.Gate.{Gate}
+use Rattle.paper_circuit.specs.declared.Gate.the-variants.{Constant}
+use Rattle.paper_clauses.specs.Clauses.{Clause, clausesOf}
+use Rattle.search_closing.specs.declared.Closed.{Closed as Ended}
+use Rattle.search_patterns.specs.Patterns.{among, renamed, patternOf}
+use Rattle.search_patterns.proofs.Steps.{patterns}
+use Rattle.search_visits.specs.Visits.{Visited}
+use Rattle.search_visits.proofs.Parts.{visited-named}
 
 -- a gate that is known to be g
 pub visited-known : (v : ℕ) {gate g : Gate} {P : List Clause} {v₀ t₀ values trail : List ℕ} {top₀ : ℕ} {r : Ended} → gate ≡ g → P ≡ clausesOf v g

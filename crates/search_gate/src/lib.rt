@@ -1,22 +1,26 @@
 // The gate that defines a variable visited, whatever gate it is: each but one is a pattern over its variables.
-use circuit::Gate;
-use closing::Closed;
+use paper_circuit::Gate;
+use search_closing::Closed;
 ghost use mathlib.Core.Path.{_≡_};
 ghost use mathlib.Core.Bool.{true, false};
 ghost use mathlib.Core.Logic.{_⊎_};
 ghost use lib.ListN.{length};
-ghost use Rattle.clauses.specs.Clauses.{clausesOf};
-ghost use Rattle.closing.specs.Values.{Trailing};
-ghost use Rattle.gates.specs.Within.{Within};
-ghost use Rattle.gates.specs.Mentioned.{Variable, InputsIn};
-ghost use Rattle.patterns.specs.Patterns.{lowPattern, highPattern};
-ghost use Rattle.visits.specs.Visits.{Visits};
+ghost use Rattle.paper_clauses.specs.Clauses.{clausesOf};
+ghost use Rattle.search_closing.specs.Values.{Trailing};
+ghost use Rattle.table_gates.specs.Within.{Within};
+ghost use Rattle.table_gates.specs.Mentioned.{Variable, InputsIn};
+ghost use Rattle.search_patterns.specs.Patterns.{lowPattern, highPattern};
+ghost use Rattle.search_visits.specs.Visits.{Visits};
 
 // The pattern of a constant.
 pub fn constant(up: bool) -> usize
     ensures { λ r. ⌜ ((r ≡ highPattern) × (up ≡ true)) ⊎ ((r ≡ lowPattern) × (up ≡ false)) ⌝ }
 {
-    if up { patterns::HIGH } else { patterns::LOW }
+    if up {
+        search_patterns::HIGH
+    } else {
+        search_patterns::LOW
+    }
 }
 
 // The gate that defines v.
@@ -25,12 +29,48 @@ pub fn visit(values: &mut [u8], trail: &mut [u32], top: usize, v: u32, gate: Gat
     ensures { λ r. ⌜ Visits (clausesOf v gate) values trail top r ⌝ }
 {
     match gate {
-        Gate::Constant(up) => patterns::settle_by(values, trail, top, constant(up), v, v, v, v),
-        Gate::Copy(u) => patterns::settle_by(values, trail, top, patterns::COPY, v, u, v, v),
-        Gate::Inverse(x) => patterns::settle_by(values, trail, top, patterns::INVERSE, v, x, v, v),
-        Gate::Both(x, y) => patterns::settle_both(values, trail, top, v, x, y),
-        Gate::Either(x, y) => patterns::settle_by(values, trail, top, patterns::EITHER, v, x, y, v),
-        Gate::AnyOf(w, n) => visits::visit_any(values, trail, top, v, w, n),
-        Gate::Step(p, q, s) => patterns::settle_step(values, trail, top, v, p, q, s),
+        Gate::Constant(up) => search_patterns::settle_by(
+            values,
+            trail,
+            top,
+            constant(up),
+            v,
+            v,
+            v,
+            v,
+        ),
+        Gate::Copy(u) => search_patterns::settle_by(
+            values,
+            trail,
+            top,
+            search_patterns::COPY,
+            v,
+            u,
+            v,
+            v,
+        ),
+        Gate::Inverse(x) => search_patterns::settle_by(
+            values,
+            trail,
+            top,
+            search_patterns::INVERSE,
+            v,
+            x,
+            v,
+            v,
+        ),
+        Gate::Both(x, y) => search_patterns::settle_both(values, trail, top, v, x, y),
+        Gate::Either(x, y) => search_patterns::settle_by(
+            values,
+            trail,
+            top,
+            search_patterns::EITHER,
+            v,
+            x,
+            y,
+            v,
+        ),
+        Gate::AnyOf(w, n) => search_visits::visit_any(values, trail, top, v, w, n),
+        Gate::Step(p, q, s) => search_patterns::settle_step(values, trail, top, v, p, q, s),
     }
 }

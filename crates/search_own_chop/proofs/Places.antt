@@ -15,26 +15,26 @@ use Rattle.interval.specs.declared.Triple.{Triple}
 use Rattle.interval.proofs.Shape.{Inside, place, place-lt, getD-per}
 use Rattle.interval.proofs.Counts.{half}
 use Rattle.interval.proofs.Laws.{triples-numbered, triples-in-a-row, counts-at-32}
-use Rattle.circuit.specs.Circuit.{define}
-use Rattle.circuit.specs.declared.Gate.the-variants.{Constant, AnyOf}
-use Rattle.blocks.specs.Blocks.{shapeOf, gateBy, gateOf, definedBy, Placed, Before}
-use Rattle.blocks.specs.declared.Block.{Block}
-use Rattle.blocks.specs.declared.Rule.the-variants.{Chop, Cut}
-use Rattle.weights.proofs.Weights.{block-length}
-use Rattle.node_clauses.specs.Walk.{definitionIn}
-use Rattle.node_clauses.specs.Nodes.{intervalBlock, tripleBlock}
-use Rattle.node_clauses.proofs.Nodes.{halves}
-use Rattle.gates.specs.Mentioned.{Variable, Mentioned, AllMentioned}
-use Rattle.decode.specs.Decode.{InPlace, TripleIn, tripleStart}
-use Rattle.decode.proofs.Decode.{starts-are}
-use Rattle.closing.specs.Values.{Trailing}
-use Rattle.visits.specs.Visits.{Visited, Row, raisedBy, longBy}
-use Rattle.visits.proofs.Parts.{visited-named, visited-stop, visited-then}
-use Rattle.sweeps.specs.Sweeps.{clausesAt}
-use Rattle.closing.specs.declared.Closed.{Closed}
-use Rattle.fanout.specs.Fanout.{Node, tripleClauses}
-use Rattle.fanout.proofs.Fine.{cut-place, chop-place}
-use Rattle.fanout.proofs.Stands.{intervals-stand}
+use Rattle.paper_circuit.specs.Circuit.{define}
+use Rattle.paper_circuit.specs.declared.Gate.the-variants.{Constant, AnyOf}
+use Rattle.table_blocks.specs.Blocks.{shapeOf, gateBy, gateOf, definedBy, Placed, Before}
+use Rattle.table_blocks.specs.declared.Block.{Block}
+use Rattle.table_blocks.specs.declared.Rule.the-variants.{Chop, Cut}
+use Rattle.table_sizes.proofs.Weights.{block-length}
+use Rattle.table_nodes.specs.Walk.{definitionIn}
+use Rattle.table_nodes.specs.Nodes.{intervalBlock, tripleBlock}
+use Rattle.table_nodes.proofs.Nodes.{halves}
+use Rattle.table_gates.specs.Mentioned.{Variable, Mentioned, AllMentioned}
+use Rattle.search_decode.specs.Decode.{InPlace, TripleIn, tripleStart}
+use Rattle.search_decode.proofs.Decode.{starts-are}
+use Rattle.search_closing.specs.Values.{Trailing}
+use Rattle.search_visits.specs.Visits.{Visited, Row, raisedBy, longBy}
+use Rattle.search_visits.proofs.Parts.{visited-named, visited-stop, visited-then}
+use Rattle.search_sweeps.specs.Sweeps.{clausesAt}
+use Rattle.search_closing.specs.declared.Closed.{Closed}
+use Rattle.search_fanout.specs.Fanout.{Node, tripleClauses}
+use Rattle.search_fanout.proofs.Fine.{cut-place, chop-place}
+use Rattle.search_fanout.proofs.Stands.{intervals-stand}
 
 module _ (points k x : ℕ) where
   pub interval-placed : (v : Interval) → InPlace k x v → Placed points k Chop x 0 (v .i) (v .j - v .i)

@@ -1,14 +1,14 @@
 // The gates of a chop's block that mention one of its own variables: of an interval's its own gate alone, of a triple's its own and of its
 // interval's two clauses.
-use blocks::Block;
-use blocks::Position;
-use closing::Closed;
+use search_closing::Closed;
+use table_blocks::Block;
+use table_blocks::Position;
 ghost use mathlib.Core.Path.{_≡_};
 ghost use Prim.Native.Nat.{_+_, _<_};
 ghost use Rattle.interval.specs.Places.{countOf, tripleCountOf};
-ghost use Rattle.blocks.specs.declared.Rule.the-variants.{Chop};
-ghost use Rattle.decode.specs.Decode.{Tables};
-ghost use Rattle.fanout.specs.Fanout.{Reaches, nodeClauses, Node};
+ghost use Rattle.table_blocks.specs.declared.Rule.the-variants.{Chop};
+ghost use Rattle.search_decode.specs.Decode.{Tables};
+ghost use Rattle.search_fanout.specs.Fanout.{Reaches, nodeClauses, Node};
 
 // A chop's own variable on the interval in place x.
 fn reach_interval(
@@ -27,7 +27,7 @@ fn reach_interval(
         × (block .rule ≡ Chop) × Tables k (now intervals) (now starts) × (x < countOf k) ⌝ }
     ensures { λ r. ⌜ Reaches (nodeClauses c k block) (block .first + x) values trail top r ⌝ }
 {
-    let v = decode::interval_at(intervals, k as usize, x as usize);
+    let v = search_decode::interval_at(intervals, k as usize, x as usize);
     let i = v.i;
     let d = v.j as u32 - i as u32;
     let p = Position {
@@ -36,8 +36,8 @@ fn reach_interval(
         cell: d,
         before: starts[i] + d * (d + 1) / 2,
     };
-    let whole = node_clauses::intervals_of(node_clauses::beyond(block.first, k), block);
-    walks::visit_at(values, trail, top, c, k, all, whole, x, p)
+    let whole = table_nodes::intervals_of(table_nodes::beyond(block.first, k), block);
+    search_walks::visit_at(values, trail, top, c, k, all, whole, x, p)
 }
 
 // A chop's variable of the triple in place x: its own gate, and of its interval's the two clauses that name it.
@@ -57,18 +57,18 @@ fn reach_triple(
         × (block .rule ≡ Chop) × Tables k (now intervals) (now starts) × (x < tripleCountOf k) ⌝ }
     ensures { λ r. ⌜ Reaches (nodeClauses c k block) (block .first + countOf k + x) values trail top r ⌝ }
 {
-    let t = decode::triple_at(intervals, starts, k as usize, x);
+    let t = search_decode::triple_at(intervals, starts, k as usize, x);
     let i = t.i as u32;
     let d = t.j as u32 - i;
     let e = t.m as u32 - i;
-    let w = node_clauses::beyond(block.first, k);
-    let triples = node_clauses::triples_of(w, block);
-    let r = walks::visit_cut(values, trail, top, c, k, all, triples, x, i, d, e);
+    let w = table_nodes::beyond(block.first, k);
+    let triples = table_nodes::triples_of(w, block);
+    let r = search_walks::visit_cut(values, trail, top, c, k, all, triples, x, i, d, e);
     if r.clash {
         return r;
     }
-    let v = block.first + blocks::place(i, d, k, all);
-    visits::visit_one(values, trail, r.top, v, w + x - e, e, d + 1)
+    let v = block.first + table_blocks::place(i, d, k, all);
+    search_visits::visit_one(values, trail, r.top, v, w + x - e, e, d + 1)
 }
 
 // A chop's own variable in place x.

@@ -14,17 +14,17 @@ use Rattle.lists.specs.Listing.{rows}
 use Rattle.interval.specs.Places.{countOf, placeOf}
 use Rattle.interval.proofs.Shape.{Inside}
 use Rattle.lists.proofs.Listing.{rows-rest}
-use Rattle.blocks.specs.Blocks.{shapeOf, definedBy, Placed}
-use Rattle.blocks.specs.declared.Block.{Block}
-use Rattle.blocks.specs.declared.Position.{Position}
-use Rattle.blocks.specs.declared.Rule.{Rule}
-use Rattle.blocks.specs.declared.Rule.the-variants.{Duration}
-use Rattle.clauses.specs.Clauses.{Clause}
-use Rattle.sweeps.specs.Sweeps.{clausesAt}
-use Rattle.blocks.proofs.Positions.{by-rule}
-use Rattle.fanout.specs.Walks.{afterCount, afterPlace, afterClauses}
-use Rattle.fanout.proofs.Fine.{level-place}
-use Rattle.fanout.specs.Fanout.{Levels}
+use Rattle.table_blocks.specs.Blocks.{shapeOf, definedBy, Placed}
+use Rattle.table_blocks.specs.declared.Block.{Block}
+use Rattle.table_blocks.specs.declared.Position.{Position}
+use Rattle.table_blocks.specs.declared.Rule.{Rule}
+use Rattle.table_blocks.specs.declared.Rule.the-variants.{Duration}
+use Rattle.paper_clauses.specs.Clauses.{Clause}
+use Rattle.search_sweeps.specs.Sweeps.{clausesAt}
+use Rattle.table_blocks.proofs.Positions.{by-rule}
+use Rattle.search_fanout.specs.Walks.{afterCount, afterPlace, afterClauses}
+use Rattle.search_fanout.proofs.Fine.{level-place}
+use Rattle.search_fanout.specs.Fanout.{Levels}
 
 longer-next : (k i d : ℕ) → placeOf k (record { i = i; j = i + (d + 1) }) ≡ placeOf k (record { i = i; j = i + d }) + 1
 unfolding placeOf

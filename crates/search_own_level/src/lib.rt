@@ -1,14 +1,14 @@
 // The gates of a duration's or `[S]`'s block that mention one of its own variables, visited: in the places that document 01's definitions
 // give.
-use blocks::Block;
-use blocks::Position;
-use closing::Closed;
+use search_closing::Closed;
+use table_blocks::Block;
+use table_blocks::Position;
 ghost use mathlib.Core.Path.{_≡_};
 ghost use Rattle.interval.specs.Places.{countOf};
-ghost use Rattle.blocks.specs.Blocks.{Placed};
-ghost use Rattle.visits.specs.Visits.{Visits};
-ghost use Rattle.fanout.specs.Fanout.{Levels};
-ghost use Rattle.fanout.specs.Walks.{Standing, afterClauses};
+ghost use Rattle.table_blocks.specs.Blocks.{Placed};
+ghost use Rattle.search_visits.specs.Visits.{Visits};
+ghost use Rattle.search_fanout.specs.Fanout.{Levels};
+ghost use Rattle.search_fanout.specs.Walks.{Standing, afterClauses};
 
 // A duration's or `[S]`'s own variable in place x, at position p: its gate, that of the interval a step longer, and that of the level above.
 // Answers are handed on field by field: whole, the compiler copies them more slowly.
@@ -31,7 +31,7 @@ pub fn visit_after(
     let a = p.row;
     let i = p.line;
     let d = p.cell;
-    let r = levels::visit_level(values, trail, top, c, k, all, block, x, a, i, d);
+    let r = search_levels::visit_level(values, trail, top, c, k, all, block, x, a, i, d);
     if r.clash {
         return Closed {
             clash: r.clash,
@@ -46,7 +46,7 @@ pub fn visit_after(
     }
     let next = x + 1;
     let further = d + 1;
-    let s = levels::visit_level(values, trail, r.top, c, k, all, block, next, a, i, further);
+    let s = search_levels::visit_level(values, trail, r.top, c, k, all, block, next, a, i, further);
     if s.clash {
         return Closed {
             clash: s.clash,
@@ -59,7 +59,7 @@ pub fn visit_after(
             top: s.top,
         };
     }
-    let t = levels::visit_level(
+    let t = search_levels::visit_level(
         values,
         trail,
         s.top,

@@ -6,16 +6,16 @@ use mathlib.Core.Bool.{false}
 use mathlib.Core.List.{List}
 use Prim.Native.Nat.{ℕ, _+_}
 use Rattle.interval.specs.Places.{countOf}
-use Rattle.circuit.proofs.Blocks.{From}
-use Rattle.blocks.specs.declared.Block.{Block}
-use Rattle.blocks.specs.declared.Rule.the-variants.{Chop, Cut}
-use Rattle.clauses.specs.Clauses.{Clause}
-use Rattle.node_clauses.specs.Nodes.{tripleBlock}
-use Rattle.closing.specs.declared.Closed.{Closed}
-use Rattle.fanout.specs.Walks.{firstClauses, secondClauses}
-use Rattle.fanout.specs.Fanout.{Reached, nodeClauses, InBlock, Laid}
-use Rattle.fanout.proofs.Cover.{Unnamed}
-use Rattle.fanout.proofs.Near.{away}
+use Rattle.paper_circuit.proofs.Blocks.{From}
+use Rattle.table_blocks.specs.declared.Block.{Block}
+use Rattle.table_blocks.specs.declared.Rule.the-variants.{Chop, Cut}
+use Rattle.paper_clauses.specs.Clauses.{Clause}
+use Rattle.table_nodes.specs.Nodes.{tripleBlock}
+use Rattle.search_closing.specs.declared.Closed.{Closed}
+use Rattle.search_fanout.specs.Walks.{firstClauses, secondClauses}
+use Rattle.search_fanout.specs.Fanout.{Reached, nodeClauses, InBlock, Laid}
+use Rattle.search_fanout.proofs.Cover.{Unnamed}
+use Rattle.search_fanout.proofs.Near.{away}
 
 module _ (C k u : ℕ) (b : Block) (j : Laid C k b) (n : InBlock k b u → ⊥) where
   pub chop-away : b .rule ≡ Chop → (From (b .left) (countOf k) u → ⊥) → (From (b .right) (countOf k) u → ⊥) → Unnamed (nodeClauses C k b) u

@@ -2,7 +2,7 @@
 use mathlib.Core.Path.{_≡_}
 use mathlib.Core.Bool.{Bool, true, false}
 use Prim.Native.Nat.{ℕ}
-use Rattle.circuit.proofs.Blocks.{From}
+use Rattle.paper_circuit.proofs.Blocks.{From}
 
 -- u is one of n variables from w on
 pub record Among (w n u : ℕ) (r : Bool) : Type 0 where

@@ -1,13 +1,13 @@
 // The gates of a chop's block that mention a variable of another node, where that is a part's truth: triples of an interval.
-use blocks::Block;
-use closing::Closed;
+use search_closing::Closed;
+use table_blocks::Block;
 ghost use mathlib.Core.Path.{_≡_};
 ghost use Prim.Native.Nat.{_*_, _≤_, _<_};
 ghost use lib.ListN.{length};
 ghost use Rattle.interval.specs.Places.{countOf};
-ghost use Rattle.blocks.specs.declared.Rule.the-variants.{Chop};
-ghost use Rattle.decode.specs.Decode.{IntervalsTo};
-ghost use Rattle.fanout.specs.Fanout.{Reaches, nodeClauses, Node, InBlock};
+ghost use Rattle.table_blocks.specs.declared.Rule.the-variants.{Chop};
+ghost use Rattle.search_decode.specs.Decode.{IntervalsTo};
+ghost use Rattle.search_fanout.specs.Fanout.{Reaches, nodeClauses, Node, InBlock};
 ghost use Rattle.search_part_chop.specs.Among.{Among};
 
 // Whether u is one of n variables from w on.
@@ -38,10 +38,10 @@ pub fn reach_chop(
 {
     let left = block.left;
     let right = block.right;
-    let triples = node_clauses::triples_of(node_clauses::beyond(block.first, k), block);
+    let triples = table_nodes::triples_of(table_nodes::beyond(block.first, k), block);
     if among(left, all, u) {
-        let v = decode::interval_at(intervals, k as usize, (u - left) as usize);
-        return triples::visit_first(
+        let v = search_decode::interval_at(intervals, k as usize, (u - left) as usize);
+        return search_triples::visit_first(
             values,
             trail,
             top,
@@ -54,8 +54,8 @@ pub fn reach_chop(
         );
     }
     if among(right, all, u) {
-        let v = decode::interval_at(intervals, k as usize, (u - right) as usize);
-        return triples::visit_second(
+        let v = search_decode::interval_at(intervals, k as usize, (u - right) as usize);
+        return search_triples::visit_second(
             values,
             trail,
             top,
@@ -67,5 +67,5 @@ pub fn reach_chop(
             v.j as u32,
         );
     }
-    own::done(top)
+    search_own::done(top)
 }

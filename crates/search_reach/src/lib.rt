@@ -1,17 +1,17 @@
 // The gates that mention a variable visited, whichever it is: a channel's, or one of a node's own.
-use circuit::Gate;
-use closing::Closed;
-use grammar::MAX_NODES;
+use paper_circuit::Gate;
+use paper_grammar::MAX_NODES;
+use search_closing::Closed;
 ghost use mathlib.Core.Path.{_≡_};
 ghost use Prim.Native.Nat.{_*_, _≤_, _<_};
 ghost use lib.ListN.{length};
 ghost use Rattle.moments.specs.Moments.{old};
 ghost use Rattle.interval.specs.Places.{countOf};
-ghost use Rattle.gates.specs.Mentioned.{Variable};
-ghost use Rattle.closing.specs.Values.{Trailing};
-ghost use Rattle.sweeps.specs.Sweeps.{tableBy};
-ghost use Rattle.decode.specs.Decode.{Tables};
-ghost use Rattle.fanout.specs.Fanout.{OnGround, Reaches};
+ghost use Rattle.table_gates.specs.Mentioned.{Variable};
+ghost use Rattle.search_closing.specs.Values.{Trailing};
+ghost use Rattle.search_sweeps.specs.Sweeps.{tableBy};
+ghost use Rattle.search_decode.specs.Decode.{Tables};
+ghost use Rattle.search_fanout.specs.Fanout.{OnGround, Reaches};
 
 // A node's variable: the gates of its own node, and of the node that it is a part of; the root's is a clause of its own.
 fn reach_row<'a>(
@@ -36,16 +36,16 @@ fn reach_row<'a>(
     requires { ⌜ Tables k (now intervals) (now starts) × (all ≡ countOf k) × (k * c < u) × (u ≤ length (now values)) ⌝ }
     ensures { λ r. ⌜ Reaches (tableBy c k (old kinds) (old numbers) (old sizes) (old firsts) count) u values trail top r ⌝ }
 {
-    let z = decode::last_from(firsts, count, u);
-    let block = letters::block_of(kinds, numbers, sizes, firsts, seats, k, z);
-    let r = own::reach(values, trail, top, intervals, starts, c, k, all, block, u);
+    let z = search_decode::last_from(firsts, count, u);
+    let block = search_letters::block_of(kinds, numbers, sizes, firsts, seats, k, z);
+    let r = search_own::reach(values, trail, top, intervals, starts, c, k, all, block, u);
     if r.clash {
         return r;
     }
     if z != 0 {
         let y = parents[z] as usize;
-        let up = letters::block_of(kinds, numbers, sizes, firsts, seats, k, y);
-        return part::reach(values, trail, r.top, intervals, c, k, all, up, u);
+        let up = search_letters::block_of(kinds, numbers, sizes, firsts, seats, k, y);
+        return search_parts::reach(values, trail, r.top, intervals, c, k, all, up, u);
     }
     let root = seats[0] + k;
     if u != root {
@@ -78,7 +78,7 @@ pub fn reach<'a>(
     ensures { λ r. ⌜ Reaches (tableBy c k (old kinds) (old numbers) (old sizes) (old firsts) count) u values trail top r ⌝ }
 {
     if u <= k * c {
-        return letters::reach_channel(
+        return search_letters::reach_channel(
             values,
             trail,
             top,

@@ -4,15 +4,15 @@ use mathlib.Core.Path.{_≡_}
 use mathlib.Core.List.{List}
 use Prim.Native.Nat.{ℕ}
 use lib.ListN.{getD}
-use Rattle.clauses.specs.Clauses.{Clause}
-use Rattle.closure.specs.Closure.{nothing}
-use Rattle.closing.specs.Closing.{ClosedTo}
-use Rattle.closing.specs.declared.Closed.{Closed}
-use Rattle.attempts.specs.Attempts.{Holding}
-use Rattle.attempts.proofs.Values.{zero-nothing}
-use Rattle.attempts.proofs.Attempts.{holding}
-use Rattle.tries.specs.Tries.{Started}
-use Rattle.tries.specs.declared.Below.{Below}
+use Rattle.paper_clauses.specs.Clauses.{Clause}
+use Rattle.paper_closure.specs.Closure.{nothing}
+use Rattle.search_closing.specs.Closing.{ClosedTo}
+use Rattle.search_closing.specs.declared.Closed.{Closed}
+use Rattle.search_attempts.specs.Attempts.{Holding}
+use Rattle.search_attempts.proofs.Values.{zero-nothing}
+use Rattle.search_attempts.proofs.Attempts.{holding}
+use Rattle.search_tries.specs.Tries.{Started}
+use Rattle.search_tries.specs.declared.Below.{Below}
 
 pub begun : {T : List Clause} (z : List ℕ) → ((y : ℕ) → getD z y 0 ≡ 0) → {t values trail : List ℕ} {r : Closed} → ClosedTo T z t 0 values trail r → Holding T nothing values trail r
 begun z f = holding (zero-nothing z f)

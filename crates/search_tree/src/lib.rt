@@ -1,12 +1,12 @@
 // The whole tree of tries, from values that are cleared and closed.
-use grammar::MAX_NODES;
-use rows::NodeTable;
-use tries::Below;
+use node_rows::NodeTable;
+use paper_grammar::MAX_NODES;
+use search_tries::Below;
 ghost use Prim.Native.Nat.{_*_, _^_, _≤_, _<_};
 ghost use lib.ListN.{length};
 ghost use Rattle.moments.specs.Moments.{old, new};
-ghost use Rattle.decode.specs.Decode.{Tables};
-ghost use Rattle.tries.specs.Tries.{GroundOf, tableClauses, Started};
+ghost use Rattle.search_decode.specs.Decode.{Tables};
+ghost use Rattle.search_tries.specs.Tries.{GroundOf, tableClauses, Started};
 
 // The whole tree, whatever values and trail held before.
 pub fn start(
@@ -26,8 +26,8 @@ pub fn start(
     requires { ⌜ (length (now values) ≤ length (now trail)) × (length (now values) < 2 ^ 32) ⌝ }
     ensures { λ r. ⌜ Started (tableClauses c k table (old firsts)) (length (old values)) (k * c) limit (new values) r ⌝ }
 {
-    attempts::clear(values);
-    let closed = queue::start(
+    search_attempts::clear(values);
+    let closed = search_queue::start(
         values,
         trail,
         &table.kinds,
@@ -42,7 +42,7 @@ pub fn start(
         c,
         k,
     );
-    tries::descend(
+    search_tries::descend(
         values,
         trail,
         closed,

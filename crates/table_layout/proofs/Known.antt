@@ -10,27 +10,27 @@ use lib.ListN.{length, getD, length-append, length-map}
 use Rattle.lists.specs.Listing.{rows, sum}
 use Rattle.interval.specs.Places.{countOf}
 use Rattle.lists.proofs.Listing.{measure-rows, length-rows}
-use Rattle.grammar.specs.Trees.{Tree}
-use Rattle.grammar.specs.declared.Sort.the-variants.{Formula}
-use Rattle.grammar.specs.Nodes.{Node, nodesOf}
-use Rattle.rows.specs.Table.{rowOf, tableOf}
-use Rattle.rows.specs.declared.NodeTable.{NodeTable}
-use Rattle.circuit.specs.Circuit.{variablesOf, definitionsOf, rootOf}
-use Rattle.blocks.specs.Blocks.{isChop, definedBy}
-use Rattle.blocks.specs.declared.Block.{Block}
-use Rattle.blocks.proofs.Rules.{chop-rule}
-use Rattle.blocks.specs.declared.Rule.the-variants.{Cut}
-use Rattle.weights.specs.Weights.{weightAll, variableWeight, clauseWeight, literalWeight, weightBy, rowWeight, weightTo}
-use Rattle.weights.specs.declared.Weight.{Weight}
-use Rattle.weights.proofs.Weights.{weight-append, block-weight}
-use Rattle.weights.proofs.Rows.{weightBefore, all-weight, part-width}
-use Rattle.clauses.specs.Clauses.{plain, clausesBy, clauseTable}
-use Rattle.clauses.specs.Entries.{Entry, entriesOf, flat}
-use Rattle.literals.specs.Written.{Room}
-use Rattle.clauses.proofs.Flat.{length-flat-join}
-use Rattle.weights.proofs.Sizes.{clauses-by, literals-by}
-use Rattle.node_clauses.specs.Nodes.{tripleBlock, intervalBlock, nodeBy, nodePlaces}
-use Rattle.nodes.specs.Rows.{nodeTableOf}
+use Rattle.paper_grammar.specs.Trees.{Tree}
+use Rattle.paper_grammar.specs.declared.Sort.the-variants.{Formula}
+use Rattle.paper_grammar.specs.Nodes.{Node, nodesOf}
+use Rattle.node_rows.specs.Table.{rowOf, tableOf}
+use Rattle.node_rows.specs.declared.NodeTable.{NodeTable}
+use Rattle.paper_circuit.specs.Circuit.{variablesOf, definitionsOf, rootOf}
+use Rattle.table_blocks.specs.Blocks.{isChop, definedBy}
+use Rattle.table_blocks.specs.declared.Block.{Block}
+use Rattle.table_blocks.proofs.Rules.{chop-rule}
+use Rattle.table_blocks.specs.declared.Rule.the-variants.{Cut}
+use Rattle.table_sizes.specs.Weights.{weightAll, variableWeight, clauseWeight, literalWeight, weightBy, rowWeight, weightTo}
+use Rattle.table_sizes.specs.declared.Weight.{Weight}
+use Rattle.table_sizes.proofs.Weights.{weight-append, block-weight}
+use Rattle.table_sizes.proofs.Rows.{weightBefore, all-weight, part-width}
+use Rattle.paper_clauses.specs.Clauses.{plain, clausesBy, clauseTable}
+use Rattle.paper_clauses.specs.Entries.{Entry, entriesOf, flat}
+use Rattle.table_literals.specs.Written.{Room}
+use Rattle.paper_clauses.proofs.Flat.{length-flat-join}
+use Rattle.table_sizes.proofs.Sizes.{clauses-by, literals-by}
+use Rattle.table_nodes.specs.Nodes.{tripleBlock, intervalBlock, nodeBy, nodePlaces}
+use Rattle.node_calls.specs.Rows.{nodeTableOf}
 use Rattle.table_layout.specs.Rows.{blockBy, rowDefinitions, rowPlaces, rootPlaces, nodesPlaces, tablePlaces, Measured}
 use Rattle.table_layout.specs.declared.Sizes.{Sizes}
 use Rattle.table_layout.proofs.Places.{kinds, numbers, sizes, table-places}

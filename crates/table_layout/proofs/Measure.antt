@@ -8,10 +8,10 @@ use native.Mathlib.Omega.{arith}
 use lib.ListN.{replicate}
 use Rattle.interval.specs.Limits.{maxSteps}
 use Rattle.interval.proofs.Fill.{zeros}
-use Rattle.grammar.specs.Limits.{maxNodes, maxChannels}
-use Rattle.weights.specs.Weights.{variableWeight, clauseWeight, literalWeight, weightTo, Summed}
-use Rattle.weights.specs.declared.Weight.{Weight}
-use Rattle.weights.proofs.Rows.{all-low}
+use Rattle.paper_grammar.specs.Limits.{maxNodes, maxChannels}
+use Rattle.table_sizes.specs.Weights.{variableWeight, clauseWeight, literalWeight, weightTo, Summed}
+use Rattle.table_sizes.specs.declared.Weight.{Weight}
+use Rattle.table_sizes.proofs.Rows.{all-low}
 use Rattle.table_layout.specs.Rows.{Low, Measured}
 
 pub channels-few : (C k : ℕ) → C ≤ maxChannels → k ≤ maxSteps → k * C ≤ maxSteps * maxChannels

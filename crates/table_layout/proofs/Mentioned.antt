@@ -8,21 +8,21 @@ use native.Mathlib.Omega.{arith}
 use lib.ListN.{length, length-map}
 use Rattle.lists.specs.Listing.{rows, tab, sum, All}
 use Rattle.lists.proofs.Listing.{sum-lt, length-rows, getD-rows, length-tab, getD-tab}
-use Rattle.grammar.specs.Trees.{Tree, Letters}
-use Rattle.grammar.specs.declared.Sort.the-variants.{Formula}
-use Rattle.grammar.specs.Nodes.{Node, nodesOf}
-use Rattle.rows.specs.Table.{rowOf, tableOf}
-use Rattle.rows.specs.declared.NodeTable.{NodeTable}
-use Rattle.circuit.specs.Gates.{inputsOf}
-use Rattle.circuit.specs.Circuit.{Definition, define, variablesOf, definitionsOf, rootOf}
-use Rattle.circuit.specs.declared.Gate.{Gate}
-use Rattle.circuit.specs.declared.Gate.the-variants.{Constant, Copy, Inverse, Both, Either, AnyOf, Step}
-use Rattle.circuit.proofs.Blocks.{From, root-in-range}
+use Rattle.paper_grammar.specs.Trees.{Tree, Letters}
+use Rattle.paper_grammar.specs.declared.Sort.the-variants.{Formula}
+use Rattle.paper_grammar.specs.Nodes.{Node, nodesOf}
+use Rattle.node_rows.specs.Table.{rowOf, tableOf}
+use Rattle.node_rows.specs.declared.NodeTable.{NodeTable}
+use Rattle.paper_circuit.specs.Gates.{inputsOf}
+use Rattle.paper_circuit.specs.Circuit.{Definition, define, variablesOf, definitionsOf, rootOf}
+use Rattle.paper_circuit.specs.declared.Gate.{Gate}
+use Rattle.paper_circuit.specs.declared.Gate.the-variants.{Constant, Copy, Inverse, Both, Either, AnyOf, Step}
+use Rattle.paper_circuit.proofs.Blocks.{From, root-in-range}
 use Rattle.lists.proofs.Lists.{all-at}
-use Rattle.circuit.proofs.Laws.{Mentions, definitions-mention}
-use Rattle.gates.specs.Mentioned.{Variable, InputsIn, Mentioned, AllMentioned}
+use Rattle.paper_circuit.proofs.Laws.{Mentions, definitions-mention}
+use Rattle.table_gates.specs.Mentioned.{Variable, InputsIn, Mentioned, AllMentioned}
 use Rattle.table_layout.specs.declared.Sizes.{Sizes}
-use Rattle.nodes.specs.Rows.{nodeTableOf}
+use Rattle.node_calls.specs.Rows.{nodeTableOf}
 use Rattle.table_layout.specs.Rows.{seatBy, rowDefinitions, Measured}
 use Rattle.table_layout.proofs.Places.{kinds, numbers, sizes, rows-defined, root-at}
 use Rattle.table_layout.proofs.Known.{known, variables-known}

@@ -11,30 +11,30 @@ use borrow.Author.Tests.{ne-eqb}
 use Rattle.lists.specs.Listing.{rows, sum}
 use Rattle.interval.specs.Places.{placeOf}
 use Rattle.lists.proofs.Listing.{rows-same}
-use Rattle.grammar.specs.Trees.{and, or, chop, Tree, constant, letter, negation, pair, duration, throughout}
-use Rattle.grammar.specs.declared.Sort.{Sort}
-use Rattle.grammar.specs.declared.Sort.the-variants.{State, Formula}
-use Rattle.grammar.proofs.Written.{drop-front}
-use Rattle.grammar.specs.Nodes.{Node, node, nodesOf}
-use Rattle.grammar.proofs.EachNode.{OnParts, parts-map, Begins, begins-first, begins-whole, parts-begin, Each, each-begins}
-use Rattle.rows.specs.Table.{sortCode, headOf}
-use Rattle.rows.specs.declared.Row.{Row}
-use Rattle.nodes.proofs.Standing.{column, nodes-count, stands}
-use Rattle.circuit.specs.Circuit.{Definition, pointsOf, widthOf, blocksOf, truthOf, Seats, ownBy, ownOf, definedFrom, definitionsOf, rootOf}
-use Rattle.circuit.proofs.Blocks.{blocks-parts}
-use Rattle.blocks.specs.Blocks.{ruleOf, ruleBy, isChop, blockOf}
-use Rattle.blocks.specs.declared.Rule.{Rule}
-use Rattle.blocks.proofs.Heads.{rule-head, chop-or-not}
-use Rattle.blocks.proofs.Own.{own-defined, chop-defined}
-use Rattle.weights.specs.Weights.{variableWeight, pointsBy, weightTo}
-use Rattle.weights.proofs.Rows.{points-head, part-width}
-use Rattle.clauses.specs.Clauses.{plain, clausesBy, clauseTable}
-use Rattle.clauses.specs.Entries.{Entry, entry, entriesOf, flat}
-use Rattle.clauses.proofs.Flat.{flat-join}
-use Rattle.node_clauses.specs.Nodes.{nodeBy, nodePlaces}
+use Rattle.paper_grammar.specs.Trees.{and, or, chop, Tree, constant, letter, negation, pair, duration, throughout}
+use Rattle.paper_grammar.specs.declared.Sort.{Sort}
+use Rattle.paper_grammar.specs.declared.Sort.the-variants.{State, Formula}
+use Rattle.paper_grammar.proofs.Written.{drop-front}
+use Rattle.paper_grammar.specs.Nodes.{Node, node, nodesOf}
+use Rattle.paper_grammar.proofs.EachNode.{OnParts, parts-map, Begins, begins-first, begins-whole, parts-begin, Each, each-begins}
+use Rattle.node_rows.specs.Table.{sortCode, headOf}
+use Rattle.node_rows.specs.declared.Row.{Row}
+use Rattle.node_calls.proofs.Standing.{column, nodes-count, stands}
+use Rattle.paper_circuit.specs.Circuit.{Definition, pointsOf, widthOf, blocksOf, truthOf, Seats, ownBy, ownOf, definedFrom, definitionsOf, rootOf}
+use Rattle.paper_circuit.proofs.Blocks.{blocks-parts}
+use Rattle.table_blocks.specs.Blocks.{ruleOf, ruleBy, isChop, blockOf}
+use Rattle.table_blocks.specs.declared.Rule.{Rule}
+use Rattle.table_blocks.proofs.Heads.{rule-head, chop-or-not}
+use Rattle.table_blocks.proofs.Own.{own-defined, chop-defined}
+use Rattle.table_sizes.specs.Weights.{variableWeight, pointsBy, weightTo}
+use Rattle.table_sizes.proofs.Rows.{points-head, part-width}
+use Rattle.paper_clauses.specs.Clauses.{plain, clausesBy, clauseTable}
+use Rattle.paper_clauses.specs.Entries.{Entry, entry, entriesOf, flat}
+use Rattle.paper_clauses.proofs.Flat.{flat-join}
+use Rattle.table_nodes.specs.Nodes.{nodeBy, nodePlaces}
 use Rattle.table_layout.specs.Rows.{truthBy, seatBy, blockBy, rowDefinitions, rowPlaces, rootPlaces}
-use Rattle.node_clauses.proofs.Walk.{rows-first}
-use Rattle.node_clauses.proofs.Nodes.{places-join}
+use Rattle.table_nodes.proofs.Walk.{rows-first}
+use Rattle.table_nodes.proofs.Nodes.{places-join}
 
 -- ---- a node by its row's kind and number
 

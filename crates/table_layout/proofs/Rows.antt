@@ -11,13 +11,13 @@ use borrow.Author.Count.{below-more}
 use borrow.Author.Tests.{eq-eqb, ne-eqb}
 use Rattle.interval.specs.Limits.{maxSteps, maxCount}
 use Rattle.interval.specs.Places.{countOf}
-use Rattle.grammar.specs.Limits.{maxChannels}
-use Rattle.blocks.specs.Blocks.{ruleBy, numberOf, bound}
-use Rattle.blocks.specs.declared.Block.{Block}
-use Rattle.blocks.specs.declared.Rule.{Rule}
-use Rattle.blocks.proofs.Positions.{rule-number}
-use Rattle.weights.specs.Weights.{pointsBy}
-use Rattle.node_clauses.specs.Nodes.{Fine}
+use Rattle.paper_grammar.specs.Limits.{maxChannels}
+use Rattle.table_blocks.specs.Blocks.{ruleBy, numberOf, bound}
+use Rattle.table_blocks.specs.declared.Block.{Block}
+use Rattle.table_blocks.specs.declared.Rule.{Rule}
+use Rattle.table_blocks.proofs.Positions.{rule-number}
+use Rattle.table_sizes.specs.Weights.{pointsBy}
+use Rattle.table_nodes.specs.Nodes.{Fine}
 use Rattle.table_layout.specs.Rows.{seatBy, blockBy, Low, Seated}
 
 module _ (kinds numbers firsts : List ℕ) (k y : ℕ) {first kind : ℕ} (p : first ≡ getD firsts y 0) (q : kind ≡ getD kinds y 0) where

@@ -7,16 +7,16 @@ use lib.Dec.{eqb}
 use lib.ListN.{getD}
 use Rattle.lists.specs.Listing.{rows}
 use Rattle.interval.specs.Places.{countOf}
-use Rattle.grammar.specs.declared.Sort.the-variants.{Formula}
-use Rattle.rows.specs.Table.{sortCode, durationCode}
-use Rattle.rows.specs.declared.NodeTable.{NodeTable}
-use Rattle.circuit.specs.Circuit.{Definition}
-use Rattle.blocks.specs.Blocks.{ruleBy, isChop, bound}
-use Rattle.blocks.specs.declared.Block.{Block}
-use Rattle.weights.specs.Weights.{variableWeight, clauseWeight, literalWeight, pointsBy, weightTo, maxSum}
-use Rattle.clauses.specs.Entries.{Entry}
-use Rattle.literals.specs.Written.{runOf}
-use Rattle.node_clauses.specs.Nodes.{nodeBy, nodePlaces}
+use Rattle.paper_grammar.specs.declared.Sort.the-variants.{Formula}
+use Rattle.node_rows.specs.Table.{sortCode, durationCode}
+use Rattle.node_rows.specs.declared.NodeTable.{NodeTable}
+use Rattle.paper_circuit.specs.Circuit.{Definition}
+use Rattle.table_blocks.specs.Blocks.{ruleBy, isChop, bound}
+use Rattle.table_blocks.specs.declared.Block.{Block}
+use Rattle.table_sizes.specs.Weights.{variableWeight, clauseWeight, literalWeight, pointsBy, weightTo, maxSum}
+use Rattle.paper_clauses.specs.Entries.{Entry}
+use Rattle.table_literals.specs.Written.{runOf}
+use Rattle.table_nodes.specs.Nodes.{nodeBy, nodePlaces}
 use Rattle.table_layout.specs.declared.Sizes.{Sizes}
 
 -- where in its block a node's truth begins: a duration has its levels below it

@@ -1,16 +1,16 @@
 // How a formula's clause table is laid out, by its node table: its sizes, each node's first variable, and each node's block.
-use blocks::Block;
-use grammar::MAX_NODES;
 use interval::Interval;
-use rows::NodeTable;
+use node_rows::NodeTable;
+use paper_grammar::MAX_NODES;
+use table_blocks::Block;
 ghost use mathlib.Core.Path.{_≡_};
 ghost use Prim.Native.Nat.{ℕ, _+_, _≤_, _<_};
 ghost use lib.ListN.{length, getD};
 ghost use Rattle.moments.specs.Moments.{old, new};
 ghost use Rattle.interval.specs.Limits.{maxSteps};
-ghost use Rattle.grammar.specs.Limits.{maxNodes, maxChannels};
-ghost use Rattle.blocks.specs.Blocks.{bound};
-ghost use Rattle.node_clauses.specs.Nodes.{Fine};
+ghost use Rattle.paper_grammar.specs.Limits.{maxNodes, maxChannels};
+ghost use Rattle.table_blocks.specs.Blocks.{bound};
+ghost use Rattle.table_nodes.specs.Nodes.{Fine};
 ghost use Rattle.table_layout.specs.Rows.{Low, Seated, seatBy, blockBy, Measured};
 
 // C, k, V, M and L.
@@ -47,8 +47,8 @@ pub fn seat<'a>(
     ensures { λ r. ⌜ (r ≡ seatBy (old kinds) (old numbers) (old firsts) k y) × (r < bound) ⌝ }
 {
     let first = number_at(firsts, y);
-    if rows::byte_at(kinds, y) == rows::FORMULA_DURATION {
-        let n = rows::byte_at(numbers, y) as u32;
+    if node_rows::byte_at(kinds, y) == node_rows::FORMULA_DURATION {
+        let n = node_rows::byte_at(numbers, y) as u32;
         return first + n * Interval::count(k as usize) as u32;
     }
     first
@@ -83,12 +83,12 @@ pub fn block_at<'a>(
     ensures { λ r. ⌜ r ≡ blockBy (old kinds) (old numbers) (old sizes) (old firsts) k x ⌝ }
     ensures { λ r. ⌜ ((c : ℕ) → c ≤ maxChannels → Fine c k r) ⌝ }
 {
-    let kind = rows::byte_at(kinds, x);
+    let kind = node_rows::byte_at(kinds, x);
     let left = seat(kinds, numbers, firsts, k, x + 1);
-    let right = seat(kinds, numbers, firsts, k, nodes::second(sizes, x));
+    let right = seat(kinds, numbers, firsts, k, node_calls::second(sizes, x));
     Block {
-        rule: blocks::rule_of(kind, rows::byte_at(numbers, x)),
-        points: weights::points_of(kind, k),
+        rule: table_blocks::rule_of(kind, node_rows::byte_at(numbers, x)),
+        points: table_sizes::points_of(kind, k),
         first: number_at(firsts, x),
         left,
         right,
@@ -107,15 +107,15 @@ fn sizes_of<'a>(
     requires { ⌜ (c ≤ maxChannels) × (k ≤ maxSteps) × (count ≤ maxNodes) × (length (now firsts) ≡ maxNodes) × Low (now firsts) ⌝ }
     ensures { λ r. ⌜ Measured c k (old kinds) (old numbers) count (new firsts) r ⌝ }
 {
-    let clauses = weights::sums(kinds, numbers, count, k, weights::clauses(), 1, firsts);
-    let literals = weights::sums(kinds, numbers, count, k, weights::literals(), 1, firsts);
+    let clauses = table_sizes::sums(kinds, numbers, count, k, table_sizes::clauses(), 1, firsts);
+    let literals = table_sizes::sums(kinds, numbers, count, k, table_sizes::literals(), 1, firsts);
     let start = 1 + k * c;
-    let end = weights::sums(
+    let end = table_sizes::sums(
         kinds,
         numbers,
         count,
         k,
-        weights::variables(),
+        table_sizes::variables(),
         start,
         firsts,
     );

@@ -6,16 +6,16 @@ use mathlib.Core.List.{List}
 use Prim.Native.Nat.{ℕ, zero, suc, _+_, _%_, _≤_, _<_}
 use native.Mathlib.Omega.{arith}
 use lib.ListN.{getD}
-use Rattle.grammar.specs.Trees.{Link, Tree, constant, letter, negation, pair, duration, throughout, Letters}
-use Rattle.grammar.specs.declared.Sort.{Sort}
-use Rattle.grammar.specs.declared.Sort.the-variants.{State, Formula}
-use Rattle.rows.specs.Table.{sortCode, constantCode, linkCode}
-use Rattle.rows.proofs.Forms.{Form, is-false, is-true, is-negation, is-letter, is-duration, is-throughout, form-of, form-by}
-use Rattle.nodes.specs.Parts.{Stands}
-use Rattle.meaning.specs.Meaning.{channelAt, Point, truth}
-use Rattle.table.specs.Table.{measured}
-use Rattle.table.specs.declared.Measure.{Measure}
-use Rattle.table.specs.declared.Measure.the-variants.{AtLeast, Throughout}
+use Rattle.paper_grammar.specs.Trees.{Link, Tree, constant, letter, negation, pair, duration, throughout, Letters}
+use Rattle.paper_grammar.specs.declared.Sort.{Sort}
+use Rattle.paper_grammar.specs.declared.Sort.the-variants.{State, Formula}
+use Rattle.node_rows.specs.Table.{sortCode, constantCode, linkCode}
+use Rattle.node_rows.proofs.Forms.{Form, is-false, is-true, is-negation, is-letter, is-duration, is-throughout, form-of, form-by}
+use Rattle.node_calls.specs.Parts.{Stands}
+use Rattle.paper_meaning.specs.Meaning.{channelAt, Point, truth}
+use Rattle.truth_table.specs.Table.{measured}
+use Rattle.truth_table.specs.declared.Measure.{Measure}
+use Rattle.truth_table.specs.declared.Measure.the-variants.{AtLeast, Throughout}
 
 constant-most : (v : Bool) → constantCode v ≤ 1
 constant-most true = omega arith

@@ -9,17 +9,17 @@ use native.Mathlib.Omega.{arith}
 use lib.Dec.{eqb}
 use lib.ListN.{length, getD, List·getD-eq-default}
 use Rattle.interval.specs.declared.Interval.{Interval}
-use Rattle.grammar.specs.Limits.{maxChannels}
-use Rattle.grammar.specs.Trees.{Link, and, or, chop, Tree, pair}
-use Rattle.grammar.specs.declared.Sort.{Sort}
-use Rattle.grammar.specs.declared.Sort.the-variants.{State, Formula}
-use Rattle.rows.specs.Table.{sortCode, constantCode, linkCode}
-use Rattle.rows.proofs.Forms.{Form}
-use Rattle.nodes.specs.Parts.{Stands}
-use Rattle.meaning.specs.Meaning.{channelAt, chops, Point, truth}
-use Rattle.word.specs.Word.{joined}
-use Rattle.table.specs.Table.{measured}
-use Rattle.table.specs.declared.Measure.the-variants.{AtLeast, Throughout}
+use Rattle.paper_grammar.specs.Limits.{maxChannels}
+use Rattle.paper_grammar.specs.Trees.{Link, and, or, chop, Tree, pair}
+use Rattle.paper_grammar.specs.declared.Sort.{Sort}
+use Rattle.paper_grammar.specs.declared.Sort.the-variants.{State, Formula}
+use Rattle.node_rows.specs.Table.{sortCode, constantCode, linkCode}
+use Rattle.node_rows.proofs.Forms.{Form}
+use Rattle.node_calls.specs.Parts.{Stands}
+use Rattle.paper_meaning.specs.Meaning.{channelAt, chops, Point, truth}
+use Rattle.truth_word.specs.Word.{joined}
+use Rattle.truth_table.specs.Table.{measured}
+use Rattle.truth_table.specs.declared.Measure.the-variants.{AtLeast, Throughout}
 use Rattle.truth_rows.proofs.Seen.{form-at, constant-seen, negation-seen, Joins, pair-seen, letter-seen, duration-seen, throughout-seen}
 use Rattle.truth_rows.specs.Rows.{AtRow}
 

@@ -2,11 +2,11 @@
 use mathlib.Core.Bool.{Bool}
 use mathlib.Core.List.{List}
 use Prim.Native.Nat.{ℕ}
-use Rattle.grammar.specs.Limits.{maxChannels}
-use Rattle.grammar.specs.Trees.{Tree, Letters}
-use Rattle.grammar.specs.declared.Sort.{Sort}
-use Rattle.nodes.specs.Parts.{Stands}
-use Rattle.meaning.specs.Meaning.{Point, truth}
+use Rattle.paper_grammar.specs.Limits.{maxChannels}
+use Rattle.paper_grammar.specs.Trees.{Tree, Letters}
+use Rattle.paper_grammar.specs.declared.Sort.{Sort}
+use Rattle.node_calls.specs.Parts.{Stands}
+use Rattle.paper_meaning.specs.Meaning.{Point, truth}
 
 -- R is told of the truth of every tree that stands at row x
 abbrev pub AtRow : List ℕ → List ℕ → List ℕ → List ℕ → (s : Sort) → ℕ → ((Point s → Bool) → Type 0) → Type 0

@@ -1,15 +1,15 @@
 // A word for each state assertion and a table for each formula, from the parts up.
-use grammar::MAX_CHANNELS;
-use grammar::MAX_NODES;
 use interval::Interval;
-use table::Measure;
+use paper_grammar::MAX_CHANNELS;
+use paper_grammar::MAX_NODES;
+use truth_table::Measure;
 ghost use Prim.Native.Nat.{_≤_};
 ghost use lib.ListN.{length};
 ghost use Rattle.moments.specs.Moments.{old};
 ghost use Rattle.interval.specs.Limits.{maxSteps};
-ghost use Rattle.grammar.specs.declared.Sort.the-variants.{State, Formula};
-ghost use Rattle.meaning.specs.Words.{WordOf};
-ghost use Rattle.table.specs.Table.{TableOf};
+ghost use Rattle.paper_grammar.specs.declared.Sort.the-variants.{State, Formula};
+ghost use Rattle.paper_meaning.specs.Words.{WordOf};
+ghost use Rattle.truth_table.specs.Table.{TableOf};
 ghost use Rattle.truth_rows.specs.Rows.{AtRow};
 
 // The word of the state assertion at row x. Past the table stands a 0, the kind of `F`, which has no parts.
@@ -23,21 +23,27 @@ fn word_at<'a>(
     requires { ⌜ length (now recording) ≤ maxSteps ⌝ }
     ensures { λ r. ⌜ AtRow (old recording) (old kinds) (old numbers) (old sizes) State x (λ f. WordOf (length (old recording)) f r) ⌝ }
 {
-    let kind = rows::byte_at(kinds, x);
+    let kind = node_rows::byte_at(kinds, x);
     match kind {
-        rows::FALSE => return word::constant_word(false),
-        rows::TRUE => return word::constant_word(true),
-        rows::LETTER => {
-            let c = rows::byte_at(numbers, x) as usize % MAX_CHANNELS;
-            return word::word_of(recording, c, recording.len());
+        node_rows::FALSE => return truth_word::constant_word(false),
+        node_rows::TRUE => return truth_word::constant_word(true),
+        node_rows::LETTER => {
+            let c = node_rows::byte_at(numbers, x) as usize % MAX_CHANNELS;
+            return truth_word::word_of(recording, c, recording.len());
         }
-        rows::NOT => {
-            return word::inverse_word(word_at(kinds, numbers, sizes, recording, x + 1));
+        node_rows::NOT => {
+            return truth_word::inverse_word(word_at(kinds, numbers, sizes, recording, x + 1));
         }
         _ => {
             let p = word_at(kinds, numbers, sizes, recording, x + 1);
-            let q = word_at(kinds, numbers, sizes, recording, nodes::second(sizes, x));
-            return word::joined_word(kind == rows::AND, p, q);
+            let q = word_at(
+                kinds,
+                numbers,
+                sizes,
+                recording,
+                node_calls::second(sizes, x),
+            );
+            return truth_word::joined_word(kind == node_rows::AND, p, q);
         }
     }
 }
@@ -54,30 +60,40 @@ pub fn table_at<'a>(
     ensures { λ r. ⌜ AtRow (old recording) (old kinds) (old numbers) (old sizes) Formula x (λ f. TableOf (length (old recording)) f r) ⌝ }
 {
     let k = recording.len();
-    let kind = rows::byte_at(kinds, x) % rows::FORMULA;
+    let kind = node_rows::byte_at(kinds, x) % node_rows::FORMULA;
     match kind {
-        rows::FALSE => return table::constant_table(false),
-        rows::TRUE => return table::constant_table(true),
-        rows::DURATION => {
+        node_rows::FALSE => return truth_table::constant_table(false),
+        node_rows::TRUE => return truth_table::constant_table(true),
+        node_rows::DURATION => {
             let word = word_at(kinds, numbers, sizes, recording, x + 1);
-            return table::measured_table(Measure::AtLeast(rows::byte_at(numbers, x)), word, k);
+            return truth_table::measured_table(
+                Measure::AtLeast(node_rows::byte_at(numbers, x)),
+                word,
+                k,
+            );
         }
-        rows::THROUGHOUT => {
+        node_rows::THROUGHOUT => {
             let word = word_at(kinds, numbers, sizes, recording, x + 1);
-            return table::measured_table(Measure::Throughout, word, k);
+            return truth_table::measured_table(Measure::Throughout, word, k);
         }
-        rows::NOT => {
+        node_rows::NOT => {
             let mut p = table_at(kinds, numbers, sizes, recording, x + 1);
-            table::inverse(&mut p, k);
+            truth_table::inverse(&mut p, k);
             return p;
         }
         _ => {
             let mut p = table_at(kinds, numbers, sizes, recording, x + 1);
-            let q = table_at(kinds, numbers, sizes, recording, nodes::second(sizes, x));
-            if kind == rows::CHOP {
-                return chop::chop_table(&p, &q, k);
+            let q = table_at(
+                kinds,
+                numbers,
+                sizes,
+                recording,
+                node_calls::second(sizes, x),
+            );
+            if kind == node_rows::CHOP {
+                return truth_chop::chop_table(&p, &q, k);
             }
-            table::join(kind == rows::AND, &mut p, &q, k);
+            truth_table::join(kind == node_rows::AND, &mut p, &q, k);
             return p;
         }
     }

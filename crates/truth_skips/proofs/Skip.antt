@@ -17,10 +17,10 @@ use borrow.Author.Tests.{eqb-true, ltb-true, ltb-false}
 use Rattle.interval.specs.Limits.{maxSteps}
 use Rattle.interval.specs.Places.{countOf}
 use Rattle.interval.specs.declared.Interval.{Interval}
-use Rattle.meaning.specs.Meaning.{bit}
-use Rattle.table.specs.Table.{TableOf, startOf}
+use Rattle.paper_meaning.specs.Meaning.{bit}
+use Rattle.truth_table.specs.Table.{TableOf, startOf}
 use Rattle.truth_skips.specs.Rows.{NextRows, Within}
-use Rattle.table.proofs.Rows.{row-next, row-ends, row-entry, part-entry}
+use Rattle.truth_table.proofs.Rows.{row-next, row-ends, row-entry, part-entry}
 
 -- nothing has been found beyond, up to d
 pub record NoneBeyond (row other : List ℕ) (d more : ℕ) : Type 0 where

@@ -10,7 +10,7 @@ ghost use Rattle.moments.specs.Moments.{old};
 ghost use Rattle.interval.specs.Limits.{maxSteps};
 ghost use Rattle.interval.specs.Places.{countOf};
 ghost use Rattle.interval.specs.declared.Interval.{Interval};
-ghost use Rattle.table.specs.Table.{TableOf};
+ghost use Rattle.truth_table.specs.Table.{TableOf};
 ghost use Rattle.truth_skips.specs.Rows.{NextRows, Within};
 
 // What a row has that another lacks: 0 for nothing.

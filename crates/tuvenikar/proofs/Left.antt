@@ -2,11 +2,11 @@
 -- and the arrays are left as they are.
 use mathlib.Core.Path.{_≡_, ap, _∙_}
 use Prim.Native.Nat.{ℕ}
-use Rattle.clause_table.specs.Table.{After}
-use Rattle.assignments.specs.Calls.{Extended, Proposed}
-use Rattle.clause_file.specs.Calls.{FileAfter}
-use Rattle.search_answer.specs.Search.{Arrays, Searched, unwritten, Unchanged}
-use Rattle.search_answer.specs.declared.Answer.{Answer}
+use Rattle.table_calls.specs.Table.{After}
+use Rattle.paper_assignments.specs.Calls.{Extended, Proposed}
+use Rattle.file_calls.specs.Calls.{FileAfter}
+use Rattle.paper_search.specs.Search.{Arrays, Searched, unwritten, Unchanged}
+use Rattle.paper_search.specs.declared.Answer.{Answer}
 use Rattle.answers.specs.Answers.{packWritten, packChecked, packAnswer}
 use Rattle.tuvenikar.specs.Left.{TableLeft, AssignmentLeft, RecordingLeft, FileLeft, SearchLeft}
 

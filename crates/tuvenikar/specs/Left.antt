@@ -2,10 +2,10 @@
 use mathlib.Core.Path.{_≡_}
 use mathlib.Core.List.{List}
 use Prim.Native.Nat.{ℕ}
-use Rattle.clause_table.specs.Table.{After}
-use Rattle.assignments.specs.Calls.{Extended, Proposed}
-use Rattle.clause_file.specs.Calls.{FileAfter}
-use Rattle.search_answer.specs.Search.{Arrays, lentOf, searched, Searched, Unchanged}
+use Rattle.table_calls.specs.Table.{After}
+use Rattle.paper_assignments.specs.Calls.{Extended, Proposed}
+use Rattle.file_calls.specs.Calls.{FileAfter}
+use Rattle.paper_search.specs.Search.{Arrays, lentOf, searched, Searched, Unchanged}
 use Rattle.answers.specs.Answers.{packWritten, packChecked, packAnswer}
 
 -- a table written, or read from a file: its sizes and its two arrays

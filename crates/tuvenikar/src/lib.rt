@@ -4,12 +4,12 @@ use table_layout::Sizes;
 ghost use mathlib.Core.Path.{_≡_};
 ghost use mathlib.Core.List.{[], _∷_};
 ghost use Rattle.moments.specs.Moments.{old, new};
-ghost use Rattle.evaluator.specs.Evaluation.{evaluated};
-ghost use Rattle.nodes.specs.Calls.{nodePlaceOf};
-ghost use Rattle.clause_table.specs.Table.{tabled};
-ghost use Rattle.assignments.specs.Calls.{extended, proposed};
+ghost use Rattle.truth_calls.specs.Evaluation.{evaluated};
+ghost use Rattle.node_calls.specs.Calls.{nodePlaceOf};
+ghost use Rattle.table_calls.specs.Table.{tabled};
+ghost use Rattle.paper_assignments.specs.Calls.{extended, proposed};
 ghost use Rattle.file_numbers.specs.File.{sizesBy};
-ghost use Rattle.clause_file.specs.Calls.{fileWritten, fileRead};
+ghost use Rattle.file_calls.specs.Calls.{fileWritten, fileRead};
 ghost use Rattle.answers.specs.Answers.{packVerdict, packLocated};
 ghost use Rattle.tuvenikar.specs.Left.{TableLeft, AssignmentLeft, RecordingLeft, FileLeft, arrays, searchedWith, SearchLeft};
 
@@ -18,7 +18,7 @@ ghost use Rattle.tuvenikar.specs.Left.{TableLeft, AssignmentLeft, Record
 pub extern "C" fn tuv_evaluate(text: &[u8], c: u32, k: u32, i: u32, j: u32, recording: &[u8]) -> u64
     ensures { λ r. ⌜ r ≡ packVerdict (evaluated c k i j (old text) (old recording)) ⌝ }
 {
-    answers::pack_verdict(evaluator::evaluate(text, c, k, i, j, recording))
+    answers::pack_verdict(truth_calls::evaluate(text, c, k, i, j, recording))
 }
 
 // Where a node's own text is in the lent text: questions 1 to 8.
@@ -26,7 +26,7 @@ pub extern "C" fn tuv_evaluate(text: &[u8], c: u32, k: u32, i: u32, j: u32, reco
 pub extern "C" fn tuv_node_text(text: &[u8], c: u32, k: u32, node: u32) -> u64
     ensures { λ r. ⌜ r ≡ packLocated (nodePlaceOf c k node (old text)) ⌝ }
 {
-    answers::pack_located(nodes::node_place(text, c, k, node))
+    answers::pack_located(node_calls::node_place(text, c, k, node))
 }
 
 // The clause table, the formula's Tseitin encoding, in two parallel arrays, and its five sizes: questions 1 to 7 and 18.
@@ -41,7 +41,7 @@ pub extern "C" fn tuv_table(
 ) -> u64
     ensures { λ r. ⌜ TableLeft (tabled c k (old text) (old sizes) (old variables) (old marks)) r (new sizes) (new variables) (new marks) ⌝ }
 {
-    answers::pack_written(clause_table::table(text, c, k, sizes, variables, marks))
+    answers::pack_written(table_calls::table(text, c, k, sizes, variables, marks))
 }
 
 // The assignment that extends a recording and meets all clauses but the last: questions 1 to 7, 10, 11 and 18.
@@ -55,7 +55,7 @@ pub extern "C" fn tuv_extend(
 ) -> u64
     ensures { λ r. ⌜ AssignmentLeft (extended c k (old text) (old recording) (old assignment)) r (new assignment) ⌝ }
 {
-    answers::pack_written(extension::extend(text, c, k, recording, assignment))
+    answers::pack_written(extend_calls::extend(text, c, k, recording, assignment))
 }
 
 // Whether a proposed assignment meets every clause, and the recording read from it: questions 1 to 7, 12 to 14 and 18.
@@ -69,7 +69,7 @@ pub extern "C" fn tuv_check(
 ) -> u64
     ensures { λ r. ⌜ RecordingLeft (proposed c k (old text) (old assignment) (old recording)) r (new recording) ⌝ }
 {
-    answers::pack_checked(proposal::check(text, c, k, assignment, recording))
+    answers::pack_checked(check_calls::check(text, c, k, assignment, recording))
 }
 
 // The first recording that satisfies the formula, by backtracking with unit propagation, within a limit of tries: questions 1 to 7 and 18.
@@ -90,7 +90,7 @@ pub extern "C" fn tuv_search(
         let after = arrays (new variables) (new marks) (new values) (new trail) (new recording) in
         SearchLeft (searchedWith c k (old text) limit before) r before after) ⌝ }
 {
-    answers::pack_answer(search::search(
+    answers::pack_answer(search_calls::search(
         text,
         c,
         k,
@@ -124,7 +124,7 @@ pub extern "C" fn tuv_write_file(
         clauses: m,
         literals: l,
     };
-    answers::pack_written(clause_file::write(s, variables, marks, file))
+    answers::pack_written(file_calls::write(s, variables, marks, file))
 }
 
 // A file's five sizes and two arrays: questions 15 to 18.
@@ -137,5 +137,5 @@ pub extern "C" fn tuv_read_file(
 ) -> u64
     ensures { λ r. ⌜ TableLeft (fileRead (old file) (old sizes) (old variables) (old marks)) r (new sizes) (new variables) (new marks) ⌝ }
 {
-    answers::pack_written(clause_file::read(file, sizes, variables, marks))
+    answers::pack_written(file_calls::read(file, sizes, variables, marks))
 }

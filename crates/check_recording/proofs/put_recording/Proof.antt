@@ -1,10 +1,10 @@
 -- `put_recording` fills its slice instant by instant,
 -- and each byte is the recording's at that instant.
-use Rattle.truths.proofs.Filled.{Filled, begun, turn, done}
-use Rattle.assignments.specs.Extension.{valueIn, recordingBy}
-use Rattle.circuit.specs.Circuit.{channelOf}
+use Rattle.extend_truths.proofs.Filled.{Filled, begun, turn, done}
+use Rattle.paper_assignments.specs.Extension.{valueIn, recordingBy}
+use Rattle.paper_circuit.specs.Circuit.{channelOf}
 use Rattle.lists.specs.Listing.{sum}
-use Rattle.meaning.specs.Meaning.{bit}
+use Rattle.paper_meaning.specs.Meaning.{bit}
 use Rattle.check_recording.proofs.Channels.{row-fits}
 use mathlib.Core.Path.{refl}
 use Prim.Native.Nat.{_-_, _*_, _^_}

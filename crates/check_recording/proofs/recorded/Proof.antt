@@ -1,10 +1,10 @@
 -- `recorded` goes channel by channel: at each turn the byte has the bits of the channels before b and none beyond,
 -- so that bit b is added to a 0; the number with these bits is their sum.
-use Rattle.assignments.specs.Extension.{valueIn}
-use Rattle.circuit.specs.Circuit.{channelOf}
-use Rattle.grammar.specs.Limits.{maxChannels}
-use Rattle.meaning.proofs.Words.{Packed}
-use Rattle.word.proofs.Words.{packed-more}
+use Rattle.paper_assignments.specs.Extension.{valueIn}
+use Rattle.paper_circuit.specs.Circuit.{channelOf}
+use Rattle.paper_grammar.specs.Limits.{maxChannels}
+use Rattle.paper_meaning.proofs.Words.{Packed}
+use Rattle.truth_word.proofs.Words.{packed-more}
 use Rattle.check_recording.proofs.Channels.{channel-bit, byte-done}
 use mathlib.Core.Path.{_≡_}
 use Prim.Native.Nat.{_+_, _-_, _*_, _≤_}

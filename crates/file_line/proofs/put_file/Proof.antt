@@ -2,7 +2,7 @@
 -- and answers how long such a file is.
 use mathlib.Core.Path.{sym, ap}
 use lib.Seq.{length-take-le}
-use Rattle.clause_file.specs.Calls.{FileAfter}
+use Rattle.file_calls.specs.Calls.{FileAfter}
 use borrow.Author.Needs.{needs}
 use Rattle.file_line.proofs.put_file.Statement.{statement}
 use Rattle.file_line.proofs.put_file.Tie as tie

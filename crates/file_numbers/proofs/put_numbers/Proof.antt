@@ -1,6 +1,6 @@
 -- After e turns the bytes of the first e numbers are stored, and the place is 4e further
--- (crate literals, Written.antt).
-use Rattle.literals.proofs.Written.{Copied, copy-begun, copy-turn, copy-done}
+-- (crate table_literals, Written.antt).
+use Rattle.table_literals.proofs.Written.{Copied, copy-begun, copy-turn, copy-done}
 use Rattle.file_numbers.specs.File.{bytesOf}
 use Rattle.file_numbers.proofs.Stored.{four}
 use Prim.Native.Nat.{_+_, _*_, _-_}

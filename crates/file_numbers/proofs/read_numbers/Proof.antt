@@ -1,6 +1,6 @@
 -- A copy of the file's variables, each being the number at its place
--- (Stored.antt; crate literals, Written.antt).
-use Rattle.literals.proofs.Written.{Copied, same, copy-begun, same-turn, same-done}
+-- (Stored.antt; crate table_literals, Written.antt).
+use Rattle.table_literals.proofs.Written.{Copied, same, copy-begun, same-turn, same-done}
 use Rattle.file_numbers.specs.File.{variablesAt}
 use Rattle.file_numbers.proofs.Stored.{variables-count, variable-at}
 use Prim.Native.Nat.{_-_}

@@ -1,6 +1,6 @@
 -- The first no answers: question 16 comes first,
 -- and 17 answers where it is answered with yes.
-use Rattle.formula.proofs.Asked.{asked-one}
+use Rattle.formula_text.proofs.Asked.{asked-one}
 use mathlib.Core.Path.{sym, _∙_}
 --
 use borrow.Author.Needs.{needs}

@@ -1,7 +1,7 @@
 -- `is_joint` says whether a byte joins two parts: `joint_of` gives the definition's joint,
 -- and each arm says what `joins` says of it.
 use mathlib.Core.Path.{sym, ap, _∙_}
-use Rattle.grammar.specs.Reader.{joins}
+use Rattle.paper_grammar.specs.Reader.{joins}
 use borrow.Author.Needs.{needs}
 use Rattle.formula_bytes.proofs.is_joint.Statement.{statement}
 use Rattle.formula_bytes.proofs.is_joint.Tie as tie

@@ -2,7 +2,7 @@
 -- and a byte that is none of them passes all its tests on to `own_lead`.
 use mathlib.Core.Path.{sym, ap}
 use borrow.Author.Tests.{ne-eqb}
-use Rattle.grammar.specs.Reader.{leadOf}
+use Rattle.paper_grammar.specs.Reader.{leadOf}
 use borrow.Author.Needs.{needs}
 use Rattle.formula_bytes.proofs.lead_of.Statement.{statement}
 use Rattle.formula_bytes.proofs.lead_of.Tie as tie

@@ -2,8 +2,8 @@
 -- Each arm's byte, or that it is none of them, decides the definition's tests.
 use mathlib.Core.Path.{sym, ap, _∙_}
 use borrow.Author.Tests.{ne-eqb}
-use Rattle.grammar.specs.Reader.{ownLead}
-use Rattle.grammar.specs.declared.Sort.the-variants.{Formula}
+use Rattle.paper_grammar.specs.Reader.{ownLead}
+use Rattle.paper_grammar.specs.declared.Sort.the-variants.{Formula}
 use borrow.Author.Needs.{needs}
 use Rattle.formula_bytes.proofs.own_lead.Statement.{statement}
 use Rattle.formula_bytes.proofs.own_lead.Tie as tie

@@ -1,6 +1,6 @@
 -- The bytes are asked whether they are below 1 shifted by C,
 -- which is 2^C (Questions.antt).
-use Rattle.meaning.specs.Recording.{askBelow}
+use Rattle.paper_meaning.specs.Recording.{askBelow}
 use Rattle.recording_questions.proofs.Questions.{shifted}
 use mathlib.Core.Path.{ap, _∙_}
 use native.Mathlib.Omega.{arith}

@@ -1,7 +1,7 @@
 -- `ask_recording` asks what its definition asks:
 -- whether the recording has k bytes.
 use borrow.Author.Needs.{needs}
-use Rattle.meaning.specs.Recording.{askRecording}
+use Rattle.paper_meaning.specs.Recording.{askRecording}
 use Rattle.recording_questions.proofs.ask_recording.Statement.{statement}
 use Rattle.recording_questions.proofs.ask_recording.Tie as tie
 

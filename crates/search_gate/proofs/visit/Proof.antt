@@ -2,10 +2,10 @@
 -- What a pattern settles is visited.
 use mathlib.Core.Path.{refl, subst}
 use native.Mathlib.Omega.{arith}
-use Rattle.gates.specs.Within.{Within}
-use Rattle.gates.specs.Mentioned.{InputsIn}
-use Rattle.visits.proofs.Parts.{settled-visited}
-use Rattle.patterns.proofs.Steps.{patterns}
+use Rattle.table_gates.specs.Within.{Within}
+use Rattle.table_gates.specs.Mentioned.{InputsIn}
+use Rattle.search_visits.proofs.Parts.{settled-visited}
+use Rattle.search_patterns.proofs.Steps.{patterns}
 use Rattle.search_gate.proofs.Known.{constant-known, visited-known}
 use borrow.Author.Needs.{needs}
 use Rattle.search_gate.proofs.visit.Statement.{statement}

@@ -4,7 +4,7 @@ use mathlib.Core.Path.{_≡_}
 use Prim.Native.Nat.{_+_, _-_}
 use native.Mathlib.Omega.{arith}
 use Rattle.interval.specs.Places.{countOf}
-use Rattle.fanout.proofs.Cover.{reached-there}
+use Rattle.search_fanout.proofs.Cover.{reached-there}
 use borrow.Author.Needs.{needs}
 use Rattle.search_own_chop.proofs.reach_chop.Statement.{statement}
 use Rattle.search_own_chop.proofs.reach_chop.Tie as tie

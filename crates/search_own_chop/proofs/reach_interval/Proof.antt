@@ -3,12 +3,12 @@
 use mathlib.Core.Path.{refl}
 use Prim.Native.Nat.{_-_, _≤_}
 use native.Mathlib.Omega.{arith}
-use Rattle.node_clauses.proofs.Nodes.{halves}
-use Rattle.decode.proofs.Decode.{start-small}
-use Rattle.visits.proofs.Parts.{visited-named}
-use Rattle.fanout.proofs.Cover.{reached}
-use Rattle.fanout.proofs.Chops.{interval-suffices}
-use Rattle.fanout.proofs.Stands.{intervals-stand}
+use Rattle.table_nodes.proofs.Nodes.{halves}
+use Rattle.search_decode.proofs.Decode.{start-small}
+use Rattle.search_visits.proofs.Parts.{visited-named}
+use Rattle.search_fanout.proofs.Cover.{reached}
+use Rattle.search_fanout.proofs.Chops.{interval-suffices}
+use Rattle.search_fanout.proofs.Stands.{intervals-stand}
 use Rattle.search_own_chop.proofs.Places.{half-small, interval-here, before-at, interval-clauses}
 use borrow.Author.Needs.{needs}
 use Rattle.search_own_chop.proofs.reach_interval.Statement.{statement}

@@ -5,11 +5,11 @@ use Prim.Native.Nat.{ℕ, _+_}
 use native.Mathlib.Omega.{arith}
 use Rattle.interval.specs.Places.{countOf}
 use Rattle.interval.proofs.Laws.{counts-at-32}
-use Rattle.blocks.specs.declared.Block.{Block}
-use Rattle.node_clauses.proofs.Nodes.{halves}
-use Rattle.fanout.proofs.Cover.{reached}
-use Rattle.fanout.proofs.Chops.{triple-suffices}
-use Rattle.fanout.proofs.Stands.{triples-stand}
+use Rattle.table_blocks.specs.declared.Block.{Block}
+use Rattle.table_nodes.proofs.Nodes.{halves}
+use Rattle.search_fanout.proofs.Cover.{reached}
+use Rattle.search_fanout.proofs.Chops.{triple-suffices}
+use Rattle.search_fanout.proofs.Stands.{triples-stand}
 use Rattle.search_own_chop.proofs.Places.{triple-here, one-place, one-asks, first-visit, both-visits}
 use borrow.Author.Needs.{needs}
 use Rattle.search_own_chop.proofs.reach_triple.Statement.{statement}

@@ -2,8 +2,8 @@
 -- Visited one after another they are all that the definition lists, and a clash ends the list early.
 use borrow.Author.Needs.{needs}
 use native.Mathlib.Omega.{arith}
-use Rattle.visits.proofs.Parts.{visited-named, visited-stop, visited-then}
-use Rattle.walks.proofs.Places.{place-small, stands}
+use Rattle.search_visits.proofs.Parts.{visited-named, visited-stop, visited-then}
+use Rattle.search_walks.proofs.Places.{place-small, stands}
 use Rattle.search_own_level.proofs.After.{interval-here, longer-placed, above-placed, after-one, after-two, after-three, after-first, after-second}
 use Rattle.search_own_level.proofs.visit_after.Statement.{statement}
 use Rattle.search_own_level.proofs.visit_after.Tie as tie

@@ -3,11 +3,11 @@
 use mathlib.Core.Path.{_≡_, refl}
 use native.Mathlib.Omega.{arith}
 use Rattle.interval.specs.Places.{countOf}
-use Rattle.node_clauses.proofs.Nodes.{halves}
-use Rattle.visits.proofs.Parts.{visited-named}
-use Rattle.fanout.proofs.Cover.{reached, unread}
-use Rattle.fanout.proofs.Chops.{first-suffices, second-suffices}
-use Rattle.fanout.proofs.Stands.{triples-stand}
+use Rattle.table_nodes.proofs.Nodes.{halves}
+use Rattle.search_visits.proofs.Parts.{visited-named}
+use Rattle.search_fanout.proofs.Cover.{reached, unread}
+use Rattle.search_fanout.proofs.Chops.{first-suffices, second-suffices}
+use Rattle.search_fanout.proofs.Stands.{triples-stand}
 use Rattle.search_part_chop.proofs.Chop.{chop-away, stopped, cut-rule, first-named, second-named}
 use borrow.Author.Needs.{needs}
 use Rattle.search_part_chop.proofs.reach_chop.Statement.{statement}

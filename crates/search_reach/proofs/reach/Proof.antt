@@ -1,6 +1,6 @@
 -- Channels come first, then the nodes' variables.
 -- Each has its own function.
-use Rattle.fanout.proofs.Ground.{few-channels}
+use Rattle.search_fanout.proofs.Ground.{few-channels}
 use borrow.Author.Needs.{needs}
 use Rattle.search_reach.proofs.reach.Statement.{statement}
 use Rattle.search_reach.proofs.reach.Tie as tie

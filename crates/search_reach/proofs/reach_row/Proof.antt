@@ -4,13 +4,13 @@ use mathlib.Core.Path.{_≡_, refl, ap}
 use Prim.Native.Nat.{ℕ, _+_}
 use native.Mathlib.Omega.{arith}
 use lib.ListN.{length}
-use Rattle.grammar.specs.Limits.{maxNodes}
-use Rattle.patterns.proofs.Steps.{there}
-use Rattle.sweeps.proofs.Table.{seated}
-use Rattle.fanout.proofs.Ground.{first-le, row-found}
-use Rattle.fanout.proofs.Rows.{in-block, not-own}
-use Rattle.fanout.proofs.Joint.{near-stop, near-part, near-root, near-alone}
-use Rattle.letters.proofs.Rows.{node-at, other-row}
+use Rattle.paper_grammar.specs.Limits.{maxNodes}
+use Rattle.search_patterns.proofs.Steps.{there}
+use Rattle.search_sweeps.proofs.Table.{seated}
+use Rattle.search_fanout.proofs.Ground.{first-le, row-found}
+use Rattle.search_fanout.proofs.Rows.{in-block, not-own}
+use Rattle.search_fanout.proofs.Joint.{near-stop, near-part, near-root, near-alone}
+use Rattle.search_letters.proofs.Rows.{node-at, other-row}
 use borrow.Author.Needs.{needs}
 use Rattle.search_reach.proofs.reach_row.Statement.{statement}
 use Rattle.search_reach.proofs.reach_row.Tie as tie

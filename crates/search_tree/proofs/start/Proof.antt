@@ -3,8 +3,8 @@
 use mathlib.Core.Path.{_∙_}
 use native.Mathlib.Omega.{arith}
 use borrow.Author.Needs.{needs}
-use Rattle.fanout.proofs.Ground.{ground-still}
-use Rattle.attempts.proofs.Values.{zero-trailing}
+use Rattle.search_fanout.proofs.Ground.{ground-still}
+use Rattle.search_attempts.proofs.Values.{zero-trailing}
 use Rattle.search_tree.proofs.Begun.{begun, started-long}
 use Rattle.search_tree.proofs.start.Statement.{statement}
 use Rattle.search_tree.proofs.start.Tie as tie

@@ -5,7 +5,7 @@ use Prim.Native.Nat.{_-_, _≤_}
 use native.Mathlib.Omega.{arith}
 use lib.ListN.{length, length-set}
 use borrow.Author.Needs.{needs}
-use Rattle.grammar.specs.Limits.{maxNodes}
+use Rattle.paper_grammar.specs.Limits.{maxNodes}
 use Rattle.table_layout.specs.Rows.{Seated}
 use Rattle.table_layout.proofs.Rows.{one-seated}
 use Rattle.table_layout.proofs.put_seats.Statement.{statement}

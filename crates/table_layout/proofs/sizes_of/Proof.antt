@@ -1,7 +1,7 @@
 -- M, L and V are each one sum along the nodes; the last sum leaves where each node's block begins
 -- (Measure.antt).
 use Rattle.table_layout.proofs.Measure.{channels-few, measured}
-use Rattle.weights.proofs.Rows.{small}
+use Rattle.table_sizes.proofs.Rows.{small}
 use native.Mathlib.Omega.{arith}
 use borrow.Author.Needs.{needs}
 use Rattle.table_layout.proofs.sizes_of.Statement.{statement}

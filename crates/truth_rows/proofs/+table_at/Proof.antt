@@ -7,12 +7,12 @@ use lib.ListN.{length}
 use Rattle.interval.specs.Limits.{maxSteps, maxCount}
 use Rattle.interval.specs.Places.{countOf}
 use Rattle.interval.proofs.Counts.{count-le}
-use Rattle.grammar.specs.Limits.{maxNodes, maxChannels}
-use Rattle.grammar.specs.declared.Sort.the-variants.{Formula}
-use Rattle.meaning.specs.Words.{WordOf}
-use Rattle.table.specs.Table.{TableOf}
-use Rattle.table.specs.declared.Measure.the-variants.{AtLeast, Throughout}
-use Rattle.table.proofs.Measuring.{measured-word}
+use Rattle.paper_grammar.specs.Limits.{maxNodes, maxChannels}
+use Rattle.paper_grammar.specs.declared.Sort.the-variants.{Formula}
+use Rattle.paper_meaning.specs.Words.{WordOf}
+use Rattle.truth_table.specs.Table.{TableOf}
+use Rattle.truth_table.specs.declared.Measure.the-variants.{AtLeast, Throughout}
+use Rattle.truth_table.proofs.Measuring.{measured-word}
 use Rattle.truth_rows.proofs.Seen.{formula-kind, beyond-negation, Joins}
 use Rattle.truth_rows.proofs.Steps.{Kind, constant-step, negation-step, pair-step, duration-step, throughout-step, chop-step, formula-link, within}
 use borrow.Author.Needs.{needs}
@@ -22,14 +22,14 @@ use borrow.Fn.PlainCycle.{Measures, is, falls, and}
 use Rattle.truth_rows.proofs.table_at.Reads as table-at
 use Rattle.truth_rows.proofs.table_at.Kinds as table-at-kinds
 use Rattle.truth_rows.proofs.+table_at.Lts-table_at as table-at-lts
-use Rattle.chop.proofs.chop_table.Reads as chop-table-reads
+use Rattle.truth_chop.proofs.chop_table.Reads as chop-table-reads
 use Rattle.truth_rows.proofs.word_at.Reads as word-at-reads
-use Rattle.nodes.proofs.second.Reads as second-reads
-use Rattle.rows.proofs.byte_at.Reads as byte-at-reads
-use Rattle.table.proofs.constant_table.Reads as constant-table-reads
-use Rattle.table.proofs.inverse.Reads as inverse-reads
-use Rattle.table.proofs.join.Reads as join-reads
-use Rattle.table.proofs.measured_table.Reads as measured-table-reads
+use Rattle.node_calls.proofs.second.Reads as second-reads
+use Rattle.node_rows.proofs.byte_at.Reads as byte-at-reads
+use Rattle.truth_table.proofs.constant_table.Reads as constant-table-reads
+use Rattle.truth_table.proofs.inverse.Reads as inverse-reads
+use Rattle.truth_table.proofs.join.Reads as join-reads
+use Rattle.truth_table.proofs.measured_table.Reads as measured-table-reads
 use Rattle.truth_rows.proofs.+table_at.{statement}
 use Rattle.truth_rows.proofs.+table_at.Tie.{close}
 

@@ -5,9 +5,9 @@ use mathlib.Core.Bool.{true, false}
 use Prim.Native.Nat.{_-_, ℕ, _<_}
 use lib.ListN.{length}
 use native.Mathlib.Nat.{mod-lt}
-use Rattle.grammar.specs.Limits.{maxNodes}
-use Rattle.grammar.specs.declared.Sort.the-variants.{State}
-use Rattle.meaning.specs.Words.{WordOf}
+use Rattle.paper_grammar.specs.Limits.{maxNodes}
+use Rattle.paper_grammar.specs.declared.Sort.the-variants.{State}
+use Rattle.paper_meaning.specs.Words.{WordOf}
 use Rattle.truth_rows.proofs.Seen.{beyond-negation, Joins}
 use Rattle.truth_rows.proofs.Steps.{Kind, constant-step, negation-step, pair-step, letter-step, state-link, within}
 use borrow.Author.Needs.{needs}
@@ -17,12 +17,12 @@ use borrow.Fn.PlainCycle.{Measures, is, falls, and}
 use Rattle.truth_rows.proofs.word_at.Reads as word-at
 use Rattle.truth_rows.proofs.word_at.Kinds as word-at-kinds
 use Rattle.truth_rows.proofs.+word_at.Lts-word_at as word-at-lts
-use Rattle.nodes.proofs.second.Reads as second-reads
-use Rattle.rows.proofs.byte_at.Reads as byte-at-reads
-use Rattle.word.proofs.constant_word.Reads as constant-word-reads
-use Rattle.word.proofs.inverse_word.Reads as inverse-word-reads
-use Rattle.word.proofs.joined_word.Reads as joined-word-reads
-use Rattle.word.proofs.word_of.Reads as word-of-reads
+use Rattle.node_calls.proofs.second.Reads as second-reads
+use Rattle.node_rows.proofs.byte_at.Reads as byte-at-reads
+use Rattle.truth_word.proofs.constant_word.Reads as constant-word-reads
+use Rattle.truth_word.proofs.inverse_word.Reads as inverse-word-reads
+use Rattle.truth_word.proofs.joined_word.Reads as joined-word-reads
+use Rattle.truth_word.proofs.word_of.Reads as word-of-reads
 use Rattle.truth_rows.proofs.+word_at.{statement}
 use Rattle.truth_rows.proofs.+word_at.Tie.{close}
 

@@ -4,7 +4,7 @@ use borrow.Rule.Slice.PartMut.{mid-len}
 use lib.ListN.{set}
 use Prim.Native.Nat.{_+_, ℕ, _-_, _<_}
 use mathlib.Core.Path.{subst, _≡_, refl, sym, _∙_}
-use Rattle.table.proofs.Rows.{row-starts}
+use Rattle.truth_table.proofs.Rows.{row-starts}
 use Rattle.truth_skips.proofs.Skip.{Skipping, skip-begun, row-before, skip-code, skip-done}
 use borrow.Author.Needs.{needs}
 use native.Mathlib.Omega.{arith}

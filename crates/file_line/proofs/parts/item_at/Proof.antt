@@ -1,7 +1,7 @@
 -- `item_at` reads a number and a blank by places, and the number by itself:
 -- where the read is good, that number is the item's, since a blank follows it.
 use mathlib.Core.Path.{ap, _∙_}
-use Rattle.reader.specs.Parts.{testAt, isSign, onGood}
+use Rattle.formula_reader.specs.Parts.{testAt, isSign, onGood}
 use Rattle.file_line.proofs.Reading.{item-good, item-bad}
 use borrow.Author.Needs.{needs}
 use Rattle.file_line.proofs.parts.item_at.Statement.{statement}

@@ -1,0 +1,101 @@
+// Places decoded: an interval by its place from a table by value, a triple by where the triples of each start begin and by that table.
+use interval::Interval;
+use interval::Triple;
+ghost use mathlib.Core.Path.{_≡_};
+ghost use Prim.Native.Nat.{suc, _+_, _≤_, _<_};
+ghost use lib.ListN.{length, getD};
+ghost use Rattle.moments.specs.Moments.{old, new};
+ghost use Rattle.interval.specs.Limits.{maxSteps, IntervalOf};
+ghost use Rattle.interval.specs.Places.{countOf, tripleCountOf, placeOf};
+ghost use Rattle.search_decode.specs.Decode.{InPlace, TripleIn, IntervalsTo, StartsTo, Tables, LastFrom};
+
+// Of numbers that grow the last that is not beyond u.
+pub fn last_from(table: &[u32], count: usize, u: u32) -> usize
+    requires { ⌜ (0 < count) × (count ≤ length (now table)) × (getD (now table) 0 0 ≤ u) ⌝ }
+    ensures { λ r. ⌜ LastFrom (old table) count u r ⌝ }
+{
+    let mut low = 0;
+    let mut high = count;
+    while low + 1 < high {
+        let middle = low + (high - low) / 2;
+        if table[middle] <= u {
+            low = middle;
+        } else {
+            high = middle;
+        }
+    }
+    low
+}
+
+// The interval in the next place.
+fn next(v: Interval, k: usize) -> Interval
+    requires { ⌜ IntervalOf k v × (k ≤ maxSteps) ⌝ }
+    ensures { λ r. ⌜ (placeOf k v + 1 < countOf k → InPlace k (placeOf k v + 1) r) ⌝ }
+{
+    if v.j < k {
+        return Interval { i: v.i, j: v.j + 1 };
+    }
+    Interval {
+        i: v.i + 1,
+        j: v.i + 1,
+    }
+}
+
+// The intervals of k steps by their places, two bytes each.
+pub fn put_intervals(table: &mut [u16], k: usize)
+    requires { ⌜ (k ≤ maxSteps) × (countOf k ≤ length (now table)) ⌝ }
+    ensures { λ _. ⌜ IntervalsTo k (new table) (countOf k) ⌝ }
+{
+    let count = Interval::count(k);
+    let mut v = Interval { i: 0, j: 0 };
+    for x in 0..count {
+        table[x] = (v.i * 128 + v.j) as u16;
+        v = next(v, k);
+    }
+}
+
+// Where the triples of each start begin.
+pub fn put_starts(table: &mut [u32], k: usize)
+    requires { ⌜ (k ≤ maxSteps) × (suc k ≤ length (now table)) ⌝ }
+    ensures { λ _. ⌜ StartsTo k (new table) (suc k) ⌝ }
+{
+    let mut at = 0;
+    for i in 0..k + 1 {
+        table[i] = at;
+        at += Interval::count(k - i) as u32;
+    }
+}
+
+fn wide(x: u16) -> usize
+    ensures { λ r. ⌜ r ≡ x ⌝ }
+{
+    x as usize
+}
+
+// The interval in a place.
+pub fn interval_at(intervals: &[u16], k: usize, p: usize) -> Interval
+    requires { ⌜ (p < countOf k) × (countOf k ≤ length (now intervals)) × IntervalsTo k (now intervals) (countOf k) ⌝ }
+    ensures { λ r. ⌜ InPlace k p r ⌝ }
+{
+    let t = wide(intervals[p]);
+    Interval {
+        i: t / 128,
+        j: t % 128,
+    }
+}
+
+// The triple in a place. Those of one start stand by length and cut as the intervals stand, from the last to the first, by what is
+// left after start and end.
+pub fn triple_at(intervals: &[u16], starts: &[u32], k: usize, x: u32) -> Triple
+    requires { ⌜ (k ≤ maxSteps) × (x < tripleCountOf k) × Tables k (now intervals) (now starts) ⌝ }
+    ensures { λ r. ⌜ TripleIn k x r ⌝ }
+{
+    let i = last_from(starts, k + 1, x);
+    let after = (x - starts[i]) as usize;
+    let v = interval_at(intervals, k, Interval::count(k) - 1 - after);
+    Triple {
+        i,
+        m: i + (k - v.j),
+        j: i + (k - v.i),
+    }
+}
