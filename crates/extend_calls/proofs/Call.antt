@@ -25,12 +25,11 @@ use Rattle.node_calls.specs.declared.Tabled.{Tabled}
 use Rattle.paper_meaning.specs.Recording.{askRecording, askBytes}
 use Rattle.node_calls.proofs.Called as first
 use Rattle.paper_circuit.specs.Circuit.{variablesOf}
-use Rattle.table_literals.proofs.Written.{sets-append}
+use Rattle.lists.proofs.Stored.{sets-append, stored-over}
 use Rattle.moments.specs.Moments.{over}
 use Rattle.table_layout.specs.declared.Sizes.{Sizes}
 use Rattle.refusal.specs.declared.Written.the-variants.{Done}
 use Rattle.table_layout.specs.Rows.{Measured}
-use Rattle.table_calls.proofs.Stored.{stored-over}
 use Rattle.table_layout.proofs.Known.{variables-known}
 use Rattle.paper_assignments.specs.Extension.{channelValues, nodeValues, extensionOf}
 use Rattle.paper_assignments.specs.Calls.{askPlaces, Extended, notExtended, extended}

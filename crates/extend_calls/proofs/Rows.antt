@@ -46,7 +46,7 @@ use Rattle.paper_assignments.proofs.Values.{pointAt, block-length, values-appen
 use Rattle.extend_blocks.specs.Values.{valuesBy, Fits}
 use Rattle.extend_nodes.specs.Parts.{partPoints, TruthFrom, Makes, BlockIn, BlockPut}
 use Rattle.extend_calls.specs.Rows.{Seated}
-use Rattle.extend_nodes.proofs.Sets.{stored-before, stored-at}
+use Rattle.lists.proofs.Stored.{stored-before, stored-at}
 use Rattle.extend_nodes.proofs.Blocks.{TruthIs, PartsAre, block-values}
 
 module _ (C k : ℕ) (recording : List ℕ) (f : Tree Formula) (L : Letters maxChannels f) (firsts : List ℕ)

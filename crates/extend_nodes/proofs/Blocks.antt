@@ -39,7 +39,7 @@ use Rattle.extend_triples.specs.Cuts.{onPlaces}
 use Rattle.extend_blocks.specs.Values.{valuesBy, Fits}
 use Rattle.truth_table.specs.Table.{highAt}
 use Rattle.extend_nodes.specs.Parts.{partPoints, Makes}
-use Rattle.extend_nodes.proofs.Sets.{part-stored}
+use Rattle.lists.proofs.Stored.{part-stored}
 
 -- ---- the same at every point, the same values
 

@@ -8,7 +8,7 @@ use native.Mathlib.Decide.{decLt}
 use native.Mathlib.Omega.{arith}
 use lib.Dec.{eqb}
 use lib.ListN.{length, getD, List·getD-eq-default}
-use Rattle.interval.proofs.Fill.{Upto}
+use Rattle.lists.proofs.Fill.{Upto}
 use Rattle.paper_meaning.specs.Meaning.{bit}
 use Rattle.paper_meaning.proofs.Words.{high-bit}
 use Rattle.truth_table.specs.Table.{highAt, Binary}

@@ -16,7 +16,7 @@ use Rattle.moments.specs.Moments.{over}
 use Rattle.table_layout.specs.declared.Sizes.{Sizes}
 use Rattle.refusal.specs.declared.Written.the-variants.{Done}
 use Rattle.table_calls.proofs.Call.{room-enough}
-use Rattle.table_calls.proofs.Stored.{stored-over}
+use Rattle.lists.proofs.Stored.{stored-over}
 use Rattle.file_numbers.specs.File.{fileOf, sizesAt, variablesAt, marksAt}
 use Rattle.file_questions.specs.Questions.{askFileRoom, arrayQuestions, fileQuestions}
 use Rattle.file_calls.specs.Calls.{FileAfter, fileRefused, fileWritten, fileRead}

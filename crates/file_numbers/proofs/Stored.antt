@@ -7,7 +7,8 @@ use native.Mathlib.Omega.{arith}
 use lib.ListN.{length, getD, take, drop, length-append, length-drop}
 use lib.Seq.{sets, length-sets, take-all}
 use Rattle.lists.proofs.Listing.{length-tab, getD-tab}
-use Rattle.table_literals.proofs.Written.{sets-append, flat-length}
+use Rattle.lists.proofs.Stored.{sets-append}
+use Rattle.table_literals.proofs.Written.{flat-length}
 use Rattle.table_layout.specs.declared.Sizes.{Sizes}
 use Rattle.file_numbers.specs.Held.{Held}
 use Rattle.file_numbers.specs.File.{byteOf, bytesOf, fileOf, numberAt, sizesAt, variablesAt, marksAt}

@@ -9,5 +9,4 @@
 pub mod Shape
 pub mod Counts
 pub mod Laws
-pub mod Fill
 pub mod Gives

@@ -1,4 +1,5 @@
 -- A node's kind tells the form of its tree: each of the nine forms has a number of its own, to which its sort adds 0 or 16.
+-- So what is told by kind is told by form, and a kind that is known leaves one form.
 use mathlib.Core.Path.{_≡_, refl, subst}
 use mathlib.Core.Bool.{true, false}
 use Prim.Native.Nat.{ℕ, _+_, _<_}

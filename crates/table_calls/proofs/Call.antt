@@ -33,7 +33,7 @@ use Rattle.table_calls.specs.Table.{After, sizesOf, sizesIn, askRoom, re
 use Rattle.moments.specs.Moments.{over}
 use Rattle.table_calls.specs.Rows.{tabledBy}
 use Rattle.refusal.specs.declared.Written.the-variants.{Done}
-use Rattle.table_calls.proofs.Stored.{stored-over}
+use Rattle.lists.proofs.Stored.{stored-over}
 
 -- ---- question 18, answered with yes
 

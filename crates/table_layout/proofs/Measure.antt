@@ -7,7 +7,7 @@ use native.Mathlib.Nat.{mul-le-mul}
 use native.Mathlib.Omega.{arith}
 use lib.ListN.{replicate}
 use Rattle.interval.specs.Limits.{maxSteps}
-use Rattle.interval.proofs.Fill.{zeros}
+use Rattle.lists.proofs.Fill.{zeros}
 use Rattle.paper_grammar.specs.Limits.{maxNodes, maxChannels}
 use Rattle.table_sizes.specs.Weights.{variableWeight, clauseWeight, literalWeight, weightTo, Summed}
 use Rattle.table_sizes.specs.declared.Weight.{Weight}

@@ -2,7 +2,7 @@
 -- that writes f 0, f 1, .. has written the first i of them after i turns.
 use mathlib.Core.Path.{_≡_, refl, sym, ap, _∙_, subst}
 use mathlib.Core.List.{List, [], _∷_, _++_, map, map-append, append-nil, flatMap}
-use Prim.Native.Nat.{ℕ, suc, _+_, _*_, _≤_, _<_}
+use Prim.Native.Nat.{ℕ, _+_, _*_, _≤_, _<_}
 use native.Mathlib.Nat.{zero-mul, suc-mul}
 use native.Mathlib.Numerals.{add-one}
 use native.Mathlib.Omega.{arith}
@@ -12,13 +12,8 @@ use Rattle.lists.specs.Listing.{rows}
 use Rattle.lists.proofs.Listing.{rows-le, rows-next}
 use Rattle.lists.proofs.Lists.{flat-append}
 use Rattle.paper_clauses.specs.Entries.{Entry, entry, variablesIn, marksIn}
+use Rattle.lists.proofs.Stored.{sets-append}
 use Rattle.table_literals.specs.Written.{Room, Wrote, Sofar}
-
-pub sets-append : (s : List ℕ) (i : ℕ) (A B : List ℕ) → sets s i (A ++ B) ≡ sets (sets s i A) (i + length A) B
-sets-append s i [] B = let e : i ≡ i + 0 = omega arith in ap (λ (j : ℕ). sets s j B) e
-sets-append s i (a ∷ A) B =
-    let e : suc i + length A ≡ i + suc (length A) = omega arith in
-    sets-append _ (suc i) A B ∙ ap (λ (j : ℕ). sets (sets s i (a ∷ A)) j B) e
 
 -- ---- lists that all have w entries, joined
 

@@ -13,7 +13,7 @@ use borrow.Author.Tests.{lt-ltb, le-ltb}
 use Rattle.lists.specs.Listing.{sum}
 use Rattle.interval.specs.Places.{countOf}
 use Rattle.interval.specs.Limits.{maxSteps, maxCount}
-use Rattle.interval.proofs.Fill.{Upto}
+use Rattle.lists.proofs.Fill.{Upto}
 use Rattle.lists.proofs.Listing.{sum-le}
 use Rattle.paper_grammar.specs.Limits.{maxNodes}
 use Rattle.paper_grammar.specs.Trees.{and, or, chop, Tree, constant, letter, negation, pair, duration, throughout}

@@ -13,7 +13,7 @@ use Rattle.interval.specs.declared.Interval.{Interval}
 use Rattle.interval.proofs.Laws.{intervals-numbered}
 use Rattle.truth_table.specs.Table.{TableOf, joinedByte}
 use Rattle.truth_word.specs.Word.{joined}
-use Rattle.interval.proofs.Fill.{Upto}
+use Rattle.lists.proofs.Fill.{Upto}
 
 -- bytes that are bits join as truths do
 pub inverse-bit : (x : Bool) → bitXor (bit x) 1 ≡ bit (not x)

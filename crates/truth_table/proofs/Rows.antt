@@ -19,7 +19,7 @@ use Rattle.interval.specs.Places.{countOf, placeOf}
 use Rattle.interval.specs.declared.Interval.{Interval}
 use Rattle.lists.proofs.Listing.{sum-lt}
 use Rattle.interval.proofs.Counts.{intervals-count, interval-place}
-use Rattle.interval.proofs.Fill.{zeros}
+use Rattle.lists.proofs.Fill.{zeros}
 use Rattle.paper_meaning.specs.Meaning.{bit}
 use Rattle.truth_table.specs.Table.{TableOf, RowOf, startOf}
 

@@ -8,7 +8,7 @@ use native.Mathlib.Omega.{arith}
 use lib.ListN.{length, getD}
 use borrow.Author.Needs.{needs}
 use Rattle.interval.specs.Limits.{maxCount}
-use Rattle.interval.proofs.Fill.{Upto, begun, turn, zeros}
+use Rattle.lists.proofs.Fill.{Upto, begun, turn, zeros}
 use Rattle.paper_meaning.specs.Meaning.{bit}
 use Rattle.truth_table.specs.Table.{highAt}
 use Rattle.extend_truths.proofs.Taken.{taken}

@@ -1,7 +1,7 @@
 -- The five sizes are stored from the first place on
 -- (Measure.antt).
 use Rattle.table_calls.specs.Table.{fiveOf}
-use Rattle.table_calls.proofs.Stored.{stored-over}
+use Rattle.lists.proofs.Stored.{stored-over}
 use borrow.Author.Needs.{needs}
 use Rattle.table_calls.proofs.put_sizes.Statement.{statement}
 use Rattle.table_calls.proofs.put_sizes.Tie as tie

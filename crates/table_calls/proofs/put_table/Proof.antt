@@ -1,7 +1,7 @@
 -- The nodes' places, then the root's:
 -- the truth of row 0 on [0, k], whose place is k (Rows.antt).
 use Rattle.table_literals.proofs.Written.{room-first}
-use Rattle.table_calls.proofs.Stored.{root-room, root-wrote}
+use Rattle.table_calls.proofs.Root.{root-room, root-wrote}
 use mathlib.Core.Path.{refl}
 use native.Mathlib.Omega.{arith}
 use borrow.Author.Needs.{needs}

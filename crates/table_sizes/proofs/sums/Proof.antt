@@ -5,7 +5,7 @@ use mathlib.Core.Path.{_≡_, refl}
 use native.Mathlib.Omega.{arith}
 use lib.ListN.{getD}
 use borrow.Author.Needs.{needs}
-use Rattle.interval.proofs.Fill.{Upto, begun, turn}
+use Rattle.lists.proofs.Fill.{Upto, begun, turn}
 use Rattle.paper_grammar.specs.Limits.{maxNodes}
 use Rattle.table_sizes.specs.Weights.{weightTo, maxWeight}
 use Rattle.table_sizes.proofs.Rows.{total-first, total-next, summed}

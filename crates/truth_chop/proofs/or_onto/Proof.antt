@@ -1,6 +1,6 @@
 -- `or_onto` changes one byte a turn, at its own place,
 -- which no earlier turn has touched.
-use Rattle.interval.proofs.Fill.{Upto, begun, turn}
+use Rattle.lists.proofs.Fill.{Upto, begun, turn}
 use borrow.Author.Needs.{needs}
 use native.Mathlib.Omega.{arith}
 use lib.ListN.{length, getD}

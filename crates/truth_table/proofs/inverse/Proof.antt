@@ -7,7 +7,7 @@ use lib.Bits.{bitXor}
 use lib.ListN.{length, getD}
 use borrow.Author.Needs.{needs}
 use Rattle.interval.specs.Places.{countOf}
-use Rattle.interval.proofs.Fill.{Upto, begun, turn}
+use Rattle.lists.proofs.Fill.{Upto, begun, turn}
 use Rattle.truth_table.proofs.Joined.{inverse-tables}
 use Rattle.truth_table.proofs.inverse.Statement.{statement}
 use Rattle.truth_table.proofs.inverse.Tie as tie

@@ -2,7 +2,7 @@
 -- where the parts' tables have the truths that are joined.
 use Rattle.truth_table.proofs.Joined.{joined-tables}
 use Rattle.truth_table.specs.Table.{joinedByte}
-use Rattle.interval.proofs.Fill.{Upto, begun, turn}
+use Rattle.lists.proofs.Fill.{Upto, begun, turn}
 use Rattle.interval.specs.Places.{countOf}
 use borrow.Author.Needs.{needs}
 use native.Mathlib.Omega.{arith}

@@ -1,6 +1,6 @@
 -- `measured_row` fills one place a turn, the interval of d steps from i on;
 -- the row ends at the most steps, so that every window fits the word.
-use Rattle.interval.proofs.Fill.{Upto, begun, turn}
+use Rattle.lists.proofs.Fill.{Upto, begun, turn}
 use Rattle.truth_table.specs.Table.{measured}
 use Rattle.paper_meaning.specs.Meaning.{bit, bitAt}
 use borrow.Author.Needs.{needs}

@@ -1,7 +1,7 @@
 -- `lows` stores at each n the word of the instants before n,
 -- one place a turn.
 use lib.ListN.{getD}
-use Rattle.interval.proofs.Fill.{Upto, begun, turn}
+use Rattle.lists.proofs.Fill.{Upto, begun, turn}
 use Rattle.interval.specs.Limits.{maxSteps}
 use borrow.Author.Needs.{needs}
 use native.Mathlib.Omega.{arith}

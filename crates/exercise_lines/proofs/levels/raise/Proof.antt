@@ -5,7 +5,7 @@ use Prim.Native.Nat.{_-_, _≤_}
 use native.Mathlib.Omega.{arith}
 use lib.ListN.{length, getD}
 use borrow.Author.Needs.{needs}
-use Rattle.interval.proofs.Fill.{Upto, begun, turn}
+use Rattle.lists.proofs.Fill.{Upto, begun, turn}
 use Rattle.exercise_lines.specs.Levels.{raisedBy}
 use Rattle.exercise_lines.proofs.levels.raise.Statement.{statement}
 use Rattle.exercise_lines.proofs.levels.raise.Tie as tie

@@ -1,24 +1,14 @@
--- What is stored from the first place on stands over what was there; after the nodes' places come the root's, the truth of row 0 on
--- [0, k].
-use mathlib.Core.Path.{_≡_, ap, _∙_}
+-- After the nodes' places come the root's, the truth of row 0 on [0, k]:
+-- writing them in turn is writing both at once.
+use mathlib.Core.Path.{_≡_, ap}
 use mathlib.Core.List.{List, _++_}
-use Prim.Native.Nat.{ℕ, _+_, _≤_}
-use native.Mathlib.Omega.{arith}
-use lib.ListN.{length, drop}
-use lib.Seq.{sets, sets-eq}
+use Prim.Native.Nat.{ℕ, _+_}
 use Rattle.lists.specs.Listing.{rows}
 use Rattle.paper_clauses.specs.Entries.{Entry}
 use Rattle.table_literals.specs.Written.{Room, Wrote, runOf}
 use Rattle.table_literals.proofs.Written.{and-then, named, room-next}
-use Rattle.moments.specs.Moments.{over}
 
-pub stored-over : (new old : List ℕ) {s : List ℕ} → s ≡ sets old 0 new → length new ≤ length old → s ≡ over new old
-stored-over new old e h =
-    let z : 0 + length new ≡ length new = omega arith in
-    e ∙ sets-eq new old 0 (omega arith) ∙ ap (λ (n : ℕ). new ++ drop n old) z
-
--- ---- the nodes' places, and then the root's, its variable being the one that the code has found
-
+-- the nodes' places, and then the root's, its variable being the one that the code has found
 module _ (F : List Entry) (k : ℕ) {w s : ℕ} (e : w ≡ s) where
   root-same : F ++ rows 1 (runOf (w + k) 3) ≡ F ++ rows 1 (runOf (s + k) 3)
   root-same = ap (λ (w : ℕ). F ++ rows 1 (runOf (w + k) 3)) e

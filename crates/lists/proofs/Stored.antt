@@ -7,7 +7,13 @@ use native.Mathlib.Omega.{arith}
 use lib.ListN.{length, getD, take, drop, set, length-append, List·getD-append}
 use lib.Seq.{sets, sets-eq, set-comm, drop-drop, getD-append-add, length-take-le}
 use borrow.Rule.Slice.PartMut.{putMid}
-use Rattle.table_literals.proofs.Written.{sets-append}
+use Rattle.moments.specs.Moments.{over}
+
+pub sets-append : (s : List ℕ) (i : ℕ) (A B : List ℕ) → sets s i (A ++ B) ≡ sets (sets s i A) (i + length A) B
+sets-append s i [] B = let e : i ≡ i + 0 = omega arith in ap (λ (j : ℕ). sets s j B) e
+sets-append s i (a ∷ A) B =
+    let e : suc i + length A ≡ i + suc (length A) = omega arith in
+    sets-append _ (suc i) A B ∙ ap (λ (j : ℕ). sets (sets s i (a ∷ A)) j B) e
 
 set-under : (s B : List ℕ) (i j v : ℕ) → i < j → set (sets s j B) i v ≡ sets (set s i v) j B
 set-under s [] i j v h = refl
@@ -37,3 +43,9 @@ part-stored a n xs ys e h =
     ap (λ (r : List ℕ). take a xs ++ (ys ++ r)) (drop-drop n a xs ∙ ap (λ (m : ℕ). drop (a + m) xs) (sym e))
     ∙ sym (append-assoc (take a xs) ys (drop (a + length ys) xs))
     ∙ sym (sets-eq ys xs a (omega (arith, e)))
+
+-- what is stored from the first place on stands over what was there
+pub stored-over : (new old : List ℕ) {s : List ℕ} → s ≡ sets old 0 new → length new ≤ length old → s ≡ over new old
+stored-over new old e h =
+    let z : 0 + length new ≡ length new = omega arith in
+    e ∙ sets-eq new old 0 (omega arith) ∙ ap (λ (n : ℕ). new ++ drop n old) z
