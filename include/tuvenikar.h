@@ -158,7 +158,7 @@ uint64_t tuv_table(const uint8_t *text, size_t text_length, uint32_t c, uint32_t
  * Written: on TUV_WRITTEN the v bytes of the assignment, also where the formula does not hold: byte x is variable x + 1, 0 or 1.
  *          For `#a>=1`, c 1, k 1: 0, 1, 1, 1, 0, 0, 0, 0 for recording 0 and 1, 1, 1, 1, 0, 1, 0, 1 for recording 1.
  * Answers: TUV_WRITTEN, a refusal 1 to 7, 10, 11 or 18.
- * Stack:   51,000 bytes for any input: 176 for each level of brackets and signs (measured: 50,560 for 255 `(`; 16,768 for the
+ * Stack:   51,000 bytes for any input: 176 for each level of brackets and signs (measured: 50,016 for 255 `(`; 16,224 for the
  *          deepest text that is accepted).
  */
 uint64_t tuv_extend(const uint8_t *text, size_t text_length, uint32_t c, uint32_t k, const uint8_t *recording,

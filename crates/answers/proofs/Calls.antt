@@ -38,7 +38,8 @@ use Rattle.paper_search.proofs.Ends.{End, finds, lacks, spends, end}
 use Rattle.answers.specs.Answers.{Told, packVerdict, verdictBy, packWritten, writtenBy, packChecked, checkedBy, packAnswer, answerBy, packLocated, locatedBy}
 use Rattle.answers.specs.Numbers.{nodeNumbers, evaluationNumbers, tableNumbers, searchNumbers, extensionNumbers, proposalNumbers, fileNumbers}
 use Rattle.answers.proofs.Asks.{node-asks, evaluation-asks, table-asks, search-asks, extension-asks, proposal-asks, writer-asks, reader-asks}
-use Rattle.answers.proofs.Told.{verdict-refused, written-refused, checked-refused, answer-refused, located-refused, verdict-told, done-told, accepted-told, found-told, none-told, spent-told, part-told}
+use Rattle.answers.proofs.Told.{verdict-refused, written-refused, checked-refused, answer-refused, located-refused, verdict-told, done-told}
+use Rattle.answers.proofs.Told.{accepted-told, found-told, none-told, spent-told, part-told}
 
 -- each number is below 64
 abbrev eachBelow : List ℕ → Bool

@@ -14,7 +14,9 @@ use Rattle.refusal.specs.declared.Written.the-variants as written
 use Rattle.paper_assignments.specs.declared.Checked.the-variants as checked
 use Rattle.paper_search.specs.declared.Answer.the-variants as answer
 use Rattle.node_calls.specs.declared.Located.the-variants as located
-use Rattle.answers.specs.Answers.{tuvNo, tuvYes, tuvWritten, tuvAccepted, tuvFound, tuvNone, tuvSpent, tuvNodeText, packed, halves, Told, packVerdict, verdictBy, packWritten, writtenBy, packChecked, checkedBy, packAnswer, answerBy, packLocated, locatedBy}
+use Rattle.answers.specs.Answers.{tuvNo, tuvYes, tuvWritten, tuvAccepted, tuvFound, tuvNone, tuvSpent, tuvNodeText, packed, halves, Told}
+use Rattle.answers.specs.Answers.{packVerdict, verdictBy, packWritten, writtenBy, packChecked, checkedBy, packAnswer, answerBy, packLocated}
+use Rattle.answers.specs.Answers.{locatedBy}
 
 -- a number below m, and m times another
 low-part : (m x y : ℕ) → 0 < m → x < m → ((x + m * y) % m ≡ x) × ((x + m * y) / m ≡ y)

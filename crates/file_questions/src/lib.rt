@@ -8,7 +8,8 @@ ghost use Rattle.moments.specs.Moments.{old};
 ghost use Rattle.refusal.specs.Asked.{asked};
 ghost use Rattle.file_numbers.specs.File.{variablesAt};
 ghost use Rattle.file_numbers.specs.Held.{Held};
-ghost use Rattle.file_questions.specs.Questions.{allPass, howMany, inLimits, isVariable, isMark, closes, endsClosed, askFile, askArrays, askEntries, askClosed, askFileRoom, entryQuestions, arrayQuestions, fileQuestions};
+ghost use Rattle.file_questions.specs.Questions.{allPass, howMany, inLimits, isVariable, isMark, closes, endsClosed, askFile, askArrays};
+ghost use Rattle.file_questions.specs.Questions.{askEntries, askClosed, askFileRoom, entryQuestions, arrayQuestions, fileQuestions};
 ghost use Rattle.file_questions.specs.Fit.{OfVariables};
 
 // C and k as in questions 1 and 2.

@@ -12,7 +12,9 @@ use lib.Dec.{eqb}
 use lib.ListN.{length, getD, drop, length-drop, drop-of-length-le}
 use lib.Seq.{drop-cons, drop-drop}
 use Rattle.paper_grammar.specs.Trees.{Link, and, or, chop, Tree, negation, pair, duration, throughout, constant}
-use Rattle.paper_grammar.specs.Reader.{Around, whole, negated, left, right, measured, entered, Reading, part, after, above, equals, digits, go, stop, stops, isDigit, isLetter, isJoint, joins, leadOf, leafOf, begin, ownJoint, jointOf, join, next, follow, endAfter, atEnd, onward, run, read, placed}
+use Rattle.paper_grammar.specs.Reader.{Around, whole, negated, left, right, measured, entered, Reading, part, after, above, equals, digits, go, stop}
+use Rattle.paper_grammar.specs.Reader.{stops, isDigit, isLetter, isJoint, joins, leadOf, leafOf, begin, ownJoint, jointOf, join, next, follow}
+use Rattle.paper_grammar.specs.Reader.{endAfter, atEnd, onward, run, read, placed}
 use Rattle.formula_reader.specs.Parts.{resume, Within, PartAt, restOf, endOf, parseText, parseOf, testAt, isSign, digitCount, valueFrom, numberAt, onGood}
 use Rattle.paper_grammar.specs.declared.Sort.{Sort}
 use Rattle.paper_grammar.specs.declared.Sort.the-variants.{State, Formula}

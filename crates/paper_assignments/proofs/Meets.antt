@@ -26,11 +26,13 @@ use Rattle.paper_grammar.proofs.EachNode.{OnParts, Each, LettersNode}
 use Rattle.paper_meaning.specs.Meaning.{bit, channelAt, highs, any, lasts, fills, chops, truth}
 use Rattle.paper_meaning.proofs.Words.{high-bit}
 use Rattle.paper_circuit.specs.Gates.{Assignment, valueOf}
-use Rattle.paper_circuit.specs.Circuit.{channelOf, pointsOf, widthOf, blocksOf, truthOf, Definition, shorter, throughoutGate, levelOf, levelGate, tripleGate, chopGate, Seats, seatsOf, ownBy, ownOf, definedFrom}
+use Rattle.paper_circuit.specs.Circuit.{channelOf, pointsOf, widthOf, blocksOf, truthOf, Definition, shorter, throughoutGate, levelOf, levelGate}
+use Rattle.paper_circuit.specs.Circuit.{tripleGate, chopGate, Seats, seatsOf, ownBy, ownOf, definedFrom}
 use Rattle.paper_circuit.proofs.Blocks.{partsOf, truth-lt}
 use Rattle.paper_circuit.proofs.Inputs.{intervals-in, triples-in, row-lt}
 use Rattle.paper_assignments.specs.Extension.{truthValues, cuts, cutValues, blockValues, nodeValues}
-use Rattle.paper_assignments.proofs.Values.{mapped-length, mapped-at, alike-length, alike-at, pointAt, truth-length, truth-at, block-length, values-append, values-length, values-parts, truth-stands}
+use Rattle.paper_assignments.proofs.Values.{mapped-length, mapped-at, alike-length, alike-at, pointAt, truth-length, truth-at, block-length}
+use Rattle.paper_assignments.proofs.Values.{values-append, values-length, values-parts, truth-stands}
 use Rattle.paper_assignments.proofs.Longer.{fills-empty, fills-longer, lasts-empty, lasts-longer, some-along}
 
 -- the variable has its gate's value

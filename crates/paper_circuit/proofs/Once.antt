@@ -17,7 +17,8 @@ use Rattle.paper_grammar.specs.Trees.{and, or, chop, Tree, constant, letter, ne
 use Rattle.paper_grammar.specs.declared.Sort.{Sort}
 use Rattle.lists.proofs.Tests.{cond-elim}
 use Rattle.paper_grammar.specs.Nodes.{Node}
-use Rattle.paper_circuit.specs.Circuit.{Definition, define, alike, pointsOf, widthOf, blocksOf, variablesOf, levelGate, tripleGate, chopGate, throughoutGate, Seats, ownBy, ownOf, definedFrom, definitionsOf}
+use Rattle.paper_circuit.specs.Circuit.{Definition, define, alike, pointsOf, widthOf, blocksOf, variablesOf, levelGate, tripleGate, chopGate}
+use Rattle.paper_circuit.specs.Circuit.{throughoutGate, Seats, ownBy, ownOf, definedFrom, definitionsOf}
 use Rattle.paper_circuit.specs.declared.Gate.{Gate}
 use Rattle.paper_circuit.proofs.Blocks.{From}
 

@@ -8,7 +8,9 @@ use native.Mathlib.Omega.{arith}
 use lib.Dec.{eqb}
 use borrow.Author.Tests.{eqb-true, eqb-false}
 use Rattle.paper_grammar.specs.Trees.{and, Tree, constant, negation, pair, duration, throughout, Letters, decimal, linkByte, constantByte, write, textOf}
-use Rattle.paper_grammar.specs.Reader.{Around, whole, negated, left, right, measured, entered, Reading, part, after, above, equals, digits, Next, go, stop, Ending, reads, stops, isLetter, isDigit, ownLead, leadOf, leafOf, begin, ownJoint, jointOf, join, follow, next, endAfter, atEnd, onward, run}
+use Rattle.paper_grammar.specs.Reader.{Around, whole, negated, left, right, measured, entered, Reading, part, after, above, equals, digits}
+use Rattle.paper_grammar.specs.Reader.{Next, go, stop, Ending, reads, stops, isLetter, isDigit, ownLead, leadOf, leafOf, begin, ownJoint}
+use Rattle.paper_grammar.specs.Reader.{jointOf, join, follow, next, endAfter, atEnd, onward, run}
 use Rattle.paper_grammar.specs.declared.Sort.{Sort}
 use Rattle.paper_grammar.specs.declared.Sort.the-variants.{State, Formula}
 use Rattle.paper_grammar.specs.declared.Lead.{Lead}

@@ -6,7 +6,8 @@ use mathlib.Core.List.{List, [], _∷_, _++_, append-assoc}
 use Prim.Native.Nat.{ℕ, zero, suc, _+_, _*_, _-_, _<_}
 use native.Mathlib.Omega.{arith}
 use Rattle.paper_grammar.specs.Trees.{Link, and, or, chop, Tree, constant, letter, negation, pair, duration, throughout, Letters, decimal, linkByte, constantByte, write, textOf}
-use Rattle.paper_grammar.specs.Reader.{Around, whole, negated, left, right, measured, entered, Reading, part, after, above, equals, digits, go, next, join, jointOf, follow, endAfter, onward, run, parsed, placed, read}
+use Rattle.paper_grammar.specs.Reader.{Around, whole, negated, left, right, measured, entered, Reading, part, after, above, equals, digits}
+use Rattle.paper_grammar.specs.Reader.{go, next, join, jointOf, follow, endAfter, onward, run, parsed, placed, read}
 use Rattle.paper_grammar.specs.declared.Sort.{Sort}
 use Rattle.paper_grammar.specs.declared.Sort.the-variants.{State, Formula}
 use Rattle.paper_grammar.proofs.Decimal.{decimal-digit, decimal-more, by-digits}

@@ -8,7 +8,7 @@ ghost use lib.ListN.{length, getD};
 ghost use Rattle.moments.specs.Moments.{old, new};
 ghost use Rattle.paper_clauses.specs.Entries.{entry, literalOf};
 ghost use Rattle.search_decode.specs.Decode.{Tables};
-ghost use Rattle.search_sweeps.specs.Sweeps.{tableBy};
+ghost use Rattle.search_clauses.specs.Clauses.{tableBy};
 ghost use Rattle.search_fanout.specs.Fanout.{OnGround};
 ghost use Rattle.search_attempts.specs.Attempts.{Openness, Ready, Undoable, TriesLiteral, TriesHigh};
 

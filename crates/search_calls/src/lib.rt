@@ -56,7 +56,7 @@ fn search_table(
     if let Reply::No(r) = ask_lent(s.literals, s.variables, k, lent) {
         return Answer::Refused(r);
     }
-    search_draw::search_lent(table, layout, c, k, limit, values, trail, recording)
+    search_lent::search_lent(table, layout, c, k, limit, values, trail, recording)
 }
 
 // The first recording that satisfies a formula of C channels over k steps, within a limit of tries: found, none or spent.

@@ -24,7 +24,7 @@ use Rattle.table_nodes.specs.Nodes.{tripleBlock, intervalBlock}
 use Rattle.search_visits.specs.Visits.{raisedBy, longBy}
 use Rattle.search_visits.proofs.Parts.{Part, part-first, part-next}
 use Rattle.search_visits.proofs.Loops.{any-clauses}
-use Rattle.search_sweeps.specs.Sweeps.{clausesAt}
+use Rattle.search_clauses.specs.Clauses.{clausesAt}
 use Rattle.search_fanout.specs.Fanout.{Names, nodeClauses, tripleClauses, Laid}
 use Rattle.search_fanout.specs.Walks.{Apart, firstClauses, secondClauses}
 use Rattle.search_fanout.proofs.Cover.{part-both, part-row, part-left, part-right, Covers, covers-none, covers-first, covers-next, covers-both, covers-join, Suffices}

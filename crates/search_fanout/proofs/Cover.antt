@@ -21,8 +21,8 @@ use Rattle.search_closing.proofs.Trail.{grown-more, grown-length}
 use Rattle.table_nodes.proofs.Nodes.{clauses-join}
 use Rattle.search_visits.specs.Visits.{Due, Visited}
 use Rattle.search_visits.proofs.Parts.{visited-none, Part, part-first, part-next, part-same, part-clash, closed-join, due-still, due-before, grown-below}
-use Rattle.search_sweeps.specs.Sweeps.{clausesAt}
-use Rattle.search_sweeps.proofs.Walk.{by-rows}
+use Rattle.search_clauses.specs.Clauses.{clausesAt}
+use Rattle.search_clauses.proofs.Walk.{by-rows}
 use Rattle.search_fanout.specs.Fanout.{Names, DueAt, Reached}
 
 -- ---- parts of a table

@@ -25,7 +25,7 @@ use Rattle.table_blocks.specs.declared.Rule.the-variants.{Chop, Duration, Cut}
 use Rattle.table_sizes.proofs.Weights.{block-length}
 use Rattle.paper_clauses.specs.Clauses.{Clause, clausesOf, clausesBy}
 use Rattle.search_visits.proofs.Parts.{Part}
-use Rattle.search_sweeps.specs.Sweeps.{clausesAt}
+use Rattle.search_clauses.specs.Clauses.{clausesAt}
 use Rattle.search_fanout.specs.Fanout.{Names}
 use Rattle.search_fanout.proofs.Named.{Mention, named, all-clauses, all-per}
 use Rattle.search_fanout.proofs.Cover.{part-each, part-at, Covers, covers-self, covers-row, Suffices}

@@ -33,8 +33,8 @@ use Rattle.node_calls.specs.Rows.{nodeTableOf}
 use Rattle.table_layout.specs.Rows.{truthBy, seatBy, Seated, rowDefinitions, Measured}
 use Rattle.table_layout.proofs.Known.{known}
 use Rattle.table_layout.proofs.Mentioned.{row-mentioned, table-mentioned}
-use Rattle.search_sweeps.specs.Sweeps.{tableBy}
-use Rattle.search_sweeps.proofs.Formula.{table-is}
+use Rattle.search_clauses.specs.Clauses.{tableBy}
+use Rattle.search_clauses.proofs.Formula.{table-is}
 use Rattle.search_fanout.specs.Fanout.{InRow, PartAt, PartsAt, Grid, Ground, Nearest}
 
 size-some : {s : Sort} (x : Tree s) → 1 ≤ sizeOf x

@@ -18,7 +18,7 @@ use Rattle.search_closing.specs.Values.{heldIn}
 use Rattle.search_closing.specs.declared.Closed.{Closed as Ended}
 use Rattle.search_visits.specs.Visits.{Visited}
 use Rattle.search_visits.proofs.Parts.{visited-named, Part, part-first, part-next, part-same, part-clash}
-use Rattle.search_sweeps.specs.Sweeps.{tableBy}
+use Rattle.search_clauses.specs.Clauses.{tableBy}
 use Rattle.search_fanout.specs.Fanout.{Names, DueAt, Reached, nodeClauses, InRow, Grid}
 use Rattle.search_fanout.proofs.Cover.{part-both, part-row, covers-none, suffices-self, reached, reached-stop, reached-then}
 use Rattle.search_fanout.proofs.Rows.{block, row, one-row, elsewhere}

@@ -24,7 +24,7 @@ use Rattle.search_closing.specs.Values.{Trailing}
 use Rattle.search_closing.specs.declared.Closed.{Closed as Ended}
 use Rattle.search_visits.specs.Visits.{Visited}
 use Rattle.search_visits.proofs.Parts.{visited-none, part-first}
-use Rattle.search_sweeps.specs.Sweeps.{clausesAt, tableBy}
+use Rattle.search_clauses.specs.Clauses.{clausesAt, tableBy}
 use Rattle.search_fanout.specs.Fanout.{nodeClauses, Voiced, Laid, Grid, speaks, letterAt}
 use Rattle.search_fanout.specs.Walks.{Apart}
 use Rattle.search_fanout.proofs.Cover.{part-row, part-each, Unnamed, covers-none, covers-row, covers-both, covers-rows, Suffices, suffices-none}

@@ -13,7 +13,7 @@ use Rattle.table_blocks.specs.declared.Block.{Block}
 use Rattle.table_blocks.specs.declared.Form.the-variants.{Line}
 use Rattle.table_blocks.specs.declared.Rule.{Rule}
 use Rattle.table_blocks.specs.declared.Rule.the-variants.{Fixed, Letter, Negation, And, Or, Chop, Duration, Throughout, Cut}
-use Rattle.search_sweeps.specs.Sweeps.{clausesAt}
+use Rattle.search_clauses.specs.Clauses.{clausesAt}
 use Rattle.search_fanout.specs.Fanout.{nodeClauses, Voiced, Laid, Pair}
 use Rattle.search_fanout.specs.Walks.{Apart}
 use Rattle.search_fanout.proofs.Cover.{Suffices}

@@ -20,7 +20,7 @@ use Rattle.table_sizes.specs.Weights.{variableWeight, longerBy, pointsBy, weigh
 use Rattle.table_sizes.proofs.Weights.{suc-le-count}
 use Rattle.paper_clauses.specs.Clauses.{Clause}
 use Rattle.table_layout.specs.Rows.{seatBy, blockBy}
-use Rattle.search_sweeps.specs.Sweeps.{rowClauses}
+use Rattle.search_clauses.specs.Clauses.{rowClauses}
 use Rattle.search_fanout.specs.Fanout.{widthBy, InBlock, Voiced, Laid, InRow, PartAt, PartsAt, Grid}
 use Rattle.search_fanout.specs.Walks.{Apart}
 use Rattle.search_fanout.proofs.Cover.{Unnamed}

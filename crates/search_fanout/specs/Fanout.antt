@@ -29,7 +29,7 @@ use Rattle.paper_closure.specs.Runs.{clashes}
 use Rattle.search_closing.specs.Values.{heldIn, Grown, Trailing}
 use Rattle.search_closing.specs.declared.Closed.{Closed}
 use Rattle.search_visits.specs.Visits.{Touched, Due, raisedBy, longBy}
-use Rattle.search_sweeps.specs.Sweeps.{clausesAt}
+use Rattle.search_clauses.specs.Clauses.{clausesAt}
 use Rattle.search_fanout.specs.Walks.{Apart}
 
 -- u is the variable of a literal of the clause

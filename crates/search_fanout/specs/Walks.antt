@@ -16,7 +16,7 @@ use Rattle.table_blocks.specs.declared.Rule.the-variants.{Fixed, Letter, Negati
 use Rattle.paper_clauses.specs.Clauses.{Clause}
 use Rattle.table_gates.specs.Mentioned.{AllMentioned}
 use Rattle.search_closing.specs.Values.{Trailing}
-use Rattle.search_sweeps.specs.Sweeps.{clausesAt}
+use Rattle.search_clauses.specs.Clauses.{clausesAt}
 
 -- a block all of whose variables have a value, and values and trail that fit
 pub record Standing (C k : ℕ) (b : Block) (values trail : List ℕ) (top : ℕ) : Type 0 where

@@ -19,8 +19,8 @@ use Rattle.table_blocks.specs.declared.Rule.the-variants.{Duration, Throughout}
 use Rattle.table_sizes.proofs.Weights.{level-le}
 use Rattle.paper_clauses.specs.Clauses.{clausesOf}
 use Rattle.table_gates.specs.Mentioned.{Variable, InputsIn}
-use Rattle.search_sweeps.specs.Sweeps.{clausesAt}
-use Rattle.search_sweeps.proofs.Walk.{clauses-here, visit-asks}
+use Rattle.search_clauses.specs.Clauses.{clausesAt}
+use Rattle.search_clauses.proofs.Walk.{clauses-here, visit-asks}
 use Rattle.search_fanout.specs.Walks.{Standing, instantPlace, riseClauses}
 use Rattle.search_fanout.proofs.Fine.{level-place, chop-place}
 use Rattle.search_fanout.specs.Fanout.{Rising}

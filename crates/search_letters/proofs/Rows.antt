@@ -21,7 +21,7 @@ use Rattle.paper_clauses.specs.Clauses.{Clause}
 use Rattle.search_closing.specs.Values.{Trailing}
 use Rattle.search_closing.specs.declared.Closed.{Closed}
 use Rattle.search_visits.specs.Visits.{Visited}
-use Rattle.search_sweeps.proofs.Walk.{row-mentioned}
+use Rattle.search_clauses.proofs.Walk.{row-mentioned}
 use Rattle.search_fanout.specs.Fanout.{Ground, Node, Voiced, speaks}
 use Rattle.search_fanout.proofs.Rows.{laid}
 use Rattle.search_fanout.proofs.Letters.{speaks-letter}

@@ -13,7 +13,7 @@ ghost use Rattle.table_nodes.specs.Nodes.{Fine};
 ghost use Rattle.table_layout.specs.Rows.{Low, Seated, blockBy};
 ghost use Rattle.search_closing.specs.Values.{Trailing};
 ghost use Rattle.search_visits.specs.Visits.{Visits};
-ghost use Rattle.search_sweeps.specs.Sweeps.{tableBy};
+ghost use Rattle.search_clauses.specs.Clauses.{tableBy};
 ghost use Rattle.search_fanout.specs.Fanout.{speaks, letterAt, OnGround, Reaches};
 
 // Whether a rule is the letter of channel e.

@@ -6,7 +6,7 @@ ghost use mathlib.Core.Path.{_≡_};
 ghost use Rattle.interval.specs.Places.{countOf};
 ghost use Rattle.table_blocks.specs.Blocks.{definedBy, Placed};
 ghost use Rattle.search_visits.specs.Visits.{Visits};
-ghost use Rattle.search_sweeps.specs.Sweeps.{clausesAt};
+ghost use Rattle.search_clauses.specs.Clauses.{clausesAt};
 ghost use Rattle.search_fanout.specs.Walks.{Standing};
 ghost use Rattle.search_levels.specs.Rules.{isThroughout, Leveled};
 

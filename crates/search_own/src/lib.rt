@@ -12,7 +12,7 @@ ghost use Rattle.interval.specs.Places.{countOf};
 ghost use Rattle.table_blocks.specs.Blocks.{isChop, formOf, definedBy};
 ghost use Rattle.table_blocks.specs.declared.Form.the-variants.{Line, Intervals};
 ghost use Rattle.search_visits.specs.Visits.{Visits};
-ghost use Rattle.search_sweeps.specs.Sweeps.{clausesAt};
+ghost use Rattle.search_clauses.specs.Clauses.{clausesAt};
 ghost use Rattle.search_decode.specs.Decode.{IntervalsTo, Tables};
 ghost use Rattle.search_fanout.specs.Fanout.{Reaches, nodeClauses, Node, InBlock};
 ghost use Rattle.search_own.specs.Own.{riseOf};

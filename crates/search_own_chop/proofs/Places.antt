@@ -30,7 +30,7 @@ use Rattle.search_decode.proofs.Decode.{starts-are}
 use Rattle.search_closing.specs.Values.{Trailing}
 use Rattle.search_visits.specs.Visits.{Visited, Row, raisedBy, longBy}
 use Rattle.search_visits.proofs.Parts.{visited-named, visited-stop, visited-then}
-use Rattle.search_sweeps.specs.Sweeps.{clausesAt}
+use Rattle.search_clauses.specs.Clauses.{clausesAt}
 use Rattle.search_closing.specs.declared.Closed.{Closed}
 use Rattle.search_fanout.specs.Fanout.{Node, tripleClauses}
 use Rattle.search_fanout.proofs.Fine.{cut-place, chop-place}

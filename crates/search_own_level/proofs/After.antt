@@ -20,7 +20,7 @@ use Rattle.table_blocks.specs.declared.Position.{Position}
 use Rattle.table_blocks.specs.declared.Rule.{Rule}
 use Rattle.table_blocks.specs.declared.Rule.the-variants.{Duration}
 use Rattle.paper_clauses.specs.Clauses.{Clause}
-use Rattle.search_sweeps.specs.Sweeps.{clausesAt}
+use Rattle.search_clauses.specs.Clauses.{clausesAt}
 use Rattle.table_blocks.proofs.Positions.{by-rule}
 use Rattle.search_fanout.specs.Walks.{afterCount, afterPlace, afterClauses}
 use Rattle.search_fanout.proofs.Fine.{level-place}

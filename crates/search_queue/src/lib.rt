@@ -6,7 +6,7 @@ use search_closing::Closed;
 ghost use Rattle.moments.specs.Moments.{old};
 ghost use Rattle.search_closing.specs.Values.{Trailing};
 ghost use Rattle.search_closing.specs.Closing.{Closes};
-ghost use Rattle.search_sweeps.specs.Sweeps.{tableBy};
+ghost use Rattle.search_clauses.specs.Clauses.{tableBy};
 ghost use Rattle.search_decode.specs.Decode.{Tables};
 ghost use Rattle.search_fanout.specs.Fanout.{OnGround, Pending};
 

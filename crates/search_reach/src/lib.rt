@@ -9,7 +9,7 @@ ghost use Rattle.moments.specs.Moments.{old};
 ghost use Rattle.interval.specs.Places.{countOf};
 ghost use Rattle.table_gates.specs.Mentioned.{Variable};
 ghost use Rattle.search_closing.specs.Values.{Trailing};
-ghost use Rattle.search_sweeps.specs.Sweeps.{tableBy};
+ghost use Rattle.search_clauses.specs.Clauses.{tableBy};
 ghost use Rattle.search_decode.specs.Decode.{Tables};
 ghost use Rattle.search_fanout.specs.Fanout.{OnGround, Reaches};
 

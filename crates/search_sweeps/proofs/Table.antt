@@ -11,9 +11,7 @@ use Rattle.search_closing.specs.declared.Closed.{Closed as Ended}
 use Rattle.table_layout.specs.Rows.{seatBy}
 use Rattle.search_visits.specs.Visits.{Visited}
 use Rattle.search_visits.proofs.Parts.{visited-named, visited-stop, visited-then}
-use native.Mathlib.Omega.{arith}
-use Rattle.table_gates.specs.Mentioned.{Variable}
-use Rattle.search_sweeps.specs.Sweeps.{rowClauses, tableBy}
+use Rattle.search_clauses.specs.Clauses.{rowClauses, tableBy}
 
 module _ (C k : ℕ) (kinds numbers sizes firsts : List ℕ) (n : ℕ) {v₀ t₀ v₁ t₁ : List ℕ} {top₀ : ℕ} {r : Ended}
     (w : Visited (rows n (rowClauses C k kinds numbers sizes firsts)) v₀ t₀ top₀ v₁ t₁ r) where
@@ -27,6 +25,3 @@ module _ (C k : ℕ) (kinds numbers sizes firsts : List ℕ) (n : ℕ) {v₀ t�
   unfolding tableBy
   nodes-root {m = m} e f u = visited-then w (clausesOf (seatBy kinds numbers firsts k 0 + k) (Constant true)) e
       (visited-named (ap (λ (m : ℕ). clausesOf (m + k) (Constant true)) f) u)
-
-pub seated : (k : ℕ) {m s n : ℕ} → m ≡ s → Variable n (s + k) → Variable n (m + k)
-seated k e w = omega (arith, w)

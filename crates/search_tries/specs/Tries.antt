@@ -10,7 +10,7 @@ use Rattle.paper_clauses.specs.Clauses.{Clause}
 use Rattle.paper_closure.specs.Runs.{dead, found}
 use Rattle.paper_closure.specs.Tree.{trial, tree}
 use Rattle.search_closing.specs.Values.{heldIn}
-use Rattle.search_sweeps.specs.Sweeps.{tableBy}
+use Rattle.search_clauses.specs.Clauses.{tableBy}
 use Rattle.search_fanout.specs.Fanout.{Ground}
 use Rattle.search_tries.specs.declared.Below.{Below}
 use Rattle.search_tries.specs.declared.Below.the-variants.{Dead, Found, Spent}

@@ -20,8 +20,8 @@ use Rattle.table_blocks.specs.declared.Rule.the-variants.{Cut}
 use Rattle.table_blocks.proofs.Positions.{gate-by}
 use Rattle.paper_clauses.specs.Clauses.{clausesOf}
 use Rattle.table_gates.specs.Mentioned.{Variable, InputsIn}
-use Rattle.search_sweeps.specs.Sweeps.{clausesAt}
-use Rattle.search_sweeps.proofs.Walk.{clauses-here, visit-asks}
+use Rattle.search_clauses.specs.Clauses.{clausesAt}
+use Rattle.search_clauses.proofs.Walk.{clauses-here, visit-asks}
 use Rattle.search_fanout.specs.Walks.{Standing}
 use Rattle.search_walks.proofs.Places.{interval-small}
 

@@ -19,8 +19,8 @@ use Rattle.search_patterns.specs.Patterns.{Settled, patternOf, among, renamed}
 use Rattle.search_visits.specs.Visits.{Visited}
 use Rattle.search_visits.proofs.Parts.{settled-visited, visited-named}
 use Rattle.table_gates.specs.Mentioned.{Variable, InputsIn}
-use Rattle.search_sweeps.specs.Sweeps.{clausesAt}
-use Rattle.search_sweeps.proofs.Walk.{clauses-here, visit-asks}
+use Rattle.search_clauses.specs.Clauses.{clausesAt}
+use Rattle.search_clauses.proofs.Walk.{clauses-here, visit-asks}
 use Rattle.search_fanout.specs.Walks.{Standing}
 use Rattle.search_walks.specs.declared.Inputs.{Inputs}
 use Rattle.search_walks.specs.Lines.{GoesBy}

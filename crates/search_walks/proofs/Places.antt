@@ -19,7 +19,7 @@ use Rattle.table_sizes.specs.Weights.{variableWeight, maxWeight}
 use Rattle.table_sizes.proofs.Weights.{shape-weight, weighed}
 use Rattle.table_nodes.proofs.Walk.{walkable, light}
 use Rattle.search_closing.specs.Values.{Trailing}
-use Rattle.search_sweeps.proofs.Walk.{still}
+use Rattle.search_clauses.proofs.Walk.{still}
 use Rattle.search_fanout.specs.Walks.{Standing}
 
 pub place-small : {C k : ℕ} {b : Block} {values trail : List ℕ} {top x a i d : ℕ} → Standing C k b values trail top → Placed (b .points) k (b .rule) x a i d → x < maxWeight

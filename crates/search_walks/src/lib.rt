@@ -10,7 +10,7 @@ ghost use Rattle.table_blocks.specs.Blocks.{formOf, definedBy, Placed, Before, 
 ghost use Rattle.table_blocks.specs.declared.Form.the-variants.{Line};
 ghost use Rattle.table_blocks.specs.declared.Rule.the-variants.{Chop, Cut};
 ghost use Rattle.search_visits.specs.Visits.{Visits};
-ghost use Rattle.search_sweeps.specs.Sweeps.{clausesAt};
+ghost use Rattle.search_clauses.specs.Clauses.{clausesAt};
 ghost use Rattle.search_fanout.specs.Walks.{Standing};
 ghost use Rattle.search_walks.specs.Lines.{GoesBy};
 

@@ -7,7 +7,8 @@ ghost use Rattle.interval.specs.Places.{countOf, placeOf};
 ghost use Rattle.interval.specs.Limits.{maxSteps};
 ghost use Rattle.paper_circuit.specs.Circuit.{channelOf};
 ghost use Rattle.table_blocks.specs.declared.Rule.the-variants.{Chop};
-ghost use Rattle.table_blocks.specs.Blocks.{ruleBy, isChop, formOf, linesOf, cellsOf, nextOf, Placed, Before, Bounded, bound, levelBy, throughoutBy, tripleBy, gateOf};
+ghost use Rattle.table_blocks.specs.Blocks.{ruleBy, isChop, formOf, linesOf, cellsOf, nextOf, Placed, Before, Bounded, bound, levelBy};
+ghost use Rattle.table_blocks.specs.Blocks.{throughoutBy, tripleBy, gateOf};
 
 // What the gates of a block go by. A chop has two blocks: its intervals, and its triples, which cut an interval in two.
 pub enum Rule {

@@ -9,7 +9,8 @@ ghost use lib.ListN.{length};
 ghost use Rattle.moments.specs.Moments.{old, new};
 ghost use Rattle.interval.specs.Limits.{maxSteps, maxCount};
 ghost use Rattle.paper_grammar.specs.Limits.{maxNodes};
-ghost use Rattle.table_sizes.specs.Weights.{variableWeight, clauseWeight, literalWeight, longerBy, weightBy, maxWeight, Light, Small, pointsBy, rowWeight, Summed};
+ghost use Rattle.table_sizes.specs.Weights.{variableWeight, clauseWeight, literalWeight, longerBy, weightBy, maxWeight, Light, Small, pointsBy};
+ghost use Rattle.table_sizes.specs.Weights.{rowWeight, Summed};
 
 // What gates count: of a copy or an inverse, for each input of the others, and of a step.
 pub struct Weight {

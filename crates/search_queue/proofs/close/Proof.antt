@@ -9,7 +9,7 @@ use Rattle.interval.specs.Places.{countOf}
 use Rattle.paper_closure.specs.Tree.{closure}
 use Rattle.search_closing.specs.Values.{heldIn, Grown}
 use Rattle.search_closing.proofs.Trail.{grown-none, grown-more}
-use Rattle.search_sweeps.specs.Sweeps.{tableBy}
+use Rattle.search_clauses.specs.Clauses.{tableBy}
 use Rattle.search_fanout.specs.Fanout.{Pending}
 use Rattle.search_fanout.proofs.Pending.{next-variable, pending-step, pending-fits, queue-done, queue-clash}
 use Rattle.search_fanout.proofs.Ground.{ground-still}

@@ -6,7 +6,7 @@ use native.Mathlib.Omega.{arith}
 use lib.ListN.{length}
 use Rattle.paper_grammar.specs.Limits.{maxNodes}
 use Rattle.search_patterns.proofs.Steps.{there}
-use Rattle.search_sweeps.proofs.Table.{seated}
+use Rattle.search_clauses.proofs.Walk.{seated}
 use Rattle.search_fanout.proofs.Ground.{first-le, row-found}
 use Rattle.search_fanout.proofs.Rows.{in-block, not-own}
 use Rattle.search_fanout.proofs.Joint.{near-stop, near-part, near-root, near-alone}

@@ -2,7 +2,8 @@
 -- Together they are the table.
 use borrow.Author.Needs.{needs}
 use Rattle.search_patterns.proofs.Steps.{there}
-use Rattle.search_sweeps.proofs.Table.{nodes-clash, nodes-root, seated}
+use Rattle.search_clauses.proofs.Walk.{seated}
+use Rattle.search_sweeps.proofs.Table.{nodes-clash, nodes-root}
 use Rattle.search_sweeps.proofs.sweep.Statement.{statement}
 use Rattle.search_sweeps.proofs.sweep.Tie as tie
 

@@ -9,8 +9,8 @@ use lib.ListN.{length}
 use Rattle.lists.specs.Listing.{rows}
 use Rattle.search_visits.specs.Visits.{Visited}
 use Rattle.search_visits.proofs.Loops.{loop-begun, loop-turn, loop-stop, loop-done}
-use Rattle.search_sweeps.specs.Sweeps.{rowClauses}
-use Rattle.search_sweeps.proofs.Walk.{row-mentioned, row-clauses}
+use Rattle.search_clauses.specs.Clauses.{rowClauses}
+use Rattle.search_clauses.proofs.Walk.{row-mentioned, row-clauses}
 use Rattle.search_sweeps.proofs.sweep_nodes.Statement.{statement}
 use Rattle.search_sweeps.proofs.sweep_nodes.Tie as tie
 

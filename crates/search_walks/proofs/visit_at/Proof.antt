@@ -3,7 +3,7 @@
 use borrow.Author.Needs.{needs}
 use native.Mathlib.Omega.{arith}
 use Rattle.search_visits.proofs.Parts.{visited-named}
-use Rattle.search_sweeps.proofs.Walk.{clauses-here, visit-asks}
+use Rattle.search_clauses.proofs.Walk.{clauses-here, visit-asks}
 use Rattle.search_walks.proofs.Places.{place-small, before-there}
 use Rattle.search_walks.proofs.visit_at.Statement.{statement}
 use Rattle.search_walks.proofs.visit_at.Tie as tie

@@ -4,10 +4,10 @@ use mathlib.Core.Path.{refl, sym}
 use native.Mathlib.Omega.{arith}
 use lib.Seq.{length-take-le}
 use Rattle.interval.proofs.Laws.{counts-at-32}
-use Rattle.search_draw.proofs.Arrays.{root-rows, parts-fit, search-known}
+use Rattle.search_lent.proofs.Arrays.{root-rows, parts-fit, search-known}
 use borrow.Author.Needs.{needs}
-use Rattle.search_draw.proofs.search_lent.Statement.{statement}
-use Rattle.search_draw.proofs.search_lent.Tie as tie
+use Rattle.search_lent.proofs.search_lent.Statement.{statement}
+use Rattle.search_lent.proofs.search_lent.Tie as tie
 
 -- the places that the needs speak of
 abbrev start : tie.After-seats → tie.Start

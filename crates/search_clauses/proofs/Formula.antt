@@ -14,7 +14,7 @@ use Rattle.paper_circuit.specs.declared.Gate.the-variants.{Constant}
 use Rattle.paper_clauses.specs.Clauses.{Clause, clausesOf, clausesBy, clauseTable}
 use Rattle.table_nodes.proofs.Nodes.{clauses-join}
 use Rattle.table_layout.proofs.Places.{kinds, numbers, sizes, start, rows-defined, root-at}
-use Rattle.search_sweeps.specs.Sweeps.{tableBy}
+use Rattle.search_clauses.specs.Clauses.{tableBy}
 
 clauses-rows : (f : ℕ → List Definition) (n : ℕ) → rows n (λ x. clausesBy (f x)) ≡ clausesBy (rows n f)
 unfolding rows clausesBy flatMap

@@ -13,10 +13,10 @@ use Rattle.table_nodes.proofs.Walk.{walkable, one-less, all-defined, gate-asked
 use Rattle.search_visits.specs.Visits.{Visited}
 use Rattle.search_visits.proofs.Parts.{visited-named}
 use Rattle.search_visits.proofs.Loops.{loop-begun, loop-turn, loop-stop, loop-done}
-use Rattle.search_sweeps.specs.Sweeps.{clausesAt}
-use Rattle.search_sweeps.proofs.Walk.{clauses-at, asks-at, whole-block, still}
-use Rattle.search_sweeps.proofs.sweep_block.Statement.{statement}
-use Rattle.search_sweeps.proofs.sweep_block.Tie as tie
+use Rattle.search_clauses.specs.Clauses.{clausesAt}
+use Rattle.search_clauses.proofs.Walk.{clauses-at, asks-at, whole-block, still}
+use Rattle.search_sweep_node.proofs.sweep_block.Statement.{statement}
+use Rattle.search_sweep_node.proofs.sweep_block.Tie as tie
 
 abbrev Inv-loop : tie.InvT-loop
 Inv-loop values₀ trail₀ top c k block cursor₀ t₀ values trail cursor t =

@@ -5,9 +5,9 @@ use Rattle.table_blocks.specs.Blocks.{definedBy}
 use Rattle.table_nodes.proofs.Nodes.{halves, triples-bounded, intervals-bounded}
 use Rattle.table_nodes.proofs.Mentioned.{triples-mentioned, intervals-mentioned}
 use Rattle.search_visits.proofs.Parts.{visited-named, visited-stop, visited-then}
-use Rattle.search_sweeps.proofs.Walk.{still, chop-clauses}
-use Rattle.search_sweeps.proofs.sweep_chop.Statement.{statement}
-use Rattle.search_sweeps.proofs.sweep_chop.Tie as tie
+use Rattle.search_clauses.proofs.Walk.{still, chop-clauses}
+use Rattle.search_sweep_node.proofs.sweep_chop.Statement.{statement}
+use Rattle.search_sweep_node.proofs.sweep_chop.Tie as tie
 
 -- the places that the needs speak of
 abbrev start : tie.After-beyond → tie.Start

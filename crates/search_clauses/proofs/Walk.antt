@@ -24,7 +24,7 @@ use Rattle.table_nodes.specs.Nodes.{choppedBy, nodeBy}
 use Rattle.table_nodes.proofs.Nodes.{clauses-join, Halves, chopped, node-known}
 use Rattle.table_gates.specs.Mentioned.{Variable, InputsIn, Mentioned, AllMentioned}
 use Rattle.table_layout.specs.Rows.{blockBy, rowDefinitions}
-use Rattle.search_sweeps.specs.Sweeps.{clausesAt, rowClauses}
+use Rattle.search_clauses.specs.Clauses.{clausesAt, rowClauses}
 
 pub by-rows : (D : List Definition) → rows (length D) (clausesAt D) ≡ clausesBy D
 unfolding rows clausesBy flatMap
@@ -77,3 +77,7 @@ module _ (C k : ℕ) (kinds numbers sizes firsts : List ℕ) (x : ℕ) (b : Bloc
 
   pub row-clauses : clausesBy (nodeBy C k b (isChop (b .rule))) ≡ rowClauses C k kinds numbers sizes firsts x
   row-clauses = sym (ap clausesBy same-row)
+
+-- a variable by another name
+pub seated : (k : ℕ) {m s n : ℕ} → m ≡ s → Variable n (s + k) → Variable n (m + k)
+seated k e w = omega (arith, w)

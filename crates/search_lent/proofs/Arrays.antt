@@ -26,14 +26,14 @@ use Rattle.paper_assignments.proofs.Recordings.{recording-length}
 use Rattle.paper_closure.specs.Runs.{dead, found, highIn}
 use Rattle.paper_closure.specs.Tree.{Trial, trial, tree}
 use Rattle.search_decode.specs.Decode.{Tables}
-use Rattle.search_sweeps.specs.Sweeps.{tableBy}
+use Rattle.search_clauses.specs.Clauses.{tableBy}
 use Rattle.search_fanout.specs.Fanout.{Nearest, Ground}
 use Rattle.search_fanout.proofs.Formula.{ground-of, table-known}
 use Rattle.paper_search.specs.Search.{treeOf, Searched, unwritten, limited}
 use Rattle.paper_search.specs.declared.Answer.{Answer}
 use Rattle.paper_search.specs.declared.Answer.the-variants.{Found, None, Spent}
 use Rattle.paper_search.proofs.Ends.{End, finds, lacks, spends, ended-by}
 use Rattle.search_draw.proofs.Drawn.{over-whole, within, beyond}
 
 -- ---- the recording's first k bytes
 

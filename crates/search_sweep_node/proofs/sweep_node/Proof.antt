@@ -2,9 +2,9 @@
 -- Which it is, the code has asked.
 use borrow.Author.Needs.{needs}
 use Rattle.search_visits.proofs.Parts.{visited-named}
-use Rattle.search_sweeps.proofs.Walk.{node-clauses, node-mentioned}
-use Rattle.search_sweeps.proofs.sweep_node.Statement.{statement}
-use Rattle.search_sweeps.proofs.sweep_node.Tie as tie
+use Rattle.search_clauses.proofs.Walk.{node-clauses, node-mentioned}
+use Rattle.search_sweep_node.proofs.sweep_node.Statement.{statement}
+use Rattle.search_sweep_node.proofs.sweep_node.Tie as tie
 
 -- the places that the needs speak of
 abbrev start : tie.After-is-chop → tie.Start
