@@ -1,6 +1,9 @@
 // The gate that defines a variable visited, whatever gate it is: each but one is a pattern over its variables.
 use paper_circuit::Gate;
 use search_closing::Closed;
+use search_patterns::COPY;
+use search_patterns::EITHER;
+use search_patterns::INVERSE;
 ghost use mathlib.Core.Path.{_≡_};
 ghost use mathlib.Core.Bool.{true, false};
 ghost use mathlib.Core.Logic.{_⊎_};
@@ -39,37 +42,10 @@ pub fn visit(values: &mut [u8], trail: &mut [u32], top: usize, v: u32, gate: Gat
             v,
             v,
         ),
-        Gate::Copy(u) => search_patterns::settle_by(
-            values,
-            trail,
-            top,
-            search_patterns::COPY,
-            v,
-            u,
-            v,
-            v,
-        ),
-        Gate::Inverse(x) => search_patterns::settle_by(
-            values,
-            trail,
-            top,
-            search_patterns::INVERSE,
-            v,
-            x,
-            v,
-            v,
-        ),
+        Gate::Copy(u) => search_patterns::settle_by(values, trail, top, COPY, v, u, v, v),
+        Gate::Inverse(x) => search_patterns::settle_by(values, trail, top, INVERSE, v, x, v, v),
         Gate::Both(x, y) => search_patterns::settle_both(values, trail, top, v, x, y),
-        Gate::Either(x, y) => search_patterns::settle_by(
-            values,
-            trail,
-            top,
-            search_patterns::EITHER,
-            v,
-            x,
-            y,
-            v,
-        ),
+        Gate::Either(x, y) => search_patterns::settle_by(values, trail, top, EITHER, v, x, y, v),
         Gate::AnyOf(w, n) => search_visits::visit_any(values, trail, top, v, w, n),
         Gate::Step(p, q, s) => search_patterns::settle_step(values, trail, top, v, p, q, s),
     }

@@ -1,5 +1,7 @@
 // A gate of a duration's or `[S]`'s block, visited in its place: by the rule, the level and the length of the interval.
 use search_closing::Closed;
+use search_patterns::HIGH;
+use search_patterns::LOW;
 use table_blocks::Block;
 use table_blocks::Rule;
 ghost use mathlib.Core.Path.{_≡_};
@@ -51,16 +53,7 @@ pub fn visit_level(
     let v = first + x;
     if is_throughout(rule) {
         if d == 0 {
-            return search_patterns::settle_by(
-                values,
-                trail,
-                top,
-                search_patterns::HIGH,
-                v,
-                v,
-                v,
-                v,
-            );
+            return search_patterns::settle_by(values, trail, top, HIGH, v, v, v, v);
         }
         return search_patterns::settle_both(
             values,
@@ -72,10 +65,10 @@ pub fn visit_level(
         );
     }
     if a == 0 {
-        return search_patterns::settle_by(values, trail, top, search_patterns::HIGH, v, v, v, v);
+        return search_patterns::settle_by(values, trail, top, HIGH, v, v, v, v);
     }
     if d == 0 {
-        return search_patterns::settle_by(values, trail, top, search_patterns::LOW, v, v, v, v);
+        return search_patterns::settle_by(values, trail, top, LOW, v, v, v, v);
     }
     let p = x - 1;
     let q = p - all;

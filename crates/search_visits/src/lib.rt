@@ -1,6 +1,7 @@
 // Clauses visited: every literal that they force, one after another, or a clash: unit propagation, a gate at a time. Here those of the gate
 // that no pattern fits: v is any of n variables.
 use search_closing::Closed;
+use search_patterns::RAISED;
 ghost use mathlib.Core.Path.{_≡_};
 ghost use mathlib.Core.Bool.{true, false};
 ghost use Prim.Native.Nat.{_+_, _<_};
@@ -25,16 +26,7 @@ fn visit_each(values: &mut [u8], trail: &mut [u32], top: usize, v: u32, w: u32, 
 {
     let mut t = top;
     for e in 0..n {
-        let r = search_patterns::settle_by(
-            values,
-            trail,
-            t,
-            search_patterns::RAISED,
-            v,
-            w + e,
-            v,
-            v,
-        );
+        let r = search_patterns::settle_by(values, trail, t, RAISED, v, w + e, v, v);
         if r.clash {
             return r;
         }
@@ -136,7 +128,7 @@ pub fn visit_one(
     requires { ⌜ Trailing (now values) (now trail) top × Variable (length (now values)) v × Row (length (now values)) w n × (e < n) ⌝ }
     ensures { λ r. ⌜ Visits (raisedBy v w e ++ longBy v w n ∷ []) values trail top r ⌝ }
 {
-    let r = search_patterns::settle_by(values, trail, top, search_patterns::RAISED, v, w + e, v, v);
+    let r = search_patterns::settle_by(values, trail, top, RAISED, v, w + e, v, v);
     if r.clash {
         return r;
     }

@@ -1,5 +1,6 @@
 // The clauses of a gate, written to a table in memory: its Tseitin encoding, both sides of the equivalence.
 use paper_circuit::Gate;
+use table_literals::closing;
 ghost use Rattle.paper_clauses.specs.Clauses.{clausesOf};
 ghost use Rattle.paper_clauses.specs.Entries.{flat};
 ghost use Rattle.table_literals.specs.Written.{Room};
@@ -14,13 +15,7 @@ pub fn put_gate(variables: &mut [u32], marks: &mut [u8], at: usize, v: u32, gate
 {
     match gate {
         // (v) or (-v)
-        Gate::Constant(up) => table_literals::put(
-            variables,
-            marks,
-            at,
-            &[v],
-            &[table_literals::closing(up)],
-        ),
+        Gate::Constant(up) => table_literals::put(variables, marks, at, &[v], &[closing(up)]),
         // (-v u)(v -u)
         Gate::Copy(u) => table_literals::put(variables, marks, at, &[v, u, v, u], &[0, 3, 1, 2]),
         // (v x)(-v -x)

@@ -1,5 +1,7 @@
 // A word for each state assertion and a table for each formula, from the parts up.
 use interval::Interval;
+use node_calls::second;
+use node_rows::byte_at;
 use paper_grammar::MAX_CHANNELS;
 use paper_grammar::MAX_NODES;
 use truth_table::Measure;
@@ -23,12 +25,12 @@ fn word_at<'a>(
     requires { ⌜ length (now recording) ≤ maxSteps ⌝ }
     ensures { λ r. ⌜ AtRow (old recording) (old kinds) (old numbers) (old sizes) State x (λ f. WordOf (length (old recording)) f r) ⌝ }
 {
-    let kind = node_rows::byte_at(kinds, x);
+    let kind = byte_at(kinds, x);
     match kind {
         node_rows::FALSE => return truth_word::constant_word(false),
         node_rows::TRUE => return truth_word::constant_word(true),
         node_rows::LETTER => {
-            let c = node_rows::byte_at(numbers, x) as usize % MAX_CHANNELS;
+            let c = byte_at(numbers, x) as usize % MAX_CHANNELS;
             return truth_word::word_of(recording, c, recording.len());
         }
         node_rows::NOT => {
@@ -36,13 +38,7 @@ fn word_at<'a>(
         }
         _ => {
             let p = word_at(kinds, numbers, sizes, recording, x + 1);
-            let q = word_at(
-                kinds,
-                numbers,
-                sizes,
-                recording,
-                node_calls::second(sizes, x),
-            );
+            let q = word_at(kinds, numbers, sizes, recording, second(sizes, x));
             return truth_word::joined_word(kind == node_rows::AND, p, q);
         }
     }
@@ -60,17 +56,13 @@ pub fn table_at<'a>(
     ensures { λ r. ⌜ AtRow (old recording) (old kinds) (old numbers) (old sizes) Formula x (λ f. TableOf (length (old recording)) f r) ⌝ }
 {
     let k = recording.len();
-    let kind = node_rows::byte_at(kinds, x) % node_rows::FORMULA;
+    let kind = byte_at(kinds, x) % node_rows::FORMULA;
     match kind {
         node_rows::FALSE => return truth_table::constant_table(false),
         node_rows::TRUE => return truth_table::constant_table(true),
         node_rows::DURATION => {
             let word = word_at(kinds, numbers, sizes, recording, x + 1);
-            return truth_table::measured_table(
-                Measure::AtLeast(node_rows::byte_at(numbers, x)),
-                word,
-                k,
-            );
+            return truth_table::measured_table(Measure::AtLeast(byte_at(numbers, x)), word, k);
         }
         node_rows::THROUGHOUT => {
             let word = word_at(kinds, numbers, sizes, recording, x + 1);
@@ -83,13 +75,7 @@ pub fn table_at<'a>(
         }
         _ => {
             let mut p = table_at(kinds, numbers, sizes, recording, x + 1);
-            let q = table_at(
-                kinds,
-                numbers,
-                sizes,
-                recording,
-                node_calls::second(sizes, x),
-            );
+            let q = table_at(kinds, numbers, sizes, recording, second(sizes, x));
             if kind == node_rows::CHOP {
                 return truth_chop::chop_table(&p, &q, k);
             }
