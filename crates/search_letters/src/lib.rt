@@ -84,9 +84,9 @@ fn reach_letter<'a>(
     let rule = table_blocks::rule_of(kinds[x], numbers[x]);
     if speaks_of(rule, e) {
         let block = block_of(kinds, numbers, sizes, firsts, seats, k, x);
-        return search_own::visit_line(values, trail, top, c, k, block, t);
+        return search_lines::visit_line(values, trail, top, c, k, block, t);
     }
-    search_own::done(top)
+    search_lines::done(top)
 }
 
 // The letters of channel e at instant t.
@@ -134,7 +134,7 @@ fn reach_letters<'a>(
         }
         last = r.top;
     }
-    search_own::done(last)
+    search_lines::done(last)
 }
 
 // A channel's variable: its letters at its instant.

@@ -3,67 +3,15 @@ use search_closing::Closed;
 use table_blocks::Block;
 use table_blocks::Form;
 use table_blocks::Position;
-use table_blocks::Rule;
 ghost use mathlib.Core.Path.{_≡_};
 ghost use mathlib.Core.Bool.{false};
-ghost use Prim.Native.Nat.{_+_, _≤_, _<_};
+ghost use Prim.Native.Nat.{_+_, _≤_};
 ghost use lib.ListN.{length};
 ghost use Rattle.interval.specs.Places.{countOf};
-ghost use Rattle.table_blocks.specs.Blocks.{isChop, formOf, definedBy};
+ghost use Rattle.table_blocks.specs.Blocks.{isChop, formOf};
 ghost use Rattle.table_blocks.specs.declared.Form.the-variants.{Line, Intervals};
-ghost use Rattle.search_visits.specs.Visits.{Visits};
-ghost use Rattle.search_clauses.specs.Clauses.{clausesAt};
 ghost use Rattle.search_decode.specs.Decode.{IntervalsTo, Tables};
 ghost use Rattle.search_fanout.specs.Fanout.{Reaches, nodeClauses, Node, InBlock};
-ghost use Rattle.search_own.specs.Own.{riseOf};
-
-// The levels that go by the instants of their part.
-pub struct Rise {
-    pub from: u32,
-    pub count: u32,
-}
-
-pub fn rise_of(rule: Rule) -> Rise
-    ensures { λ r. ⌜ r ≡ riseOf rule ⌝ }
-{
-    match rule {
-        Rule::Fixed(_) => Rise { from: 0, count: 1 },
-        Rule::Letter(_) => Rise { from: 0, count: 1 },
-        Rule::Negation => Rise { from: 0, count: 1 },
-        Rule::And => Rise { from: 0, count: 1 },
-        Rule::Or => Rise { from: 0, count: 1 },
-        Rule::Chop => Rise { from: 0, count: 1 },
-        Rule::Duration(n) => Rise { from: 1, count: n },
-        Rule::Throughout => Rise { from: 0, count: 1 },
-        Rule::Cut => Rise { from: 0, count: 1 },
-    }
-}
-
-// Nothing more.
-pub fn done(top: usize) -> Closed
-    ensures { λ r. ⌜ r ≡ record { clash = false; top = top } ⌝ }
-{
-    Closed {
-        clash: false,
-        top: top,
-    }
-}
-
-// The gate in place x of a block of one line.
-pub fn visit_line(
-    values: &mut [u8],
-    trail: &mut [u32],
-    top: usize,
-    c: u32,
-    k: u32,
-    block: Block,
-    x: u32,
-) -> Closed
-    requires { ⌜ Node c k block (now values) (now trail) top × (formOf (block .rule) ≡ Line) × (x < block .points) ⌝ }
-    ensures { λ r. ⌜ Visits (clausesAt (definedBy c k block) x) values trail top r ⌝ }
-{
-    search_walks::visit_line(values, trail, top, c, k, block, x)
-}
 
 // A duration's or `[S]`'s own variable in place x.
 fn reach_level(
@@ -83,7 +31,7 @@ fn reach_level(
     ensures { λ r. ⌜ Reaches (nodeClauses c k block) (block .first + x) values trail top r ⌝ }
 {
     let rule = block.rule;
-    let rise = rise_of(rule);
+    let rise = search_lines::rise_of(rule);
     let v = search_decode::interval_at(intervals, k as usize, (x % all) as usize);
     let i = v.i as u32;
     let p = Position {
@@ -139,8 +87,8 @@ pub fn reach(
         );
     }
     match table_blocks::form_of(rule) {
-        Form::Line => visit_line(values, trail, top, c, k, block, x),
+        Form::Line => search_lines::visit_line(values, trail, top, c, k, block, x),
         Form::Intervals => reach_level(values, trail, top, intervals, c, k, all, block, x),
-        Form::Triples => done(top),
+        Form::Triples => search_lines::done(top),
     }
 }

@@ -67,5 +67,5 @@ pub fn reach_chop(
             v.j as u32,
         );
     }
-    search_own::done(top)
+    search_lines::done(top)
 }

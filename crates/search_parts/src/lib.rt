@@ -50,12 +50,12 @@ fn reach_line(
     let points = block.points;
     let parts = parts_of(rule);
     if (1 <= parts) & search_part_chop::among(left, points, u) {
-        return search_own::visit_line(values, trail, top, c, k, block, u - left);
+        return search_lines::visit_line(values, trail, top, c, k, block, u - left);
     }
     if (2 <= parts) & search_part_chop::among(right, points, u) {
-        return search_own::visit_line(values, trail, top, c, k, block, u - right);
+        return search_lines::visit_line(values, trail, top, c, k, block, u - right);
     }
-    search_own::done(top)
+    search_lines::done(top)
 }
 
 // In a duration or `[S]`.
@@ -75,10 +75,10 @@ fn reach_instant(
 {
     let left = block.left;
     if !search_part_chop::among(left, k, u) {
-        return search_own::done(top);
+        return search_lines::done(top);
     }
     let rule = block.rule;
-    let rise = search_own::rise_of(rule);
+    let rise = search_lines::rise_of(rule);
     search_instants::visit_instant(
         values,
         trail,
@@ -116,6 +116,6 @@ pub fn reach(
     match table_blocks::form_of(rule) {
         Form::Line => reach_line(values, trail, top, c, k, block, u),
         Form::Intervals => reach_instant(values, trail, top, c, k, all, block, u),
-        Form::Triples => search_own::done(top),
+        Form::Triples => search_lines::done(top),
     }
 }

@@ -5,7 +5,7 @@ use native.Mathlib.Omega.{arith}
 use Rattle.search_fanout.proofs.Cover.{reached, reached-there}
 use Rattle.search_fanout.proofs.Lines.{own-suffices}
 use Rattle.search_fanout.specs.Fanout.{InBlock}
-use Rattle.search_own.proofs.Places.{own-chop, line-below, no-triples}
+use Rattle.search_lines.proofs.Places.{own-chop, line-below, no-triples}
 use Rattle.table_blocks.proofs.Rules.{chop-rule}
 use borrow.Author.Needs.{needs}
 use Rattle.search_own.proofs.reach.Statement.{statement}

@@ -7,11 +7,11 @@ use native.Mathlib.Omega.{arith}
 use Rattle.interval.specs.Places.{countOf}
 use Rattle.interval.proofs.Laws.{counts-at-32}
 use Rattle.table_blocks.specs.declared.Position.{Position}
-use Rattle.search_own.specs.declared.Rise.{Rise}
+use Rattle.search_lines.specs.declared.Rise.{Rise}
 use Rattle.search_fanout.proofs.Cover.{reached}
 use Rattle.search_fanout.proofs.Levels.{after-suffices}
 use Rattle.search_fanout.proofs.Stands.{whole-stands}
-use Rattle.search_own.proofs.Places.{some-intervals, rise-small, rise-some, levels-known, level-here}
+use Rattle.search_lines.proofs.Places.{some-intervals, rise-small, rise-some, levels-known, level-here}
 use borrow.Author.Needs.{needs}
 use Rattle.search_own.proofs.reach_level.Statement.{statement}
 use Rattle.search_own.proofs.reach_level.Tie as tie

@@ -2,7 +2,7 @@
 -- No node is of triples alone.
 use mathlib.Core.Path.{sym, _∙_}
 use Rattle.table_blocks.proofs.Rules.{chop-rule}
-use Rattle.search_own.proofs.Places.{no-triples}
+use Rattle.search_lines.proofs.Places.{no-triples}
 use borrow.Author.Needs.{needs}
 use Rattle.search_parts.proofs.reach.Statement.{statement}
 use Rattle.search_parts.proofs.reach.Tie as tie

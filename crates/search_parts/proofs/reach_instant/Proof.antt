@@ -5,7 +5,7 @@ use native.Mathlib.Omega.{arith}
 use Rattle.search_fanout.proofs.Cover.{reached, unread}
 use Rattle.search_fanout.proofs.Levels.{instant-suffices}
 use Rattle.search_fanout.proofs.Stands.{whole-stands}
-use Rattle.search_own.proofs.Places.{rising-known}
+use Rattle.search_lines.proofs.Places.{rising-known}
 use Rattle.search_part_chop.proofs.Chop.{stopped}
 use Rattle.search_parts.proofs.Part.{level-away}
 use borrow.Author.Tests.{not-true, not-false}

@@ -1,11 +1,11 @@
 -- A line's place is its cell, and its block is the node's only one.
 -- The visit of the gate there is all.
 use Rattle.search_fanout.proofs.Stands.{whole-stands}
-use Rattle.search_own.proofs.Places.{line-placed}
+use Rattle.search_lines.proofs.Places.{line-placed}
 use Rattle.table_blocks.proofs.Rules.{line-rule}
 use borrow.Author.Needs.{needs}
-use Rattle.search_own.proofs.visit_line.Statement.{statement}
-use Rattle.search_own.proofs.visit_line.Tie as tie
+use Rattle.search_lines.proofs.visit_line.Statement.{statement}
+use Rattle.search_lines.proofs.visit_line.Tie as tie
 
 visit-line-requires : tie.Need-visit-line-requires
 visit-line-requires c κs =

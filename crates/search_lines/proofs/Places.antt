@@ -23,8 +23,8 @@ use Rattle.search_decode.specs.Decode.{InPlace}
 use Rattle.search_fanout.specs.Walks.{Apart}
 use Rattle.search_fanout.specs.Fanout.{InBlock, Levels, Rising}
 use Rattle.search_fanout.proofs.Fine.{level-place, level-count}
-use Rattle.search_own.specs.Own.{riseOf}
-use Rattle.search_own.specs.declared.Rise.{Rise}
+use Rattle.search_lines.specs.Lines.{riseOf}
+use Rattle.search_lines.specs.declared.Rise.{Rise}
 
 -- ---- a block of one line
 

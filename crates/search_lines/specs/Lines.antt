@@ -2,7 +2,7 @@
 -- cites it.
 use Rattle.table_blocks.specs.declared.Rule.{Rule}
 use Rattle.table_blocks.specs.declared.Rule.the-variants.{Fixed, Letter, Negation, And, Or, Chop, Duration, Throughout, Cut}
-use Rattle.search_own.specs.declared.Rise.{Rise}
+use Rattle.search_lines.specs.declared.Rise.{Rise}
 
 -- the levels that go by the instants of their part: a duration's from 1 on, and `[S]`
 abbrev pub riseOf : Rule → Rise

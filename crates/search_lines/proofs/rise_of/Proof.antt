@@ -1,10 +1,10 @@
 -- One case a rule.
 -- Only a duration has levels.
 use mathlib.Core.Path.{sym, ap}
-use Rattle.search_own.specs.Own.{riseOf}
+use Rattle.search_lines.specs.Lines.{riseOf}
 use borrow.Author.Needs.{needs}
-use Rattle.search_own.proofs.rise_of.Statement.{statement}
-use Rattle.search_own.proofs.rise_of.Tie as tie
+use Rattle.search_lines.proofs.rise_of.Statement.{statement}
+use Rattle.search_lines.proofs.rise_of.Tie as tie
 
 returns : tie.Need-returns
 returns c = sym (ap riseOf (c .enum-told .given .1))
