@@ -28,7 +28,7 @@ askChannels C = question 1 0 (leb 1 C && leb C maxChannels)
 unfoldable pub askLength : List ℕ → Reply
 askLength t = question 3 0 (leb 1 (length t) && leb (length t) maxLength)
 
--- question 4: does it read by the grammar? Its place is where reading stops: the law `stops-at-place` of crate paper_grammar
+-- question 4: does it read by the grammar? Its place is where reading stops: the law `stops-at-place`
 -- says that this is the least p such that no grammatical text begins with the first p + 1 bytes, or the length if it only ends early.
 abbrev pub onRead : Read Formula → Reply
 onRead (parsed f) = Yes

@@ -1,4 +1,4 @@
--- What the tree of tries comes to is what the limit leaves of the tree (Ends.antt has the same three ways), and the values found read as
+-- What the tree of tries comes to is what the limit leaves of the tree (Ends.antt of paper_search has the same three ways), and the values found read as
 -- the recording of their set: a channel variable is high where its value is 1.
 use mathlib.Core.Path.{_≡_, sym, ap, _∙_, subst}
 use mathlib.Core.List.{List, append-nil}

@@ -1,4 +1,4 @@
--- A chop has two blocks, any other node one (Nodes.antt of node_clauses);
+-- A chop has two blocks, any other node one (Nodes.antt of table_nodes);
 -- a constant's is asked variable after variable (Walk.antt).
 use Rattle.table_gates.specs.Mentioned.{AllMentioned}
 use Rattle.check_clauses.proofs.Walk.{constants-mentioned, constants-asked, node-asked}

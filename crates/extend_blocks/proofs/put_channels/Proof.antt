@@ -1,5 +1,5 @@
 -- `put_channels` fills one part a turn with the channels of the next instant,
--- and each part has a byte for each channel (Parts.antt of `cuts`).
+-- and each part has a byte for each channel (Parts.antt of extend_triples).
 use mathlib.Core.Path.{_≡_, refl, ap, _∙_}
 use Prim.Native.Nat.{ℕ, _+_, _-_}
 use lib.ListN.{length}

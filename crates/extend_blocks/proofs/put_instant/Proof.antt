@@ -1,5 +1,5 @@
 -- `put_instant` writes one channel's bit a turn, at the channel's place,
--- and after the last turn all are written (Filled.antt of `truths`).
+-- and after the last turn all are written (Filled.antt of extend_truths).
 use mathlib.Core.Path.{_≡_, refl}
 use Prim.Native.Nat.{_-_}
 use lib.ListN.{length}

@@ -1,4 +1,4 @@
--- `put_levels` fills one part a turn with the table of the next level (Parts.antt of `cuts`), which gives that level's truths in order
+-- `put_levels` fills one part a turn with the table of the next level (Parts.antt of extend_triples), which gives that level's truths in order
 -- (Tables.antt). The word measures as the state assertion does.
 use mathlib.Core.Path.{_≡_, refl, _∙_}
 use mathlib.Core.Bool.{Bool}

@@ -1,5 +1,5 @@
 -- `put_cuts` writes one byte a turn, P's on [i, m] with Q's on [m, j], and goes on to where [m + 1, j] stands (Cutting.antt).
--- After the last turn all cuts are written (Filled.antt of `truths`).
+-- After the last turn all cuts are written (Filled.antt of extend_truths).
 use mathlib.Core.Path.{_≡_}
 use mathlib.Core.Logic.{⊎-elim}
 use Prim.Native.Nat.{suc, _+_, _-_}

@@ -1,5 +1,5 @@
 -- The sizes, the variables and the marks are stored, each from where the last ends;
--- that there is room for the whole leaves room for each (Stored.antt).
+-- that there is room for the whole leaves room for each (Stored.antt of file_numbers).
 use Rattle.file_numbers.specs.File.{bytesOf}
 use Rattle.file_numbers.proofs.Stored.{kept-long, length-file, parts-stored}
 use Rattle.table_calls.specs.Table.{fiveOf}

@@ -1,5 +1,5 @@
 -- The same for the numbers in a file: variable e is the number at its place
--- (Stored.antt).
+-- (Stored.antt of file_numbers).
 use Rattle.file_numbers.specs.File.{variablesAt}
 use Rattle.file_questions.specs.Questions.{isVariable}
 use Rattle.file_questions.proofs.Passed.{Passed, none-failed, one-passed, one-failed, all-passed}

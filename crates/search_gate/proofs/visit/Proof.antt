@@ -1,4 +1,4 @@
--- Each gate but one is a pattern over its variables; the other has clauses one after another (`visits::visit_any`).
+-- Each gate but one is a pattern over its variables; the other has clauses one after another (`search_visits::visit_any`).
 -- What a pattern settles is visited.
 use mathlib.Core.Path.{refl, subst}
 use native.Mathlib.Omega.{arith}

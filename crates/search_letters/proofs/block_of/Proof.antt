@@ -1,4 +1,4 @@
--- Each field is the one that the row gives (clause_table's Rows);
+-- Each field is the one that the row gives (table_layout's Rows);
 -- a part's seat is read from the column of seats, past whose end all is 0 (Rows.antt).
 use mathlib.Core.Path.{_≡_}
 use lib.ListN.{length}

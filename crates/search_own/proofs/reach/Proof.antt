@@ -1,5 +1,5 @@
 -- A chop has two blocks; else the form tells: one line, or intervals, of a duration or `[S]`. No node is of triples alone.
--- What is visited suffices for the variable (fanout's laws).
+-- What is visited suffices for the variable (search_fanout's laws).
 use mathlib.Core.Path.{sym, _∙_, subst}
 use native.Mathlib.Omega.{arith}
 use Rattle.search_fanout.proofs.Cover.{reached, reached-there}

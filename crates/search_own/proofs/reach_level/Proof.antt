@@ -1,4 +1,4 @@
--- Place divided by I gives the level, what is left the interval's place (Places.antt);
+-- Place divided by I gives the level, what is left the interval's place (Places.antt of search_lines);
 -- the gates that mention a level's variable are those that search_own_level::visit_after goes through.
 use mathlib.Core.Path.{refl, sym, ap, subst}
 use Prim.Native.Nat.{ℕ, _-_, _/_, _%_, _<_}

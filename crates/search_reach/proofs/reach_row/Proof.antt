@@ -1,5 +1,5 @@
 -- The variable's row is the last that begins at it or before. Its own node's gates are visited, then those of the node that it is a part
--- of; the root is a part of none, and has a clause of its own (fanout's Joint).
+-- of; the root is a part of none, and has a clause of its own (search_fanout's Joint).
 use mathlib.Core.Path.{_≡_, refl, ap}
 use Prim.Native.Nat.{ℕ, _+_}
 use native.Mathlib.Omega.{arith}

@@ -1,4 +1,4 @@
--- The gate at the cursor is that of the definition in its place, whose clauses the turn visits (Walk.antt).
+-- The gate at the cursor is that of the definition in its place, whose clauses the turn visits (Walk.antt of search_clauses).
 -- After the last turn all of the block is visited.
 use mathlib.Core.Path.{_≡_, refl, sym, ap, _∙_}
 use mathlib.Core.Bool.{false}

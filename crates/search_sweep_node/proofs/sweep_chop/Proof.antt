@@ -1,4 +1,4 @@
--- The triples' block, then the intervals' (Walk.antt).
+-- The triples' block, then the intervals' (Walk.antt of search_clauses).
 -- The intervals' gates go by the triples, which stand behind them.
 use borrow.Author.Needs.{needs}
 use Rattle.table_blocks.specs.Blocks.{definedBy}

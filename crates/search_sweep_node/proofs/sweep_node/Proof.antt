@@ -1,4 +1,4 @@
--- A chop has two blocks, any other node one (Walk.antt).
+-- A chop has two blocks, any other node one (Walk.antt of search_clauses).
 -- Which it is, the code has asked.
 use borrow.Author.Needs.{needs}
 use Rattle.search_visits.proofs.Parts.{visited-named}

@@ -1,5 +1,5 @@
--- The five sizes are stored from the first place on
--- (Measure.antt).
+-- The five sizes are stored from the first place on;
+-- what stands beyond them stays (Stored.antt of lists).
 use Rattle.table_calls.specs.Table.{fiveOf}
 use Rattle.lists.proofs.Stored.{stored-over}
 use borrow.Author.Needs.{needs}
