@@ -9,7 +9,6 @@ ghost use Prim.Native.Nat.{ℕ, _+_, _≤_, _<_};
 ghost use lib.ListN.{length, getD};
 ghost use Rattle.moments.specs.Moments.{old, new};
 ghost use Rattle.refusal.specs.Asked.{asked};
-ghost use Rattle.lists.specs.Listing.{sum};
 ghost use Rattle.interval.specs.Limits.{maxSteps};
 ghost use Rattle.paper_grammar.specs.Limits.{maxNodes, maxChannels};
 ghost use Rattle.paper_grammar.specs.Trees.{Tree};

@@ -12,7 +12,6 @@ ghost use Rattle.interval.specs.Limits.{maxSteps};
 ghost use Rattle.paper_grammar.specs.Limits.{maxNodes, maxChannels};
 ghost use Rattle.paper_grammar.specs.Trees.{Tree};
 ghost use Rattle.paper_grammar.specs.declared.Sort.the-variants.{Formula};
-ghost use Rattle.paper_closure.specs.Tree.{tree};
 ghost use Rattle.node_calls.specs.Rows.{nodeTableOf, TableFor};
 ghost use Rattle.table_layout.specs.Rows.{Measured};
 ghost use Rattle.paper_search.specs.Search.{treeOf, limited};

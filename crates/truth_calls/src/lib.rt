@@ -13,7 +13,6 @@ ghost use Rattle.paper_grammar.specs.Limits.{maxChannels};
 ghost use Rattle.paper_grammar.specs.declared.Sort.the-variants.{Formula};
 ghost use Rattle.truth_calls.specs.Evaluation.{evaluated};
 ghost use Rattle.truth_calls.specs.Rows.{judged};
-ghost use Rattle.paper_meaning.specs.Recording.{askRecording, askBelow, askBytes};
 ghost use Rattle.truth_rows.specs.Rows.{AtRow};
 
 // What evaluation answers.
