@@ -67,12 +67,20 @@ static uint64_t search(const uint8_t *text, size_t length)
                       TUV_MOST_VARIABLES, trail, TUV_MOST_VARIABLES, recording, STEPS);
 }
 
+/* Of the recording; it has no text. */
+static uint64_t strip(const uint8_t *text, size_t length)
+{
+    static uint8_t lines[TUV_STRIP_BYTES(CHANNELS)];
+    (void)text, (void)length;
+    return tuv_strip(CHANNELS, STEPS, recording, STEPS, lines, sizeof lines);
+}
+
 /* The search last, since it overwrites what was extended. */
 static const struct {
     const char *name;
     call *make;
-} CALLS[] = {{"evaluate", evaluate}, {"node_text", node_text}, {"table", table},
-             {"extend", extend},     {"check", check},         {"search", search}};
+} CALLS[] = {{"evaluate", evaluate}, {"node_text", node_text}, {"table", table}, {"extend", extend},
+             {"check", check},       {"strip", strip},         {"search", search}};
 
 enum { COUNT = sizeof CALLS / sizeof *CALLS };
 

@@ -42,7 +42,7 @@ extern "C" {
 /* Raised by one with each change that a caller can see: a call more, another prototype, number or limit, another answer or other
  * bytes for some input. A quicker engine, other stack figures and other words here leave it as it is. The archive does not carry
  * it: header and archive go together. */
-#define TUV_VERSION 1
+#define TUV_VERSION 2
 
 /* What an answer says: a tuv_refusal or a tuv_answer. */
 static inline uint32_t tuv_code(uint64_t answer) { return (uint32_t)(answer & 0xffffffffu); }
@@ -80,7 +80,7 @@ enum tuv_refusal {
 enum tuv_answer {
     TUV_NO = 64,       /* the formula does not hold; value 0 */
     TUV_YES = 65,      /* it holds; value 0 */
-    TUV_WRITTEN = 66,  /* what was asked for is written; value 0 */
+    TUV_WRITTEN = 66,  /* what was asked for is written; value 0, of tuv_strip the number of bytes */
     TUV_ACCEPTED = 67, /* the assignment meets every clause; value 0 */
     TUV_FOUND = 68,    /* the first recording of which the formula holds is written; value the number of tries */
     TUV_NONE = 69,     /* it holds of none; value the number of tries */
@@ -199,6 +199,27 @@ uint64_t tuv_check(const uint8_t *text, size_t text_length, uint32_t c, uint32_t
 uint64_t tuv_search(const uint8_t *text, size_t text_length, uint32_t c, uint32_t k, uint32_t limit, uint32_t *variables,
                     size_t variables_length, uint8_t *marks, size_t marks_length, uint8_t *values, size_t values_length,
                     uint32_t *trail, size_t trail_length, uint8_t *recording, size_t recording_length);
+
+/* How many bytes a strip's line has, and a strip of c channels. */
+enum { TUV_STRIP_LINE = 39 };
+#define TUV_STRIP_BYTES(c) (((uint64_t)(c) + 1) * TUV_STRIP_LINE)
+
+/* How is a recording shown in a lab notebook? (In fixed columns, byte for byte the same on every instrument.)
+ * The strip is c + 1 lines of TUV_STRIP_LINE bytes, the last of each a line feed; there is no 0 at the end. The first line is a
+ * ruler: two blanks, the last digit of each instant, blanks. Then a line for each channel, a first: its letter, a blank, 32
+ * columns (`#` where it is high, `_` where it is low, blanks from instant k on), a blank, and at how many instants it is high,
+ * right-aligned in three places. Two recordings of the same c and k that differ have strips that differ.
+ * Lent:    the recording, k bytes as for tuv_evaluate; the strip, TUV_STRIP_BYTES(c) places: 351 are enough for any recording.
+ * Written: on TUV_WRITTEN TUV_STRIP_BYTES(c) bytes of the strip, as many as the value says. For c 2, k 4, recording 0, 1, 3, 2
+ *          (here | stands for each line's end):
+ *              "  0123                                |"
+ *              "a _##_                               2|"
+ *              "b __##                               2|"
+ * Answers: TUV_WRITTEN, a refusal 1, 2, 10, 11 or 18.
+ * Stack:   240 bytes for any input (measured).
+ */
+uint64_t tuv_strip(uint32_t c, uint32_t k, const uint8_t *recording, size_t recording_length, uint8_t *strip,
+                   size_t strip_length);
 
 /* How many bytes the file of a table with l literals has: in 64 bits, since for some l it does not fit 32. */
 #define TUV_FILE_BYTES(l) (20 + 5 * (uint64_t)(l))

@@ -15,6 +15,7 @@ uint64_t plain_extend(const uint8_t *text, size_t text_length, uint32_t c, uint3
                       size_t recording_length, uint8_t *assignment, size_t assignment_length);
 uint64_t plain_check(const uint8_t *text, size_t text_length, uint32_t c, uint32_t k, const uint8_t *assignment,
                      size_t assignment_length, uint8_t *recording, size_t recording_length);
+uint64_t plain_strip(uint32_t c, uint32_t k, const uint8_t *recording, size_t recording_length, uint8_t *strip, size_t strip_length);
 /* Without the table's two arrays, since it makes none. */
 uint64_t plain_search(const uint8_t *text, size_t text_length, uint32_t c, uint32_t k, uint32_t limit, uint8_t *values,
                       size_t values_length, uint32_t *trail, size_t trail_length, uint8_t *recording, size_t recording_length);

@@ -114,7 +114,7 @@ static void put_pair(struct bytes *to, const char *word)
 }
 
 /* How a byte is written. */
-enum unit { CHARACTER, DIGIT, PAIR };
+enum unit { CHARACTER, DIGIT, PAIR, DRAWN };
 
 /* One byte, the bytes of numbers, or a dot; and what follows. */
 static const char *spell(const char *word, enum unit unit, struct bytes *to)
@@ -125,6 +125,10 @@ static const char *spell(const char *word, enum unit unit, struct bytes *to)
     }
     if (unit == CHARACTER) {
         put(to, (uint8_t)*word);
+        return word + 1;
+    }
+    if (unit == DRAWN) {
+        put(to, *word == '.' ? ' ' : *word == '|' ? '\n' : (uint8_t)*word);
         return word + 1;
     }
     if (*word == '.')
@@ -344,6 +348,15 @@ static void search(const struct text *text, uint32_t limit, const uint32_t room[
     check(line, answer, same, wanted.code, wanted.value);
 }
 
+static void strip(uint32_t c, uint32_t k, const struct bytes *recording, size_t room, struct answer wanted,
+                  const struct bytes *drawn)
+{
+    uint8_t *lent = lend(recording->bytes, recording->length), *output = lend_output(room);
+    uint64_t answer = tuv_strip(c, k, lent, recording->length, output, room);
+    int same = unchanged(lent, recording->bytes, recording->length) & written(output, drawn->bytes, drawn->length, room);
+    check(line, answer, same, wanted.code, wanted.value);
+}
+
 static void write_file(const struct table *table, size_t room, struct answer wanted, const struct bytes *file)
 {
     const uint32_t *sizes = table->sizes;
@@ -430,6 +443,17 @@ static void search_line(void)
     }
 }
 
+static void strip_line(void)
+{
+    const uint32_t c = number(column()), k = number(column());
+    const struct bytes recording = spelt(column(), PAIR);
+    char *rooms = column();
+    const struct answer answer = read_answer();
+    const struct bytes wanted = is_written(answer) ? spelt(column(), DRAWN) : NOTHING;
+    while (rooms != NULL)
+        strip(c, k, &recording, number(cut(&rooms, "|")), answer, &wanted);
+}
+
 static void write_line(void)
 {
     const struct table table = read_table();
@@ -513,9 +537,9 @@ static void file_line(void)
 static const struct {
     const char *name;
     void (*try)(void);
-} KINDS[] = {{"evaluate", evaluate_line}, {"node", node_line},   {"table", table_line}, {"extend", extend_line},
-             {"check", check_line},       {"search", search_line}, {"write", write_line}, {"read", read_line},
-             {"text", text_line},         {"extends", extends_line}, {"file", file_line}};
+} KINDS[] = {{"evaluate", evaluate_line}, {"node", node_line},     {"table", table_line},     {"extend", extend_line},
+             {"check", check_line},       {"search", search_line}, {"strip", strip_line},     {"write", write_line},
+             {"read", read_line},         {"text", text_line},     {"extends", extends_line}, {"file", file_line}};
 
 enum { COUNT = sizeof KINDS / sizeof *KINDS };
 

@@ -11,6 +11,7 @@ _Static_assert(TUV_NO == 64 && TUV_YES == 65 && TUV_WRITTEN == 66 && TUV_ACCEPTE
                    TUV_CLAUSE == 14 && TUV_FILE_LENGTH == 15 && TUV_FILE_NUMBERS == 16 && TUV_FILE_CLAUSES == 17 &&
                    TUV_ROOM == 18 && TUV_SIZES == 5 && TUV_PLAIN == 1 && TUV_CLOSING == 2,
                "the numbers that firmware in the field is built with");
+_Static_assert(TUV_STRIP_LINE == 39 && TUV_STRIP_BYTES(1) == 78 && TUV_STRIP_BYTES(8) == 351, "the bytes of a strip and its lines");
 _Static_assert(TUV_FILE_BYTES(21) == 125 && TUV_FILE_BYTES(UINT32_MAX) == 21474836495, "the bytes of a file, of the longest too");
 
 static unsigned passed, failed;
@@ -171,6 +172,35 @@ static void searches_in_turn(void)
     }
 }
 
+/* What was drawn is printed for the notebook, one strip after another in a buffer that firmware has once and for all. */
+static void strips_in_turn(void)
+{
+    static const uint8_t drawn[8] = {0, 0, 0, 0, 0, 1, 1, 2}, longer[12] = {1, 1, 1, 1, 1, 1, 1, 1, 1, 1, 0, 1};
+    static const char first[] = "  01234567                            \n"
+                                "a _____##_                           2\n"
+                                "b _______#                           1\n";
+    static const char then[] = "  012345678901                        \n"
+                               "a ##########_#                      11\n"
+                               "b _______#                           1\n";
+    static uint8_t strip[TUV_STRIP_BYTES(8)];
+    static const uint8_t untouched[sizeof strip - TUV_STRIP_BYTES(2)];
+    enum { BYTES = sizeof first - 1 };
+    uint64_t answer;
+
+    trying("strips one after another");
+    answer = tuv_strip(2, 8, drawn, 8, strip, sizeof strip);
+    check("two channels", answer, memcmp(strip, first, BYTES) == 0, TUV_WRITTEN, BYTES);
+    answer = tuv_strip(1, 8, drawn, 8, strip, sizeof strip);
+    check("one channel, and a sample of b", answer, memcmp(strip, first, BYTES) == 0, TUV_RECORDING, 7);
+    answer = tuv_strip(2, 12, longer, 8, strip, sizeof strip);
+    check("12 steps, and 8 samples", answer, memcmp(strip, first, BYTES) == 0, TUV_RECORDING_LENGTH, 0);
+    answer = tuv_strip(3, 12, longer, 12, strip, BYTES);
+    check("three channels, and no room", answer, memcmp(strip, first, BYTES) == 0, TUV_ROOM, 0);
+    answer = tuv_strip(1, 12, longer, 12, strip, sizeof strip);
+    check("one channel, and the line of b still there", answer, memcmp(strip, then, BYTES) == 0, TUV_WRITTEN, 78);
+    count(memcmp(strip + BYTES, untouched, sizeof untouched) == 0, "what is beyond a strip is as it was");
+}
+
 /* The header's numbers for a firmware that has room for every formula. */
 static void largest_table(void)
 {
@@ -250,6 +280,7 @@ int main(int arguments, char **argument)
     tables_in_turn();
     recording_to_assignment_to_recording();
     searches_in_turn();
+    strips_in_turn();
     largest_table();
     table_to_file_to_table();
     edges(argument[1]);

@@ -3,13 +3,13 @@
 use mathlib.Core.List.{List, [], _∷_, _++_}
 use Prim.Native.Nat.{ℕ, _^_}
 use lib.ListN.{length}
-use Rattle.refusal.specs.Asked.{Asks}
+use Rattle.refusal.specs.Asked.{Asks, askPlaces}
 use Rattle.refusal.specs.declared.Reply.{Reply}
-use Rattle.refusal.proofs.Numbers.{asks-append}
-use Rattle.interval.proofs.Gives.{interval-gives}
+use Rattle.refusal.proofs.Numbers.{asks-append, places-gives}
+use Rattle.interval.proofs.Gives.{steps-gives, interval-gives}
 use Rattle.paper_grammar.specs.Nodes.{nodesIn}
 use Rattle.paper_grammar.specs.Questions.{formulaQuestions}
-use Rattle.paper_grammar.proofs.Gives.{formula-asks}
+use Rattle.paper_grammar.proofs.Gives.{channels-gives, formula-asks}
 use Rattle.node_calls.specs.Calls.{askNode, nodeQuestions}
 use Rattle.node_calls.proofs.Gives.{node-gives}
 use Rattle.paper_circuit.specs.Circuit.{variablesOf}
@@ -21,15 +21,17 @@ use Rattle.table_calls.specs.Table.{askRoom, tableQuestions}
 use Rattle.table_layout.specs.declared.Sizes.{Sizes}
 use Rattle.table_calls.proofs.Gives.{room-gives}
 use Rattle.paper_assignments.specs.Extension.{valueIn}
-use Rattle.paper_assignments.specs.Calls.{askAssignment, askValues, askClauses, askPlaces, clausesIn, extensionQuestions, proposalQuestions}
-use Rattle.paper_assignments.proofs.Gives.{assignment-gives, clauses-gives, places-gives}
+use Rattle.paper_assignments.specs.Calls.{askAssignment, askValues, askClauses, clausesIn, extensionQuestions, proposalQuestions}
+use Rattle.paper_assignments.proofs.Gives.{assignment-gives, clauses-gives}
 use Rattle.file_numbers.specs.File.{sizesAt, variablesAt, marksAt}
 use Rattle.file_questions.specs.Questions.{askFileRoom, arrayQuestions, fileQuestions}
 use Rattle.file_questions.proofs.Gives.{file-gives, arrays-gives, entries-gives, closed-gives, bytes-gives}
 use Rattle.paper_search.specs.Search.{askLent, searchQuestions}
 use Rattle.paper_search.specs.declared.Lent.{Lent}
 use Rattle.paper_search.proofs.Gives.{lent-gives}
-use Rattle.answers.specs.Numbers.{formulaNumbers, nodeNumbers, evaluationNumbers, tableNumbers, searchNumbers, extensionNumbers, proposalNumbers, fileNumbers}
+use Rattle.strip.specs.Strip.{stripOf}
+use Rattle.strip.specs.Call.{stripQuestions}
+use Rattle.answers.specs.Numbers.{formulaNumbers, nodeNumbers, evaluationNumbers, tableNumbers, searchNumbers, extensionNumbers, proposalNumbers, fileNumbers, stripNumbers}
 
 module _ (C k : ℕ) (t : List ℕ) where
   then-asks : (numbers : List ℕ) (questions : List Reply) → Asks numbers questions → Asks (formulaNumbers ++ numbers) (formulaQuestions C k t ++ questions)
@@ -81,4 +83,10 @@ reader-asks file sizes variables marks = (
     entries-gives (sizesAt file) (variablesAt file) (marksAt file),
     (closed-gives (sizesAt file .clauses) (marksAt file), (room-gives (sizesAt file .literals) (length sizes) (length variables) (length marks), tt)),
   ),
+)
+
+pub strip-asks : (C k : ℕ) (recording : List ℕ) (room : ℕ) → Asks stripNumbers (stripQuestions C k recording room)
+strip-asks C k recording room = (
+  channels-gives C,
+  (steps-gives k, (recording-gives k recording, (below-gives 11 (2 ^ C) recording, (places-gives (length (stripOf C k recording)) room, tt)))),
 )

@@ -35,11 +35,14 @@ use Rattle.file_calls.specs.Calls.{FileAfter, fileWritten, fileRead}
 use Rattle.paper_search.specs.Search.{searchQuestions, Searched, treeIn, searched}
 use Rattle.paper_search.specs.declared.Lent.{Lent}
 use Rattle.paper_search.proofs.Ends.{End, finds, lacks, spends, end}
+use Rattle.strip.specs.Strip.{stripOf}
+use Rattle.strip.specs.Call.{stripQuestions, Stripped, stripped}
+use Rattle.answers.specs.Answers.{packPrinted, printedBy}
 use Rattle.answers.specs.Answers.{Told, packVerdict, verdictBy, packWritten, writtenBy, packChecked, checkedBy, packAnswer, answerBy, packLocated, locatedBy}
-use Rattle.answers.specs.Numbers.{nodeNumbers, evaluationNumbers, tableNumbers, searchNumbers, extensionNumbers, proposalNumbers, fileNumbers}
-use Rattle.answers.proofs.Asks.{node-asks, evaluation-asks, table-asks, search-asks, extension-asks, proposal-asks, writer-asks, reader-asks}
+use Rattle.answers.specs.Numbers.{nodeNumbers, evaluationNumbers, tableNumbers, searchNumbers, extensionNumbers, proposalNumbers, fileNumbers, stripNumbers}
+use Rattle.answers.proofs.Asks.{node-asks, evaluation-asks, table-asks, search-asks, extension-asks, proposal-asks, writer-asks, reader-asks, strip-asks}
 use Rattle.answers.proofs.Told.{verdict-refused, written-refused, checked-refused, answer-refused, located-refused, verdict-told, done-told}
-use Rattle.answers.proofs.Told.{accepted-told, found-told, none-told, spent-told, part-told}
+use Rattle.answers.proofs.Told.{printed-refused, bytes-told, accepted-told, found-told, none-told, spent-told, part-told}
 
 -- each number is below 64
 abbrev eachBelow : List ℕ → Bool
@@ -119,3 +122,9 @@ file-read-told file sizes variables marks =
     call (λ (x : After). Told packWritten writtenBy (x .answer)) fileNumbers
     (fileQuestions file ++ askRoom (sizesAt file .literals) (length sizes) (length variables) (length marks) ∷ [])
     (reader-asks file sizes variables marks) refl written-refused (λ y. done-told)
+
+pub stripped-told : (C k : ℕ) (recording strip : List ℕ) → Told packPrinted printedBy (stripped C k recording strip .answer)
+unfolding stripped
+stripped-told C k recording strip =
+    call (λ (x : Stripped). Told packPrinted printedBy (x .answer)) stripNumbers (stripQuestions C k recording (length strip))
+    (strip-asks C k recording (length strip)) refl printed-refused (λ y. bytes-told (length (stripOf C k recording)))

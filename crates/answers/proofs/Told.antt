@@ -11,12 +11,13 @@ use Rattle.refusal.specs.declared.Refusal.{Refusal}
 use Rattle.truth_calls.specs.Evaluation.{verdictOf}
 use Rattle.truth_calls.specs.declared.Verdict.the-variants as verdict
 use Rattle.refusal.specs.declared.Written.the-variants as written
+use Rattle.refusal.specs.declared.Printed.the-variants as printed
 use Rattle.paper_assignments.specs.declared.Checked.the-variants as checked
 use Rattle.paper_search.specs.declared.Answer.the-variants as answer
 use Rattle.node_calls.specs.declared.Located.the-variants as located
 use Rattle.answers.specs.Answers.{tuvNo, tuvYes, tuvWritten, tuvAccepted, tuvFound, tuvNone, tuvSpent, tuvNodeText, packed, halves, Told}
-use Rattle.answers.specs.Answers.{packVerdict, verdictBy, packWritten, writtenBy, packChecked, checkedBy, packAnswer, answerBy, packLocated}
-use Rattle.answers.specs.Answers.{locatedBy}
+use Rattle.answers.specs.Answers.{packVerdict, verdictBy, packWritten, writtenBy, packPrinted, printedBy, packChecked, checkedBy, packAnswer, answerBy}
+use Rattle.answers.specs.Answers.{packLocated, locatedBy}
 
 -- a number below m, and m times another
 low-part : (m x y : ℕ) → 0 < m → x < m → ((x + m * y) % m ≡ x) × ((x + m * y) / m ≡ y)
@@ -49,6 +50,10 @@ module _ (r : Refusal) (h : r .number < 64) where
   unfolding packWritten
   written-refused = refused-halves writtenBy ∙ simp (other tuvWritten (omega arith))
 
+  pub printed-refused : Told packPrinted printedBy (printed.Refused r)
+  unfolding packPrinted
+  printed-refused = refused-halves printedBy ∙ simp (other tuvWritten (omega arith))
+
   pub checked-refused : Told packChecked checkedBy (checked.Refused r)
   unfolding packChecked
   checked-refused = refused-halves checkedBy ∙ simp (other tuvAccepted (omega arith))
@@ -70,6 +75,10 @@ verdict-told true = by-halves verdictBy tuvYes 0 (omega arith)
 pub done-told : Told packWritten writtenBy written.Done
 unfolding packWritten
 done-told = by-halves writtenBy tuvWritten 0 (omega arith)
+
+pub bytes-told : (n : ℕ) → Told packPrinted printedBy (printed.Bytes n)
+unfolding packPrinted
+bytes-told n = by-halves printedBy tuvWritten n (omega arith)
 
 pub accepted-told : Told packChecked checkedBy checked.Accepted
 unfolding packChecked

@@ -9,6 +9,8 @@ use Rattle.truth_calls.specs.declared.Verdict.{Verdict}
 use Rattle.truth_calls.specs.declared.Verdict.the-variants as verdict
 use Rattle.refusal.specs.declared.Written.{Written}
 use Rattle.refusal.specs.declared.Written.the-variants as written
+use Rattle.refusal.specs.declared.Printed.{Printed}
+use Rattle.refusal.specs.declared.Printed.the-variants as printed
 use Rattle.paper_assignments.specs.declared.Checked.{Checked}
 use Rattle.paper_assignments.specs.declared.Checked.the-variants as checked
 use Rattle.paper_search.specs.declared.Answer.{Answer}
@@ -76,6 +78,14 @@ packWritten (written.Refused r) = packRefusal r
 
 abbrev pub writtenBy : ℕ → ℕ → Written
 writtenBy code value = cond (eqb code tuvWritten) written.Done (written.Refused (refusalBy code value))
+
+-- a strip: how many bytes are written
+unfoldable pub packPrinted : Printed → ℕ
+packPrinted (printed.Bytes n) = packed tuvWritten n
+packPrinted (printed.Refused r) = packRefusal r
+
+abbrev pub printedBy : ℕ → ℕ → Printed
+printedBy code value = cond (eqb code tuvWritten) (printed.Bytes value) (printed.Refused (refusalBy code value))
 
 -- a proposed assignment: where it is accepted
 unfoldable pub packChecked : Checked → ℕ

@@ -32,3 +32,7 @@ proposalNumbers = formulaNumbers ++ 12 ∷ 13 ∷ 14 ∷ 18 ∷ []
 -- "the file's reader and its writer 15 to 18"
 abbrev pub fileNumbers : List ℕ
 fileNumbers = 15 ∷ 16 ∷ 17 ∷ 18 ∷ []
+
+-- document 02, C-11: "Printing asks 1, 2, 10, 11 and 18."
+abbrev pub stripNumbers : List ℕ
+stripNumbers = 1 ∷ 2 ∷ 10 ∷ 11 ∷ 18 ∷ []

@@ -3,18 +3,19 @@
 use node_calls::Located;
 use paper_assignments::Checked;
 use paper_search::Answer;
+use refusal::Printed;
 use refusal::Refusal;
 use refusal::Written;
 use truth_calls::Verdict;
 ghost use mathlib.Core.Path.{_≡_};
-ghost use Rattle.answers.specs.Answers.{packed, packRefusal, packVerdict, packLocated, packWritten, packChecked, packAnswer};
+ghost use Rattle.answers.specs.Answers.{packed, packRefusal, packVerdict, packLocated, packWritten, packPrinted, packChecked, packAnswer};
 
 // Evaluation: the formula does not hold; it holds.
 pub const TUV_NO: u32 = 64;
 
 pub const TUV_YES: u32 = 65;
 
-// A table, a file or an assignment is written, or a file read.
+// A table, a file, an assignment or a strip is written, or a file read.
 pub const TUV_WRITTEN: u32 = 66;
 
 // A proposed assignment meets every clause.
@@ -75,6 +76,16 @@ pub fn pack_written(a: Written) -> u64
     match a {
         Written::Done => pack(TUV_WRITTEN, 0),
         Written::Refused(r) => pack_refusal(r),
+    }
+}
+
+// Written with the number of bytes, or the refusal.
+pub fn pack_printed(a: Printed) -> u64
+    ensures { λ r. ⌜ r ≡ packPrinted a ⌝ }
+{
+    match a {
+        Printed::Bytes(n) => pack(TUV_WRITTEN, n),
+        Printed::Refused(r) => pack_refusal(r),
     }
 }
 

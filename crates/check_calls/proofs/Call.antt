@@ -8,7 +8,7 @@ use lib.Dec.{eqb, leb}
 use lib.ListN.{length, take, drop}
 use lib.Seq.{length-take-le}
 use borrow.Author.Tests.{eqb-true, leb-true}
-use Rattle.refusal.specs.Asked.{question, asked}
+use Rattle.refusal.specs.Asked.{question, asked, askPlaces}
 use Rattle.refusal.specs.declared.Refusal.{Refusal}
 use Rattle.refusal.specs.declared.Reply.{Reply}
 use Rattle.refusal.specs.declared.Reply.the-variants.{Yes, No}
@@ -31,7 +31,7 @@ use Rattle.table_layout.specs.declared.Sizes.{Sizes}
 use Rattle.node_calls.specs.Rows.{nodeTableOf}
 use Rattle.table_layout.specs.Rows.{Measured}
 use Rattle.paper_assignments.specs.Extension.{valueIn, recordingOf}
-use Rattle.paper_assignments.specs.Calls.{askAssignment, askValues, askClauses, askPlaces, clausesIn, Proposed, notAccepted, proposed}
+use Rattle.paper_assignments.specs.Calls.{askAssignment, askValues, askClauses, clausesIn, Proposed, notAccepted, proposed}
 use Rattle.paper_assignments.specs.declared.Checked.the-variants.{Accepted}
 use Rattle.paper_assignments.proofs.Recordings.{recording-length}
 use Rattle.check_calls.specs.Rows.{clausesFor, checkQuestions}

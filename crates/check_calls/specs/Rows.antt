@@ -12,7 +12,8 @@ use Rattle.paper_circuit.specs.Circuit.{Definition, variablesOf}
 use Rattle.paper_clauses.specs.Clauses.{Clause, plain, clausesBy, clauseTable}
 use Rattle.table_layout.specs.Rows.{seatBy, rowDefinitions}
 use Rattle.paper_assignments.specs.Extension.{valueIn}
-use Rattle.paper_assignments.specs.Calls.{askAssignment, askValues, askClauses, askPlaces}
+use Rattle.refusal.specs.Asked.{askPlaces}
+use Rattle.paper_assignments.specs.Calls.{askAssignment, askValues, askClauses}
 
 -- the definitions of the nodes of a table, and their clauses with the last one
 abbrev pub definedIn : ℕ → ℕ → NodeTable → List ℕ → List Definition

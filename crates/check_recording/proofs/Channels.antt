@@ -11,9 +11,8 @@ use lib.ListN.{getD}
 use Rattle.lists.specs.Listing.{sum}
 use Rattle.paper_meaning.specs.Meaning.{bit}
 use Rattle.paper_circuit.specs.Circuit.{channelOf}
-use Rattle.paper_meaning.proofs.Words.{Packed}
+use Rattle.paper_meaning.proofs.Words.{Packed, packed-only}
 use Rattle.paper_assignments.specs.Extension.{valueIn}
-use Rattle.paper_assignments.proofs.Recordings.{packed-only}
 
 pub channel-bit : (A : List ℕ) (C t b : ℕ) {at x : ℕ} → at ≡ t * C → x ≡ bit (eqb (getD A (at + b) 0) 1) → x ≡ bit (valueIn A (channelOf C t b))
 unfolding valueIn

@@ -1,6 +1,6 @@
 -- TWO ENGINES CANNOT PART. An answer fulfils the demands where it is as their sentences say (specs/: predicates that name no call of ours).
 -- Ours does; whatever does is ours; so two that do are the same: verdict, node text, table, file, extension, acceptance or clause number,
--- outcome, recording and count, and every refusal. Only what the search's work arrays hold after a search is free.
+-- strip, outcome, recording and count, and every refusal. Only what the search's work arrays hold after a search is free.
 use mathlib.Core.Path.{_≡_, sym, _∙_}
 use mathlib.Core.List.{List}
 use Prim.Native.Nat.{ℕ}
@@ -12,10 +12,12 @@ use Rattle.table_layout.specs.declared.Sizes.{Sizes}
 use Rattle.paper_assignments.specs.Calls.{extended, proposed}
 use Rattle.file_calls.specs.Calls.{fileWritten, fileRead}
 use Rattle.file_line.specs.Output.{outputOf}
-use Rattle.demands.specs.Demand2.{Evaluates, Locates, Tables, Extends, Checks, Writes, Reads, Outputs}
+use Rattle.strip.specs.Call.{stripped}
+use Rattle.demands.specs.Demand2.{Evaluates, Locates, Tables, Extends, Checks, Writes, Reads, Outputs, Strips}
 use Rattle.demands.specs.Demand3.{Search, Searches}
 use Rattle.demands.proofs.Answers.{evaluated-obeys, evaluated-only, located-obeys, located-only, tabled-obeys, tabled-only, extended-obeys, extended-only, proposed-obeys, proposed-only}
 use Rattle.demands.proofs.Files.{written-follows, written-only, read-follows, read-only, output-obeys, output-only}
+use Rattle.demands.proofs.Strips.{stripped-follows, stripped-only}
 use Rattle.demands.proofs.Search.{Contract, Alike, contract-searches, searches-contract, searches-alike}
 use Rattle.paper_search.specs.Search.{Arrays}
 
@@ -51,6 +53,9 @@ file-reader file sizes variables marks o = record { fulfilled = read-follows fil
 
 pub file-program : (input : List ℕ) → Exactly (Outputs input) (outputOf input)
 file-program input = record { fulfilled = output-obeys input; only = output-only input }
+
+pub strip : (C k : ℕ) (recording lent : List ℕ) → Exactly (Strips C k recording lent) (stripped C k recording lent)
+strip C k recording lent = record { fulfilled = stripped-follows C k recording lent; only = stripped-only C k recording lent }
 
 -- the search: its contract is the demand,
 pub search-fulfilled : (C k : ℕ) (t : List ℕ) (B : ℕ) (lent : Arrays) (x : Search) → Contract C k t B lent x → Searches C k t B lent x

@@ -6,7 +6,7 @@ use mathlib.Core.List.{List, [], _∷_, _++_}
 use Prim.Native.Nat.{ℕ, _-_}
 use lib.Dec.{leb}
 use lib.ListN.{length, drop}
-use Rattle.refusal.specs.Asked.{question, AllYes}
+use Rattle.refusal.specs.Asked.{question, AllYes, askPlaces}
 use Rattle.refusal.specs.declared.Reply.{Reply}
 use Rattle.refusal.specs.declared.Reply.the-variants.{Yes, No}
 use Rattle.refusal.proofs.Laws.{all-yes-answers}
@@ -29,7 +29,7 @@ use Rattle.paper_meaning.specs.Recording.{askRecording, askBytes}
 use Rattle.truth_calls.specs.Evaluation.{recordingQuestions, readHolds, verdictOf, evaluated}
 use Rattle.truth_calls.specs.declared.Verdict.{Verdict}
 use Rattle.paper_assignments.specs.Extension.{valueIn, extensionOf, recordingOf}
-use Rattle.paper_assignments.specs.Calls.{askPlaces, askAssignment, askValues, askClauses, clausesIn, Extended, extended, Proposed, proposed}
+use Rattle.paper_assignments.specs.Calls.{askAssignment, askValues, askClauses, clausesIn, Extended, extended, Proposed, proposed}
 use Rattle.paper_assignments.specs.declared.Checked.the-variants as checked
 use Rattle.paper_assignments.proofs.Values.{extension-length}
 use Rattle.paper_assignments.proofs.Recordings.{recording-length, recording-below, recording-channels, recording-only}

@@ -6,32 +6,31 @@ use mathlib.Core.Bool.{Bool, true, false, cond, _&&_, false≢true}
 use mathlib.Core.List.{List, [], _∷_, _++_}
 use Prim.Native.Nat.{ℕ, suc, _+_, _-_, _^_, _≤_}
 use native.Mathlib.Omega.{arith}
-use lib.Dec.{ltb}
 use lib.ListN.{length, length-append}
-use borrow.Author.Tests.{eq-eqb, eqb-true, le-leb, lt-ltb, ltb-true}
-use Rattle.refusal.specs.Asked.{AllYes, none-left, yes-then, FirstNo, here, later}
+use borrow.Author.Tests.{eq-eqb, eqb-true, le-leb}
+use Rattle.refusal.specs.Asked.{AllYes, none-left, yes-then, FirstNo, here, later, askPlaces}
 use Rattle.refusal.specs.declared.Refusal.{Refusal}
 use Rattle.refusal.specs.declared.Reply.{Reply}
 use Rattle.refusal.specs.declared.Reply.the-variants.{Yes, No}
-use Rattle.refusal.proofs.Laws.{all-yes-or-first-no, test-yes}
+use Rattle.refusal.proofs.Laws.{all-yes-or-first-no, test-yes, one-yes}
 use Rattle.paper_grammar.specs.Trees.{Tree, Letters}
 use Rattle.paper_grammar.specs.declared.Sort.the-variants.{Formula}
 use Rattle.lists.proofs.Tests.{both}
 use Rattle.paper_grammar.specs.Nodes.{nodesOf}
-use Rattle.paper_grammar.specs.Questions.{atFirst}
 use Rattle.paper_meaning.specs.Meaning.{holds}
 use Rattle.paper_circuit.specs.Gates.{Assignment}
 use Rattle.paper_circuit.specs.Circuit.{variablesOf, definitionsOf, rootOf}
 use Rattle.paper_clauses.specs.Clauses.{Clause, plain, clausesBy, clauseTable, meetsClause, meetsAll}
 use Rattle.moments.specs.Moments.{over}
-use Rattle.paper_meaning.specs.Recording.{notBelow, askBelow}
-use Rattle.paper_assignments.specs.Extension.{valueIn, extensionOf, recordingOf, EachBelow, meetsLast}
-use Rattle.paper_assignments.specs.Calls.{askAssignment, askValues, askClauses, askPlaces, Proposed, notAccepted, proposed}
+use Rattle.paper_meaning.specs.Recording.{EachBelow}
+use Rattle.paper_meaning.proofs.Recording.{below-yes}
+use Rattle.paper_assignments.specs.Extension.{valueIn, extensionOf, recordingOf, meetsLast}
+use Rattle.paper_assignments.specs.Calls.{askAssignment, askValues, askClauses, Proposed, notAccepted, proposed}
 use Rattle.paper_assignments.specs.declared.Checked.the-variants.{Accepted}
 use Rattle.paper_assignments.proofs.Laws.{extension-last, extension-only, holds-meets, accepted-exactly}
 use Rattle.demands.specs.Calls.{IsText, formulaReplies}
 use Rattle.demands.specs.Demand2.{ExtensionOf}
-use Rattle.demands.proofs.Obeyed.{yes-both, one-yes, letters-in}
+use Rattle.demands.proofs.Obeyed.{yes-both, letters-in}
 use Rattle.demands.proofs.Answers.{one-recording, proposed-obeys}
 
 -- ---- replies
@@ -53,27 +52,7 @@ no-next {q} {Q} {r} e h = subst (λ (q : Reply). FirstNo (q ∷ Q) r) (sym e) (l
 no-here : {q : Reply} {Q : List Reply} {r : Refusal} → q ≡ No r → FirstNo (q ∷ Q) r
 no-here {q} {Q} {r} e = subst (λ (q : Reply). FirstNo (q ∷ Q) r) (sym e) here
 
--- ---- questions 13 and 14
-
-module _ (number n : ℕ) where
-  none-not-below : (t : ℕ) (A : List ℕ) → EachBelow n A → notBelow n t A ≡ []
-  unfolding notBelow
-  none-not-below t [] h = refl
-  none-not-below t (b ∷ A) h = rw (lt-ltb b n (h .0)) (none-not-below (suc t) A (h .1))
-
-  each-below : (t : ℕ) (A : List ℕ) → atFirst number (notBelow n t A) ≡ Yes → EachBelow n A
-  unfolding notBelow
-  each-below t [] e = tt
-  each-below t (b ∷ A) e = go (ltb b n) refl e (each-below (suc t) A)
-    where
-      go : (u : Bool) → ltb b n ≡ u → atFirst number (cond u [] (t ∷ []) ++ notBelow n (suc t) A) ≡ Yes →
-          (atFirst number (notBelow n (suc t) A) ≡ Yes → EachBelow n A) → EachBelow n (b ∷ A)
-      go true u e ih = (ltb-true b n u, ih e)
-      go false u e ih = absurd (false≢true cc)
-
-  below-yes : (A : List ℕ) → (askBelow number n A ≡ Yes) ↔ EachBelow n A
-  unfolding askBelow
-  below-yes A = (each-below 0 A, λ h. ap (atFirst number) (none-not-below 0 A h))
+-- ---- question 14
 
 clauses-yes : (a : Assignment) (n : ℕ) (T : List Clause) → (askClauses a n T ≡ Yes) ↔ (meetsAll a T ≡ true)
 unfolding meetsAll askClauses

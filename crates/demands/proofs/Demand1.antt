@@ -4,7 +4,7 @@
 -- where a call is not refused, only the places that document 01 names are written (`Orderly`). And the number that C gets tells the answer.
 use mathlib.Core.Path.{_≡_}
 use mathlib.Core.List.{List, [], _∷_, _++_}
-use Prim.Native.Nat.{ℕ}
+use Prim.Native.Nat.{ℕ, _+_, _*_}
 use lib.ListN.{length}
 use Rattle.refusal.specs.declared.Refusal.{Refusal}
 use Rattle.refusal.specs.declared.Reply.the-variants.{No}
@@ -17,7 +17,7 @@ use Rattle.paper_clauses.specs.Entries.{placesIn}
 use Rattle.table_calls.specs.Table.{askRoom, tableQuestions, After, refused, tabled}
 use Rattle.table_layout.specs.declared.Sizes.{Sizes}
 use Rattle.refusal.specs.declared.Written.the-variants as written
-use Rattle.refusal.specs.declared.Written.the-variants as written
+use Rattle.refusal.specs.declared.Printed.the-variants as printed
 use Rattle.truth_calls.specs.Evaluation.{recordingQuestions, evaluated}
 use Rattle.truth_calls.specs.declared.Verdict.the-variants as verdict
 use Rattle.paper_assignments.specs.Calls.{extensionQuestions, Extended, notExtended, extended, proposalQuestions, Proposed, notAccepted, proposed}
@@ -28,11 +28,15 @@ use Rattle.paper_search.specs.declared.Lent.{Lent}
 use Rattle.file_numbers.specs.File.{fileLength, sizesAt}
 use Rattle.file_questions.specs.Questions.{askFileRoom, arrayQuestions, fileQuestions}
 use Rattle.file_calls.specs.Calls.{FileAfter, fileRefused, fileWritten, fileRead}
+use Rattle.strip.specs.Strip.{lineBytes}
+use Rattle.strip.specs.Call.{stripQuestions, Stripped, notStripped, stripped}
+use Rattle.answers.specs.Answers.{packPrinted, printedBy}
 use Rattle.answers.specs.Answers.{Told, packVerdict, verdictBy, packWritten, writtenBy, packChecked, checkedBy, packAnswer, answerBy, packLocated, locatedBy}
-use Rattle.answers.specs.Numbers.{nodeNumbers, evaluationNumbers, tableNumbers, searchNumbers, extensionNumbers, proposalNumbers, fileNumbers}
-use Rattle.answers.proofs.Calls.{evaluated-told, located-told, tabled-told, extended-told, proposed-told, searched-told, file-written-told, file-read-told}
+use Rattle.answers.specs.Numbers.{nodeNumbers, evaluationNumbers, tableNumbers, searchNumbers, extensionNumbers, proposalNumbers, fileNumbers, stripNumbers}
+use Rattle.answers.proofs.Calls.{evaluated-told, located-told, tabled-told, extended-told, proposed-told, searched-told, file-written-told, file-read-told, stripped-told}
 use Rattle.demands.specs.Demand1.{Kept, Orderly}
-use Rattle.demands.proofs.Orderly.{evaluation-orderly, node-orderly, node-refused, table-orderly, extension-orderly, check-orderly, search-orderly, writer-orderly, reader-orderly}
+use Rattle.demands.proofs.Orderly.{evaluation-orderly, node-orderly, node-refused, table-orderly, extension-orderly, check-orderly, search-orderly}
+use Rattle.demands.proofs.Orderly.{writer-orderly, reader-orderly, strip-orderly}
 
 module _ (C k : ℕ) (t : List ℕ) where
   -- "evaluation [asks] 1 to 7 and 9 to 11"; it writes nothing
@@ -88,6 +92,12 @@ pub file-reader : (file sizes variables marks : List ℕ)
     (fileRead file sizes variables marks)
 file-reader = reader-orderly
 
+-- document 02, C-11: "Printing asks 1, 2, 10, 11 and 18."; C + 1 lines
+pub strip : (C k : ℕ) (recording lent : List ℕ)
+    → Orderly (λ (x : Stripped). x .answer) printed.Refused stripNumbers (stripQuestions C k recording (length lent)) (notStripped lent)
+    (λ x. Kept ((C + 1) * lineBytes) lent (x .strip)) (stripped C k recording lent)
+strip = strip-orderly
+
 -- ---- the numbers that C gets: what is decoded from a call's number is its answer, so no two answers of a call have one number
 
 pub evaluation-number : (C k : ℕ) (t : List ℕ) (i j : ℕ) (recording : List ℕ) → Told packVerdict verdictBy (evaluated C k i j t recording)
@@ -113,3 +123,6 @@ writer-number = file-written-told
 
 pub reader-number : (file sizes variables marks : List ℕ) → Told packWritten writtenBy (fileRead file sizes variables marks .answer)
 reader-number = file-read-told
+
+pub strip-number : (C k : ℕ) (recording lent : List ℕ) → Told packPrinted printedBy (stripped C k recording lent .answer)
+strip-number = stripped-told

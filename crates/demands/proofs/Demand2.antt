@@ -1,12 +1,12 @@
--- DEMAND 2, of every text, C, k, recording, assignment, table and file: what our calls' answers say. Each line cites the theorem behind it.
+-- DEMAND 2, of every text, C, k, recording, assignment, table, file and strip: what our calls' answers say. Each line cites the theorem behind it.
 -- The calls are proved to answer by these definitions (`evaluated`, `tabled`, ..), so whatever is said of a definition holds of the call.
 use mathlib.Core.Path.{_≡_, refl}
 use mathlib.Core.Bool.{true, false, _&&_}
 use mathlib.Core.List.{List, [], _∷_, _++_}
-use Prim.Native.Nat.{ℕ, _-_, _^_, _≤_}
+use Prim.Native.Nat.{ℕ, _+_, _-_, _*_, _^_, _≤_}
 use lib.Dec.{leb}
-use lib.ListN.{length}
-use Rattle.refusal.specs.Asked.{question, asked, AllYes, FirstNo}
+use lib.ListN.{length, take}
+use Rattle.refusal.specs.Asked.{question, asked, AllYes, FirstNo, askPlaces}
 use Rattle.refusal.specs.declared.Refusal.{Refusal}
 use Rattle.refusal.specs.declared.Reply.the-variants.{Yes, No}
 use Rattle.interval.specs.Limits.{askInterval}
@@ -23,10 +23,10 @@ use Rattle.table_calls.specs.Table.{sizesOf, sizesIn, fiveOf, askRoom, refused,
 use Rattle.moments.specs.Moments.{over}
 use Rattle.table_layout.specs.declared.Sizes.{Sizes}
 use Rattle.refusal.specs.declared.Written.the-variants.{Done}
-use Rattle.paper_meaning.specs.Recording.{askRecording, askBytes}
+use Rattle.paper_meaning.specs.Recording.{askRecording, askBytes, EachBelow}
 use Rattle.truth_calls.specs.Evaluation.{verdictOf, evaluated}
-use Rattle.paper_assignments.specs.Extension.{valueIn, extensionOf, recordingOf, EachBelow, meetsLast}
-use Rattle.paper_assignments.specs.Calls.{askPlaces, extended, notAccepted, proposed}
+use Rattle.paper_assignments.specs.Extension.{valueIn, extensionOf, recordingOf, meetsLast}
+use Rattle.paper_assignments.specs.Calls.{extended, notAccepted, proposed}
 use Rattle.paper_assignments.specs.declared.Checked.the-variants.{Accepted}
 use Rattle.file_numbers.specs.File.{fileOf, fileLength, sizesBy, sizesAt, variablesAt, marksAt, Words, Octets}
 use Rattle.file_questions.specs.Questions.{askFileRoom, arrayQuestions, fileQuestions}
@@ -35,11 +35,14 @@ use Rattle.file_calls.proofs.Laws.{read-written, write-read}
 use Rattle.file_calls.proofs.Writable.{table-written}
 use Rattle.file_line.specs.Line.{lineOf}
 use Rattle.file_line.specs.Output.{askLiterals, outputOf}
+use Rattle.strip.specs.Strip.{stripOf, lineBytes}
+use Rattle.strip.specs.Call.{stripQuestions, printed, stripped}
 use Rattle.demands.specs.Calls.{IsText, formulaReplies}
 use Rattle.demands.specs.Demand2.{NodeText, ExtensionOf}
 use Rattle.demands.proofs.Answers as answers
 use Rattle.demands.proofs.Answers.{evaluated-obeys, located-obeys, tabled-obeys, extended-obeys}
 use Rattle.demands.proofs.Files.{output-obeys}
+use Rattle.demands.proofs.Strips.{stripped-follows, strip-bytes, strips-tell}
 use Rattle.demands.proofs.Checked as checked
 
 -- of a text that is the formula's
@@ -126,3 +129,17 @@ program-refused C k t f is = output-obeys (lineOf C k t) .of-line C k t refl .of
 
 pub program-other : (input : List ℕ) → ((C k : ℕ) (t : List ℕ) → lineOf C k t ≡ input → ⊥) → outputOf input ≡ []
 program-other input = output-obeys input .of-other
+
+-- document 02, C-11: the strip is the recording's, C + 1 lines,
+pub strip-is-recordings : (C k : ℕ) (recording lent : List ℕ) → AllYes (stripQuestions C k recording (length lent))
+    → stripped C k recording lent ≡ printed (stripOf C k recording) lent
+strip-is-recordings C k recording lent = stripped-follows C k recording lent .all-yes
+
+pub strip-has-lines : (C k : ℕ) (recording lent : List ℕ) → AllYes (stripQuestions C k recording (length lent))
+    → length (stripOf C k recording) ≡ (C + 1) * lineBytes
+strip-has-lines = strip-bytes
+
+-- and "two recordings of equal C and k with equal strips are equal": what is written tells the recording
+pub strip-tells-recording : (C k : ℕ) (r s lent lent′ : List ℕ) → AllYes (stripQuestions C k r (length lent)) → AllYes (stripQuestions C k s (length lent′))
+    → take ((C + 1) * lineBytes) (stripped C k r lent .strip) ≡ take ((C + 1) * lineBytes) (stripped C k s lent′ .strip) → r ≡ s
+strip-tells-recording = strips-tell

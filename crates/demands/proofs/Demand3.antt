@@ -7,7 +7,7 @@ use mathlib.Core.List.{List, _++_}
 use Prim.Native.Nat.{ℕ, _+_, _-_, _*_, _^_, _≤_}
 use native.Mathlib.Omega.{arith}
 use lib.ListN.{length}
-use Rattle.paper_assignments.specs.Extension.{EachBelow}
+use Rattle.paper_meaning.specs.Recording.{EachBelow}
 use Rattle.refusal.specs.Asked.{AllYes, FirstNo}
 use Rattle.refusal.specs.declared.Refusal.{Refusal}
 use Rattle.paper_grammar.specs.Trees.{Tree}

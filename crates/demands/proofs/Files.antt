@@ -11,7 +11,7 @@ use borrow.Author.Tests.{eq-eqb}
 use Rattle.refusal.specs.Asked.{asked, AllYes, yes-then}
 use Rattle.refusal.specs.declared.Reply.{Reply}
 use Rattle.refusal.specs.declared.Reply.the-variants.{Yes, No}
-use Rattle.refusal.proofs.Laws.{all-yes-answers}
+use Rattle.refusal.proofs.Laws.{all-yes-answers, one-yes}
 use Rattle.lists.specs.Listing.{rows}
 use Rattle.paper_grammar.specs.Reader.{Read, onTree}
 use Rattle.paper_grammar.specs.declared.Sort.the-variants.{Formula}
@@ -34,7 +34,7 @@ use Rattle.file_line.specs.Line.{Line, line, other, lineOf, readLine}
 use Rattle.file_line.specs.Output.{askLiterals, outputFor, outputOf}
 use Rattle.file_line.proofs.Laws.{line-reads-back, line-is}
 use Rattle.demands.specs.Demand2.{Writes, FileOf, Reads, Outputs}
-use Rattle.demands.proofs.Obeyed.{yes-both, one-yes, asked-follows, follows-two, reads-as, asked-obeys, obeys-same}
+use Rattle.demands.proofs.Obeyed.{yes-both, asked-follows, follows-two, reads-as, asked-obeys, obeys-same}
 
 -- ---- the file's writer
 

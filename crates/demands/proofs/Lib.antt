@@ -1,6 +1,6 @@
 -- The files of theorems, and the laws that they rest on.
 -- Demand1: every call of ours, refused: by the first no, every lent array as it was; else only the named places are written.
--- Demand2: evaluation, node text, table, extension, check and files of ours, sentence by sentence.
+-- Demand2: evaluation, node text, table, extension, check, files and strip of ours, sentence by sentence.
 -- Demand3: the order, N and what the search of ours answers, sentence by sentence.
 -- Agreement: of every call: ours fulfils its demand, and whatever does is ours.
 -- Wrong: no engine of document 01's checklist fulfils the demands: each parts from a starred edge.
@@ -9,6 +9,7 @@
 pub mod Obeyed
 pub mod Answers
 pub mod Files
+pub mod Strips
 pub mod Search
 pub mod Checked
 pub mod Orderly

@@ -28,9 +28,6 @@ pub yes-both : (p q : List Reply) → AllYes (p ++ q) → AllYes p × AllYes q
 yes-both [] q h = (none-left, h)
 yes-both (Yes ∷ p) q (yes-then h) = let w = yes-both p q h in (yes-then (w .0), w .1)
 
-pub one-yes : {q : Reply} {Q : List Reply} → AllYes (q ∷ Q) → (q ≡ Yes) × AllYes Q
-one-yes (yes-then h) = (refl, h)
-
 first-front : {p : List Reply} (q : List Reply) {r : Refusal} → FirstNo p r → FirstNo (p ++ q) r
 first-front q here = here
 first-front q (later f) = later (first-front q f)

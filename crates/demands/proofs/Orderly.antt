@@ -4,7 +4,7 @@ use mathlib.Core.Path.{_≡_, refl, sym, ap, _∙_, subst}
 use mathlib.Core.Logic.{⊎-elim, _≢_}
 use mathlib.Core.Bool.{_&&_, Bool, true, false, false≢true}
 use mathlib.Core.List.{List, [], _∷_, _++_}
-use Prim.Native.Nat.{ℕ, _≤_, _-_}
+use Prim.Native.Nat.{ℕ, _+_, _*_, _≤_, _-_}
 use native.Mathlib.Omega.{arith}
 use lib.Dec.{leb}
 use lib.ListN.{length, drop, length-append, length-drop, length-map}
@@ -12,20 +12,21 @@ use lib.Seq.{drop-append-seam}
 use borrow.Author.Tests.{leb-true}
 use Rattle.paper_assignments.specs.declared.Checked.the-variants as checked
 use Rattle.refusal.specs.declared.Written.the-variants as written
+use Rattle.refusal.specs.declared.Printed.the-variants as printed
 use Rattle.truth_calls.specs.declared.Verdict.the-variants as verdict
 use Rattle.node_calls.specs.declared.Located.the-variants as located
 use Rattle.paper_search.specs.declared.Answer.the-variants as answer
-use Rattle.refusal.specs.Asked.{asked, AllYes, FirstNo, here, later, Asks}
+use Rattle.refusal.specs.Asked.{asked, AllYes, FirstNo, here, later, Asks, askPlaces}
 use Rattle.refusal.specs.declared.Refusal.{Refusal}
 use Rattle.refusal.specs.declared.Reply.{Reply}
 use Rattle.refusal.specs.declared.Reply.the-variants.{Yes, No}
-use Rattle.refusal.proofs.Laws.{all-yes-or-first-no, first-no-answers, all-yes-answers, test-yes}
+use Rattle.refusal.proofs.Laws.{all-yes-or-first-no, first-no-answers, all-yes-answers, test-yes, one-yes}
 use Rattle.refusal.proofs.Numbers.{first-no-number}
 use Rattle.lists.proofs.Tests.{both}
 use Rattle.table_calls.specs.Table.{askRoom, sizesIn, fiveOf, tableQuestions, After, refused, tabled}
 use Rattle.paper_clauses.specs.Entries.{placesIn, Entry, variablesIn, marksIn}
 use Rattle.moments.specs.Moments.{over}
-use Rattle.paper_assignments.specs.Calls.{askPlaces, extensionQuestions, Extended, notExtended, extended, proposalQuestions, Proposed, notAccepted, proposed}
+use Rattle.paper_assignments.specs.Calls.{extensionQuestions, Extended, notExtended, extended, proposalQuestions, Proposed, notAccepted, proposed}
 use Rattle.paper_assignments.specs.Extension.{recordingBy, valueIn, extensionOf, recordingOf}
 use Rattle.paper_assignments.proofs.Recordings.{recording-length}
 use Rattle.paper_closure.specs.Runs.{highIn}
@@ -47,10 +48,13 @@ use Rattle.file_calls.specs.Calls.{FileAfter, fileRefused, fileWritten, fileRea
 use Rattle.file_questions.proofs.Asking.{length-written, room-written, file-held}
 use Rattle.file_numbers.proofs.Stored.{variables-count, marks-count}
 use Rattle.file_calls.proofs.Writable.{five-sizes}
-use Rattle.answers.specs.Numbers.{nodeNumbers, evaluationNumbers, tableNumbers, searchNumbers, extensionNumbers, proposalNumbers, fileNumbers}
-use Rattle.answers.proofs.Asks.{node-asks, evaluation-asks, table-asks, search-asks, extension-asks, proposal-asks, writer-asks, reader-asks}
+use Rattle.strip.specs.Strip.{stripOf, lineBytes}
+use Rattle.strip.specs.Call.{recordedQuestions, stripQuestions, Stripped, notStripped, stripped}
+use Rattle.answers.specs.Numbers.{nodeNumbers, evaluationNumbers, tableNumbers, searchNumbers, extensionNumbers, proposalNumbers, fileNumbers, stripNumbers}
+use Rattle.answers.proofs.Asks.{node-asks, evaluation-asks, table-asks, search-asks, extension-asks, proposal-asks, writer-asks, reader-asks, strip-asks}
 use Rattle.demands.specs.Demand1.{Kept, Orderly}
-use Rattle.demands.proofs.Obeyed.{yes-both, one-yes}
+use Rattle.demands.proofs.Obeyed.{yes-both}
+use Rattle.demands.proofs.Strips.{strip-bytes}
 use Rattle.demands.proofs.Search.{never-refused}
 
 -- a call by its questions: its answer is no refusal, and once every question is answered with yes it leaves what it should
@@ -205,3 +209,13 @@ reader-orderly file sizes variables marks =
       over-keeps L (variablesAt file) variables (sym (variables-count held)) (h .1),
       over-keeps L (marksAt file) marks (marks-count held) (h .2),
     ))
+
+pub strip-orderly : (C k : ℕ) (recording strip : List ℕ)
+    → Orderly (λ (x : Stripped). x .answer) printed.Refused stripNumbers (stripQuestions C k recording (length strip)) (notStripped strip)
+    (λ x. Kept ((C + 1) * lineBytes) strip (x .strip)) (stripped C k recording strip)
+unfolding stripped
+strip-orderly C k recording strip =
+    orderly (λ (x : Stripped). x .answer) printed.Refused (λ s r q. cc) _ (λ r. refl) (λ r q. absurd (false≢true cc)) stripNumbers _ _
+    (strip-asks C k recording (length strip))
+    (λ y. let l = strip-bytes C k recording strip y in
+    over-keeps _ (stripOf C k recording) strip l (omega (arith, l, places-yes _ _ (one-yes (yes-both (recordedQuestions C k recording) _ y .1) .0))))

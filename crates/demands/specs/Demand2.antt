@@ -1,12 +1,12 @@
--- DEMAND 2, of any engine: what evaluation, node text, the table, the extension, the check, the file's writer and reader and the file
--- program answer and leave in each lent array. Each is a predicate on the answer with the arrays after it.
+-- DEMAND 2, of any engine: what evaluation, node text, the table, the extension, the check, the file's writer and reader, the file
+-- program and the strip answer and leave in each lent array. Each is a predicate on the answer with the arrays after it.
 use mathlib.Core.Path.{_≡_}
 use mathlib.Core.Bool.{_&&_}
 use mathlib.Core.List.{List, [], _∷_, _++_}
 use Prim.Native.Nat.{ℕ, _-_, _^_, _<_}
 use lib.Dec.{leb}
 use lib.ListN.{length, take, drop}
-use Rattle.refusal.specs.Asked.{question, AllYes}
+use Rattle.refusal.specs.Asked.{question, AllYes, askPlaces}
 use Rattle.interval.specs.Limits.{askInterval}
 use Rattle.paper_grammar.specs.Trees.{Tree, textOf}
 use Rattle.paper_grammar.specs.declared.Sort.the-variants.{Formula}
@@ -21,18 +21,20 @@ use Rattle.table_calls.specs.Table.{sizesOf, fiveOf, askRoom, After, refused, w
 use Rattle.moments.specs.Moments.{over}
 use Rattle.table_layout.specs.declared.Sizes.{Sizes}
 use Rattle.refusal.specs.declared.Written.the-variants.{Done}
-use Rattle.paper_meaning.specs.Recording.{askRecording, askBytes}
+use Rattle.paper_meaning.specs.Recording.{askRecording, askBytes, EachBelow}
 use Rattle.truth_calls.specs.Evaluation.{verdictOf}
 use Rattle.truth_calls.specs.declared.Verdict.{Verdict}
 use Rattle.truth_calls.specs.declared.Verdict.the-variants as verdict
-use Rattle.paper_assignments.specs.Extension.{valueIn, EachBelow, MeetsButLast}
-use Rattle.paper_assignments.specs.Calls.{askAssignment, askValues, askClauses, askPlaces, Extended, notExtended, Proposed, notAccepted}
+use Rattle.paper_assignments.specs.Extension.{valueIn, MeetsButLast}
+use Rattle.paper_assignments.specs.Calls.{askAssignment, askValues, askClauses, Extended, notExtended, Proposed, notAccepted}
 use Rattle.paper_assignments.specs.declared.Checked.the-variants as checked
 use Rattle.file_numbers.specs.File.{fileOf, sizesAt, Words}
 use Rattle.file_questions.specs.Questions.{askFileRoom, arrayQuestions, fileQuestions}
 use Rattle.file_calls.specs.Calls.{FileAfter, fileRefused}
 use Rattle.file_line.specs.Line.{lineOf}
 use Rattle.file_line.specs.Output.{askLiterals}
+use Rattle.strip.specs.Strip.{stripOf}
+use Rattle.strip.specs.Call.{stripQuestions, Stripped, notStripped, printed}
 use Rattle.demands.specs.Calls.{Follows, Obeys}
 
 -- "A recording is said to satisfy a formula exactly when" the meaning says so, on any [i, j]
@@ -108,3 +110,8 @@ pub record Outputs (input bytes : List ℕ) : Type 0 where
       → Obeys C k t (λ f. askLiterals (length (flat (clauseTable C k f))) ∷ []) (λ r. [])
       (λ f x. x ≡ (let F = flat (clauseTable C k f) in fileOf (sizesOf C k f) (variablesIn F) (marksIn F))) bytes
   pub of-other : ((C k : ℕ) (t : List ℕ) → lineOf C k t ≡ input → ⊥) → bytes ≡ []
+
+-- document 02, C-11: the strip for the lab notebook
+abbrev pub Strips : ℕ → ℕ → List ℕ → List ℕ → Stripped → Type 0
+Strips C k recording strip =
+    Follows (stripQuestions C k recording (length strip)) (notStripped strip) (λ x. x ≡ printed (stripOf C k recording) strip)

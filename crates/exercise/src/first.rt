@@ -35,8 +35,8 @@ fn put_taken(n: u32) {
     put(b"\n");
 }
 
-fn put_found(text: &[u8], c: u32, recording: &[u8], n: u32) {
-    drawing::put_recording(c, recording);
+fn put_found(text: &[u8], c: u32, k: u32, recording: &[u8], n: u32) {
+    drawing::put_recording(c, k, exercise_lines::first(recording, k as usize));
     put(b"found: this is the first recording that satisfies ");
     put(text);
     put_taken(n);
@@ -88,7 +88,7 @@ pub fn put_first(text: &[u8], c: u32, k: u32, limit: u32) {
     let mut recording = [0u8; Interval::MAX_STEPS];
     let answer = find(text, c, k, limit, &mut recording);
     match answer {
-        Answer::Found(n) => put_found(text, c, exercise_lines::first(&recording, k as usize), n),
+        Answer::Found(n) => put_found(text, c, k, &recording, n),
         Answer::None(n) => put_none(text, k, n),
         Answer::Spent(n) => put_spent(n),
         Answer::Refused(r) => put_refusal(text, c, r),

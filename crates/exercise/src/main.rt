@@ -94,14 +94,20 @@ fn narrow(n: usize) -> u32 {
 fn put_verdict(text: &[u8], c: u32, k: u32, recording: &[u8]) {
     let verdict = truth_calls::evaluate(text, c, k, 0, k, recording);
     match verdict {
-        Verdict::Yes => put_answer(text, c, recording, b"yes: this recording satisfies "),
-        Verdict::No => put_answer(text, c, recording, b"no: this recording does not satisfy "),
+        Verdict::Yes => put_answer(text, c, k, recording, b"yes: this recording satisfies "),
+        Verdict::No => put_answer(
+            text,
+            c,
+            k,
+            recording,
+            b"no: this recording does not satisfy ",
+        ),
         Verdict::Refused(r) => words::put_refusal(text, c, r),
     }
 }
 
-fn put_answer(text: &[u8], c: u32, recording: &[u8], answer: &[u8]) {
-    drawing::put_recording(c, recording);
+fn put_answer(text: &[u8], c: u32, k: u32, recording: &[u8], answer: &[u8]) {
+    drawing::put_recording(c, k, recording);
     print::put(answer);
     print::put(text);
     print::put(b"\n");

@@ -8,7 +8,7 @@ use lib.Dec.{leb}
 use lib.ListN.{length, drop, length-append, length-drop}
 use lib.Seq.{sets}
 use borrow.Author.Tests.{leb-true}
-use Rattle.refusal.specs.Asked.{question, asked}
+use Rattle.refusal.specs.Asked.{question, asked, askPlaces}
 use Rattle.refusal.specs.declared.Refusal.{Refusal}
 use Rattle.refusal.specs.declared.Reply.{Reply}
 use Rattle.refusal.specs.declared.Reply.the-variants.{Yes, No}
@@ -32,7 +32,7 @@ use Rattle.refusal.specs.declared.Written.the-variants.{Done}
 use Rattle.table_layout.specs.Rows.{Measured}
 use Rattle.table_layout.proofs.Known.{variables-known}
 use Rattle.paper_assignments.specs.Extension.{channelValues, nodeValues, extensionOf}
-use Rattle.paper_assignments.specs.Calls.{askPlaces, Extended, notExtended, extended}
+use Rattle.paper_assignments.specs.Calls.{Extended, notExtended, extended}
 use Rattle.paper_assignments.proofs.Values.{channels-length, extension-length}
 use Rattle.extend_calls.specs.Rows.{Seated, NodesPut, extendedBy, Extends}
 

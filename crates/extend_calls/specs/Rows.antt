@@ -4,7 +4,7 @@ use mathlib.Core.List.{List, [], _∷_}
 use Prim.Native.Nat.{ℕ, _+_, _*_, _<_}
 use lib.ListN.{length, getD}
 use lib.Seq.{sets}
-use Rattle.refusal.specs.Asked.{asked}
+use Rattle.refusal.specs.Asked.{asked, askPlaces}
 use Rattle.paper_grammar.specs.Limits.{maxChannels}
 use Rattle.paper_grammar.specs.Trees.{Tree}
 use Rattle.paper_grammar.specs.declared.Sort.the-variants.{Formula}
@@ -16,7 +16,7 @@ use Rattle.table_sizes.specs.Weights.{variableWeight, weightTo}
 use Rattle.moments.specs.Moments.{over}
 use Rattle.refusal.specs.declared.Written.the-variants.{Done}
 use Rattle.paper_assignments.specs.Extension.{nodeValues, extensionOf}
-use Rattle.paper_assignments.specs.Calls.{askPlaces, Extended, notExtended}
+use Rattle.paper_assignments.specs.Calls.{Extended, notExtended}
 
 -- where the nodes' blocks begin, by the node table, and where the last one ends
 pub record Seated (C k : ℕ) (T : NodeTable) (firsts : List ℕ) (last : ℕ) : Type 0 where

@@ -7,11 +7,12 @@ use Prim.Native.Nat.{ℕ, suc, _+_, _≤_}
 use native.Mathlib.Omega.{arith}
 use lib.Dec.{leb, ltb}
 use lib.ListN.{length, drop, length-drop, length-map}
-use borrow.Author.Tests.{leb-true, leb-false, ltb-false}
+use borrow.Author.Tests.{leb-false, ltb-false}
 use Rattle.refusal.specs.Asked.{asked}
 use Rattle.refusal.specs.declared.Reply.{Reply}
 use Rattle.refusal.specs.declared.Reply.the-variants.{Yes, No}
-use Rattle.interval.specs.Limits.{maxSteps, askSteps}
+use Rattle.interval.specs.Limits.{maxSteps}
+use Rattle.interval.proofs.Gives.{steps-yes}
 use Rattle.paper_grammar.specs.Limits.{maxLength, maxNodes, maxNumber, maxChannels}
 use Rattle.paper_grammar.specs.Trees.{Tree, constant, letter, negation, pair, duration, throughout, Letters, Numbers, textOf}
 use Rattle.paper_grammar.specs.Reader.{isStart, parsed, read}
@@ -21,10 +22,11 @@ use Rattle.lists.proofs.Tests.{ranged}
 use Rattle.formula_scan.specs.Scans.{scan, startAt, foundIn}
 use Rattle.formula_scan.specs.declared.Ask.the-variants.{Nodes}
 use Rattle.paper_grammar.specs.Nodes.{Node, nodesOf, nodesRead, nodesIn, node}
-use Rattle.paper_grammar.specs.Questions.{atFirst, askChannels, askLength, askGrammar, outside, tooLarge, askLetters, askNumbers, askNodes, formulaQuestions, acceptOf}
+use Rattle.paper_grammar.specs.Questions.{atFirst, askLength, askGrammar, outside, tooLarge, askLetters, askNumbers, askNodes, formulaQuestions, acceptOf}
 use Rattle.lists.specs.Listing.{All}
 use Rattle.lists.proofs.Lists.{flat-append, flat-map}
 use Rattle.paper_grammar.proofs.EachNode.{OnParts, LettersNode, NumbersNode}
+use Rattle.paper_grammar.proofs.Gives.{channels-yes}
 use Rattle.formula_text.proofs.Found.{read-tree, found-in}
 use Rattle.refusal.proofs.Laws.{test-yes}
 
@@ -104,15 +106,15 @@ nodes-read t f e = ap nodesRead e
 
 -- what acceptance says
 pub accepted : (C k : ℕ) (t : List ℕ) → acceptOf C k t ≡ Yes → Accepted C k t
-unfolding acceptOf askChannels askSteps askLength askLetters askNumbers askNodes
+unfolding acceptOf askLength askLetters askNumbers askNodes
 accepted C k t e =
     let q = all-yes (formulaQuestions C k t) e in
     let (f, r) = read-tree t (q .1 .1 .1 .0) in
     let n = nodes-read t f r in
     let firsts : List ℕ = map (λ (w : Node). w .first) (nodesIn t) in
     record {
-      channels = ranged 1 maxChannels C (test-yes 1 0 _ (q .0));
-      steps = leb-true k maxSteps (test-yes 2 0 _ (q .1 .0));
+      channels = channels-yes C (q .0);
+      steps = steps-yes k (q .1 .0);
       bytes = ranged 1 maxLength (length t) (test-yes 3 0 _ (q .1 .1 .0));
       grammar = q .1 .1 .1 .0;
       root = f;

@@ -1,9 +1,9 @@
--- Questions 12, 14 and 18 answer no with their own numbers (13 is a question of bytes):
--- two are tests with their numbers, and 14 has its number at each clause.
+-- Questions 12 and 14 answer no with their own numbers (13 is a question of bytes):
+-- 12 is a test with its number, and 14 has its number at each clause.
 use mathlib.Core.Path.{refl}
 use mathlib.Core.List.{List, [], _∷_}
 use Prim.Native.Nat.{ℕ, suc}
-use lib.Dec.{eqb, leb}
+use lib.Dec.{eqb}
 use lib.ListN.{length}
 use Rattle.refusal.specs.Asked.{Gives}
 use Rattle.refusal.specs.declared.Reply.the-variants.{No}
@@ -11,7 +11,7 @@ use Rattle.refusal.proofs.Numbers.{question-gives}
 use Rattle.lists.proofs.Tests.{cond-elim}
 use Rattle.paper_circuit.specs.Gates.{Assignment}
 use Rattle.paper_clauses.specs.Clauses.{Clause, meetsClause}
-use Rattle.paper_assignments.specs.Calls.{askAssignment, askClauses, askPlaces}
+use Rattle.paper_assignments.specs.Calls.{askAssignment, askClauses}
 
 pub assignment-gives : (n : ℕ) (A : List ℕ) → Gives 12 (askAssignment n A)
 unfolding askAssignment
@@ -23,7 +23,3 @@ clauses-gives a n [] = tt
 clauses-gives a n (c ∷ T) =
     cond-elim (Gives 14) (meetsClause a c) {a = askClauses a (suc n) T} {b = No (record { number = 14; place = n })}
     (λ e. clauses-gives a (suc n) T) (λ e. refl)
-
-pub places-gives : (n places : ℕ) → Gives 18 (askPlaces n places)
-unfolding askPlaces
-places-gives n places = question-gives 18 0 (leb n places)

@@ -23,7 +23,8 @@ use Rattle.paper_circuit.specs.Circuit.{channelOf, variablesOf, truthOf, defini
 use Rattle.paper_circuit.proofs.Blocks.{From, root-in-range}
 use Rattle.paper_clauses.specs.Clauses.{clausesBy, clauseTable, meetsClause, meetsAll}
 use Rattle.paper_clauses.proofs.Meets.{meets-append, meets-by}
-use Rattle.paper_assignments.specs.Extension.{valueIn, channelValues, nodeValues, extensionOf, recordingBy, recordingOf, EachBelow, MeetsButLast, meetsLast}
+use Rattle.paper_meaning.specs.Recording.{EachBelow}
+use Rattle.paper_assignments.specs.Extension.{valueIn, channelValues, nodeValues, extensionOf, recordingBy, recordingOf, MeetsButLast, meetsLast}
 use Rattle.paper_assignments.proofs.Values.{node-bits, channels-length, extension-length}
 use Rattle.paper_assignments.proofs.Meets.{Spells, spells-append, spells-row, spelled, on-intervals, part-true, nodes-meet}
 use Rattle.paper_assignments.proofs.Only.{same-channels}

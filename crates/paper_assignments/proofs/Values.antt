@@ -25,7 +25,8 @@ use Rattle.paper_meaning.proofs.Words.{bit-lt}
 use Rattle.paper_circuit.specs.Circuit.{pointsOf, widthOf, blocksOf, variablesOf, truthOf}
 use Rattle.paper_circuit.proofs.Blocks.{partsOf, bare, by-parts, truth-fits}
 use Rattle.paper_circuit.proofs.Inputs.{intervals-in, triples-in}
-use Rattle.paper_assignments.specs.Extension.{channelValues, truthValues, cuts, cutValues, blockValues, nodeValues, extensionOf, EachBelow}
+use Rattle.paper_meaning.specs.Recording.{EachBelow}
+use Rattle.paper_assignments.specs.Extension.{channelValues, truthValues, cuts, cutValues, blockValues, nodeValues, extensionOf}
 
 -- ---- lists of things by their places, and rows of one width
 

@@ -3,9 +3,9 @@
 use mathlib.Core.Bool.{cond}
 use mathlib.Core.List.{List, [], _∷_, _++_}
 use Prim.Native.Nat.{ℕ, suc}
-use lib.Dec.{eqb, leb}
+use lib.Dec.{eqb}
 use lib.ListN.{length}
-use Rattle.refusal.specs.Asked.{question, asked}
+use Rattle.refusal.specs.Asked.{question, askPlaces, asked}
 use Rattle.refusal.specs.declared.Refusal.{Refusal}
 use Rattle.refusal.specs.declared.Reply.{Reply}
 use Rattle.refusal.specs.declared.Reply.the-variants.{Yes, No}
@@ -35,10 +35,6 @@ askValues A = askBelow 13 2 A
 unfoldable pub askClauses : Assignment → ℕ → List Clause → Reply
 askClauses a n [] = Yes
 askClauses a n (c ∷ T) = cond (meetsClause a c) (askClauses a (suc n) T) (No (record { number = 14; place = n }))
-
--- question 18, of the one lent output: is it long enough?
-unfoldable pub askPlaces : ℕ → ℕ → Reply
-askPlaces n places = question 18 0 (leb n places)
 
 -- the clauses of a text's table
 unfoldable pub clausesIn : ℕ → ℕ → List ℕ → List Clause

@@ -2,10 +2,10 @@
 use mathlib.Core.Path.{_≡_}
 use mathlib.Core.Bool.{Bool, true, _&&_}
 use mathlib.Core.List.{List, [], _∷_, _++_, map, flatMap}
-use Prim.Native.Nat.{ℕ, suc, _-_, _*_, _^_, _<_}
+use Prim.Native.Nat.{ℕ, suc, _-_, _*_, _^_}
 use lib.Dec.{eqb}
 use lib.ListN.{getD}
-use Rattle.lists.specs.Listing.{rows, tab, All, sum}
+use Rattle.lists.specs.Listing.{rows, tab, sum}
 use Rattle.interval.specs.Places.{intervalsOf, triplesOf}
 use Rattle.interval.specs.declared.Interval.{Interval}
 use Rattle.interval.specs.declared.Triple.{Triple}
@@ -65,10 +65,6 @@ recordingBy C k a = tab k (λ t. sum (λ c. bit (a (channelOf C t c)) * 2 ^ c) C
 
 abbrev pub recordingOf : ℕ → ℕ → List ℕ → List ℕ
 recordingOf C k A = recordingBy C k (valueIn A)
-
--- each byte is below n, of an assignment 2: "one byte a variable, 0 or 1"
-abbrev pub EachBelow : ℕ → List ℕ → Type 0
-EachBelow n A = All (λ b. b < n) A
 
 -- "meets all clauses but the last"; "The last clause is the root on [0, k], alone."
 abbrev pub MeetsButLast : ℕ → ℕ → Tree Formula → Assignment → Type 0

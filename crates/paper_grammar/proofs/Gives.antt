@@ -1,12 +1,15 @@
 -- Questions 1 to 7 answer no with their own numbers, in this order:
--- each is a test with its number, or the first of the places that fail it.
-use mathlib.Core.Path.{refl}
+-- each is a test with its number, or the first of the places that fail it. Answered with yes, 1 says that the test holds.
+use mathlib.Core.Path.{_≡_, refl}
 use mathlib.Core.Bool.{_&&_}
 use mathlib.Core.List.{List, [], _∷_, map, flatMap}
-use Prim.Native.Nat.{ℕ}
+use Prim.Native.Nat.{ℕ, _≤_}
 use lib.Dec.{leb}
 use lib.ListN.{length, drop}
+use Rattle.lists.proofs.Tests.{ranged}
 use Rattle.refusal.specs.Asked.{Gives, Asks}
+use Rattle.refusal.specs.declared.Reply.the-variants.{Yes}
+use Rattle.refusal.proofs.Laws.{test-yes}
 use Rattle.refusal.proofs.Numbers.{question-gives}
 use Rattle.interval.proofs.Gives.{steps-gives}
 use Rattle.paper_grammar.specs.Limits.{maxLength, maxNodes, maxChannels}
@@ -19,9 +22,13 @@ pub first-gives : (n : ℕ) (places : List ℕ) → Gives n (atFirst n places)
 first-gives n [] = tt
 first-gives n (p ∷ places) = refl
 
-channels-gives : (C : ℕ) → Gives 1 (askChannels C)
+pub channels-gives : (C : ℕ) → Gives 1 (askChannels C)
 unfolding askChannels
 channels-gives C = question-gives 1 0 (leb 1 C && leb C maxChannels)
+
+pub channels-yes : (C : ℕ) → askChannels C ≡ Yes → (1 ≤ C) × (C ≤ maxChannels)
+unfolding askChannels
+channels-yes C e = ranged 1 maxChannels C (test-yes 1 0 _ e)
 
 length-gives : (t : List ℕ) → Gives 3 (askLength t)
 unfolding askLength

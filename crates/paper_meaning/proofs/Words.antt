@@ -1,13 +1,15 @@
--- A bit of a number is a digit, and a number below 2^k is its k digits:
--- so one more digit on top of k packs one more instant, and leaves those below as they are.
+-- A bit of a number is a digit, and a number below 2^k is its k digits: so one more digit on top of k packs one more instant, and leaves
+-- those below as they are; and it is the only such number with these digits, the sum of their powers.
 use mathlib.Core.Path.{_≡_, refl, sym, ap, _∙_}
 use mathlib.Core.Bool.{Bool, true, false}
-use Prim.Native.Nat.{ℕ, zero, suc, _+_, _-_, _*_, _/_, _%_, _^_, _<_}
-use native.Mathlib.Nat.{add-comm, mod-lt, mod-eq-of-lt, mul-le-mul-right, zero-lt-suc}
+use Prim.Native.Nat.{ℕ, zero, suc, _+_, _-_, _*_, _/_, _%_, _^_, _≤_, _<_}
+use native.Mathlib.Nat.{add-comm, mod-lt, mod-one, mod-eq-of-lt, mul-le-mul-right, zero-lt-suc}
+use native.Mathlib.Numerals.{add-one, one-add}
 use native.Mathlib.Omega.{arith}
 use borrow.Author.Count.{below-more}
 use lib.Dec.{eqb}
-use lib.Pow.{pow-add, high, low, field, mod-mod-pow}
+use lib.Pow.{pow-pos, pow-add, high, low, field, mod-pow-add, mod-mod-pow}
+use Rattle.lists.specs.Listing.{sum}
 use Rattle.paper_meaning.specs.Meaning.{bitAt, bit}
 use Rattle.paper_meaning.specs.Words.{WordOf}
 use Rattle.paper_meaning.proofs.Laws.{bit-le}
@@ -56,3 +58,21 @@ packed-add k {f} {w} p =
             (ap (λ (d : ℕ). eqb d 1) (ap (λ (d : ℕ). d % 2) (high b k (p .0)) ∙ mod-eq-of-lt (bit-lt (f k))) ∙ high-bit (f k));
       },
     )
+
+-- the number whose first n bits are f
+abbrev pub packed : (ℕ → Bool) → ℕ → ℕ
+packed f n = sum (λ c. bit (f c) * 2 ^ c) n
+
+pub packed-is : (f : ℕ → Bool) (n : ℕ) → Packed n f (packed f n)
+unfolding sum
+packed-is f zero = (pow-pos 0, record { at = λ t h. absurd (omega arith) })
+packed-is f (suc n) = rw (← add-one n) (packed-add n (packed-is f n))
+
+packed-low : (f : ℕ → Bool) (w n : ℕ) → WordOf n f w → (m : ℕ) → m ≤ n → packed f m ≡ w % 2 ^ m
+unfolding sum
+packed-low f w n p zero h = sym (mod-one w)
+packed-low f w n p (suc m) h =
+    rw (packed-low f w n p m (omega arith), ← p .at m (omega arith), ← digit w m, ← one-add m) (omega (arith, mod-pow-add w 1 m))
+
+pub packed-only : (f : ℕ → Bool) (w n : ℕ) → Packed n f w → packed f n ≡ w
+packed-only f w n p = packed-low f w n (p .1) n (omega arith) ∙ mod-eq-of-lt (p .0)

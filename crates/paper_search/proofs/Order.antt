@@ -18,7 +18,8 @@ use Rattle.paper_meaning.specs.Meaning.{bit, channelAt}
 use Rattle.paper_circuit.specs.Gates.{Assignment}
 use Rattle.paper_circuit.specs.Circuit.{channelOf}
 use Rattle.paper_circuit.proofs.Blocks.{From}
-use Rattle.paper_assignments.specs.Extension.{valueIn, channelValues, recordingBy, EachBelow}
+use Rattle.paper_meaning.specs.Recording.{EachBelow}
+use Rattle.paper_assignments.specs.Extension.{valueIn, channelValues, recordingBy}
 use Rattle.paper_assignments.proofs.Values.{alike-at, channels-length}
 use Rattle.paper_assignments.proofs.Only.{each-channel}
 use Rattle.paper_assignments.proofs.Recordings.{recording-channels, recording-only}

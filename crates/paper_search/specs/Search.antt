@@ -20,7 +20,8 @@ use Rattle.paper_circuit.specs.Circuit.{variablesOf}
 use Rattle.paper_clauses.specs.Clauses.{clauseTable}
 use Rattle.paper_clauses.specs.Entries.{placesIn}
 use Rattle.moments.specs.Moments.{over}
-use Rattle.paper_assignments.specs.Extension.{channelValues, recordingBy, EachBelow}
+use Rattle.paper_meaning.specs.Recording.{EachBelow}
+use Rattle.paper_assignments.specs.Extension.{channelValues, recordingBy}
 use Rattle.paper_closure.specs.Tree as tries
 use Rattle.paper_closure.specs.Runs.{dead, found, highIn}
 use Rattle.paper_closure.specs.Tree.{Trial, trial}

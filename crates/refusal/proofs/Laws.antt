@@ -42,6 +42,15 @@ module _ {A : Type 0} (refused : Refusal → A) (answer : A) where
   replied-no (Yes ∷ q) r e = replied-no q r e
   replied-no (No p ∷ q) r e = let h : p ≡ r = cc in ap refused h
 
+-- and where it is yes, each was
+pub all-replied : (questions : List Reply) → asked questions No Yes ≡ Yes → AllYes questions
+all-replied [] e = none-left
+all-replied (Yes ∷ q) e = yes-then (all-replied q e)
+all-replied (No r ∷ q) e = absurd (false≢true cc)
+
+pub one-yes : {q : Reply} {Q : List Reply} → AllYes (q ∷ Q) → (q ≡ Yes) × AllYes Q
+one-yes (yes-then h) = (refl, h)
+
 -- what is made of a call's answer is made of each way that it ends
 pub asked-map : {A B : Type 0} (f : A → B) (refused : Refusal → A) (answer : A) (questions : List Reply)
     → f (asked questions refused answer) ≡ asked questions (λ r. f (refused r)) (f answer)

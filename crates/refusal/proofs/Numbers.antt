@@ -5,7 +5,8 @@ use mathlib.Core.Bool.{Bool, true, false}
 use mathlib.Core.Logic.{⊎-elim}
 use mathlib.Core.List.{List, [], _∷_, _++_, List·Memᴰ}
 use Prim.Native.Nat.{ℕ}
-use Rattle.refusal.specs.Asked.{question, asked, AllYes, FirstNo, here, later, Gives, Asks}
+use lib.Dec.{leb}
+use Rattle.refusal.specs.Asked.{question, askPlaces, asked, AllYes, FirstNo, here, later, Gives, Asks}
 use Rattle.refusal.specs.declared.Refusal.{Refusal}
 use Rattle.refusal.specs.declared.Reply.{Reply}
 use Rattle.refusal.specs.declared.Reply.the-variants.{Yes, No}
@@ -14,6 +15,10 @@ use Rattle.refusal.proofs.Laws.{all-yes-or-first-no, all-yes-answers, f
 pub question-gives : (n p : ℕ) (test : Bool) → Gives n (question n p test)
 question-gives n p true = tt
 question-gives n p false = refl
+
+pub places-gives : (n places : ℕ) → Gives 18 (askPlaces n places)
+unfolding askPlaces
+places-gives n places = question-gives 18 0 (leb n places)
 
 -- questions, and then others
 pub asks-append : (m n : List ℕ) (p q : List Reply) → Asks m p → Asks n q → Asks (m ++ n) (p ++ q)

@@ -3,6 +3,7 @@ use mathlib.Core.Path.{_≡_}
 use mathlib.Core.Bool.{Bool, true, false}
 use mathlib.Core.List.{List, [], _∷_}
 use Prim.Native.Nat.{ℕ}
+use lib.Dec.{leb}
 use Rattle.refusal.specs.declared.Refusal.{Refusal}
 use Rattle.refusal.specs.declared.Reply.{Reply}
 use Rattle.refusal.specs.declared.Reply.the-variants.{Yes, No}
@@ -11,6 +12,10 @@ use Rattle.refusal.specs.declared.Reply.the-variants.{Yes, No}
 abbrev pub question : ℕ → ℕ → Bool → Reply
 question number place true = Yes
 question number place false = No (record { number = number; place = place })
+
+-- question 18, of a call's one lent output: has it n places?
+unfoldable pub askPlaces : ℕ → ℕ → Reply
+askPlaces n places = question 18 0 (leb n places)
 
 -- a call: its questions in order, what it does when refused, and what it does when every question is answered with yes
 abbrev pub asked : {A : Type 0} → List Reply → (Refusal → A) → A → A

@@ -18,9 +18,15 @@ pub enum Reply {
     No(Refusal),
 }
 
-// What the call answers.
+// What a call answers that writes arrays.
 pub enum Written {
     Done,
+    Refused(Refusal),
+}
+
+// What a call answers that writes text: how many bytes it has.
+pub enum Printed {
+    Bytes(u32),
     Refused(Refusal),
 }
 

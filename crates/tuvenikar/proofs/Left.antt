@@ -7,8 +7,9 @@ use Rattle.paper_assignments.specs.Calls.{Extended, Proposed}
 use Rattle.file_calls.specs.Calls.{FileAfter}
 use Rattle.paper_search.specs.Search.{Arrays, Searched, unwritten, Unchanged}
 use Rattle.paper_search.specs.declared.Answer.{Answer}
-use Rattle.answers.specs.Answers.{packWritten, packChecked, packAnswer}
-use Rattle.tuvenikar.specs.Left.{TableLeft, AssignmentLeft, RecordingLeft, FileLeft, SearchLeft}
+use Rattle.strip.specs.Call.{Stripped}
+use Rattle.answers.specs.Answers.{packWritten, packPrinted, packChecked, packAnswer}
+use Rattle.tuvenikar.specs.Left.{TableLeft, AssignmentLeft, RecordingLeft, FileLeft, StripLeft, SearchLeft}
 
 pub table-left : {a b : After} {r : ℕ} → a ≡ b → r ≡ packWritten (a .answer) → TableLeft b r (a .sizes) (a .variables) (a .marks)
 table-left e p = record {
@@ -26,6 +27,9 @@ recording-left e p = record { number = p ∙ ap (λ (x : Proposed). packChecked 
 
 pub file-left : {a b : FileAfter} {r : ℕ} → a ≡ b → r ≡ packWritten (a .answer) → FileLeft b r (a .file)
 file-left e p = record { number = p ∙ ap (λ (x : FileAfter). packWritten (x .answer)) e; new-file = ap (λ (x : FileAfter). x .file) e }
+
+pub strip-left : {a b : Stripped} {r : ℕ} → a ≡ b → r ≡ packPrinted (a .answer) → StripLeft b r (a .strip)
+strip-left e p = record { number = p ∙ ap (λ (x : Stripped). packPrinted (x .answer)) e; new-strip = ap (λ (x : Stripped). x .strip) e }
 
 pub search-left : {a : Answer} {b : Searched} {r : ℕ} {before after : Arrays} → unwritten (after .recording) a ≡ b → r ≡ packAnswer a
     → Unchanged a (before .variables) (after .variables) × Unchanged a (before .marks) (after .marks)

@@ -6,7 +6,8 @@ use Rattle.table_calls.specs.Table.{After}
 use Rattle.paper_assignments.specs.Calls.{Extended, Proposed}
 use Rattle.file_calls.specs.Calls.{FileAfter}
 use Rattle.paper_search.specs.Search.{Arrays, lentOf, searched, Searched, Unchanged}
-use Rattle.answers.specs.Answers.{packWritten, packChecked, packAnswer}
+use Rattle.strip.specs.Call.{Stripped}
+use Rattle.answers.specs.Answers.{packWritten, packPrinted, packChecked, packAnswer}
 
 -- a table written, or read from a file: its sizes and its two arrays
 pub record TableLeft (a : After) (r : ℕ) (sizes variables marks : List ℕ) : Type 0 where
@@ -29,6 +30,11 @@ pub record RecordingLeft (a : Proposed) (r : ℕ) (recording : List ℕ) : Type 
 pub record FileLeft (a : FileAfter) (r : ℕ) (file : List ℕ) : Type 0 where
   pub number : r ≡ packWritten (a .answer)
   pub new-file : file ≡ a .file
+
+-- a recording's strip
+pub record StripLeft (a : Stripped) (r : ℕ) (strip : List ℕ) : Type 0 where
+  pub number : r ≡ packPrinted (a .answer)
+  pub new-strip : strip ≡ a .strip
 
 -- the arrays that are lent to a search
 abbrev pub arrays : List ℕ → List ℕ → List ℕ → List ℕ → List ℕ → Arrays

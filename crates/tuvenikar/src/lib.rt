@@ -10,8 +10,9 @@ ghost use Rattle.table_calls.specs.Table.{tabled};
 ghost use Rattle.paper_assignments.specs.Calls.{extended, proposed};
 ghost use Rattle.file_numbers.specs.File.{sizesBy};
 ghost use Rattle.file_calls.specs.Calls.{fileWritten, fileRead};
+ghost use Rattle.strip.specs.Call.{stripped};
 ghost use Rattle.answers.specs.Answers.{packVerdict, packLocated};
-ghost use Rattle.tuvenikar.specs.Left.{TableLeft, AssignmentLeft, RecordingLeft, FileLeft, arrays, searchedWith, SearchLeft};
+ghost use Rattle.tuvenikar.specs.Left.{TableLeft, AssignmentLeft, RecordingLeft, FileLeft, StripLeft, arrays, searchedWith, SearchLeft};
 
 // Whether the recording satisfies the formula on [i, j]: questions 1 to 7 and 9 to 11.
 #[no_mangle]
@@ -101,6 +102,14 @@ pub extern "C" fn tuv_search(
         trail,
         recording,
     ))
+}
+
+// A recording's strip for the lab notebook: questions 1, 2, 10, 11 and 18.
+#[no_mangle]
+pub extern "C" fn tuv_strip(c: u32, k: u32, recording: &[u8], strip: &mut [u8]) -> u64
+    ensures { λ r. ⌜ StripLeft (stripped c k (old recording) (old strip)) r (new strip) ⌝ }
+{
+    answers::pack_printed(strip_calls::strip(c, k, recording, strip))
 }
 
 // A table's file, from its five sizes and its two arrays: questions 15 to 18.

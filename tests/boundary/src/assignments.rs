@@ -3,11 +3,11 @@
 
 use crate::call::{boxed, Asked, Case, Family};
 use crate::check::Check;
-use crate::dice::{around, channels, chops, formula, levels, recording, turn, Dice};
+use crate::dice::{around, channels, chops, every_recording, formula, levels, recording, turn, Dice};
 use crate::extend::{extended, Extend};
 
 pub const FAMILIES: [Family; 10] = [
-    Family::new("every recording of few bits, extended and checked", 120_000, every_recording),
+    Family::new("every recording of few bits, extended and checked", 120_000, all_recordings),
     Family::new("extensions of short recordings", 60_000, short_extensions),
     Family::new("extensions by few nodes", 4_000, narrow_extensions),
     Family::new("extensions by chops within chops", 1_000, chop_extensions),
@@ -106,17 +106,15 @@ pub fn large(text: &[u8]) -> Vec<Box<dyn Case>> {
 
 // Families
 
-fn every_recording(dice: &mut Dice) -> Vec<Box<dyn Case>> {
+fn all_recordings(dice: &mut Dice) -> Vec<Box<dyn Case>> {
     let (c, k) = dice.pick(&[(1, 1), (1, 2), (1, 4), (1, 6), (2, 1), (2, 2), (2, 3), (3, 1), (3, 2), (6, 1)]);
     let (nodes, levels) = (dice.from(1, 16), levels(dice, k));
     let asked = Asked { text: formula(dice, c, levels, nodes), c, k };
-    let instant = |bits: u32, t| (bits >> (t * c)) as u8 & ((1 << c) - 1);
-    let recordings = (0..1 << (c * k)).map(|bits| (0..k).map(|t| instant(bits, t)).collect::<Vec<u8>>());
     let both = |recording: Vec<u8>| {
         let (extend, check) = extend_and_check(&asked, &recording, extension(&asked, &recording));
         boxed([extend]).into_iter().chain(boxed([check]))
     };
-    recordings.flat_map(both).collect()
+    every_recording(c, k).flat_map(both).collect()
 }
 
 fn short_extensions(dice: &mut Dice) -> Vec<Box<dyn Case>> {

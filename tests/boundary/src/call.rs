@@ -113,6 +113,8 @@ pub enum Written {
     File(Vec<u8>),
     Assignment(Vec<u8>),
     Recording(Vec<u8>),
+    /// Its answer says how many bytes these are.
+    Strip(Vec<u8>),
 }
 
 impl From<Answer> for Wanted {
@@ -125,6 +127,7 @@ impl From<Result<Written, Refusal>> for Wanted {
     fn from(result: Result<Written, Refusal>) -> Self {
         match result {
             Ok(written @ Written::Recording(_)) => Wanted { answer: (67, 0), written },
+            Ok(Written::Strip(bytes)) => Wanted { answer: (66, bytes.len() as u32), written: Written::Strip(bytes) },
             Ok(written) => Wanted { answer: (66, 0), written },
             Err(refusal) => packed(Err(refusal)).into(),
         }
@@ -142,7 +145,7 @@ impl Wanted {
     /// Of a call that writes one array of bytes.
     pub fn bytes(&self) -> &[u8] {
         match &self.written {
-            Written::File(bytes) | Written::Assignment(bytes) | Written::Recording(bytes) => bytes,
+            Written::File(bytes) | Written::Assignment(bytes) | Written::Recording(bytes) | Written::Strip(bytes) => bytes,
             Written::Nothing | Written::Table(_) => &[],
         }
     }

@@ -222,6 +222,12 @@ pub fn recording(dice: &mut Dice, c: u32, k: u32) -> Vec<u8> {
     (0..k).map(&mut draw).collect()
 }
 
+/// All that there are of a C and a k, if they have few bits.
+pub fn every_recording(c: u32, k: u32) -> impl Iterator<Item = Vec<u8>> {
+    let instant = move |bits: u32, t| ((bits >> (t * c)) % (1 << c)) as u8;
+    (0..1 << (c * k)).map(move |bits| (0..k).map(|t| instant(bits, t)).collect())
+}
+
 pub fn interval(dice: &mut Dice, k: u32) -> (u32, u32) {
     let j = dice.from(0, k as usize);
     (dice.from(0, j) as u32, j as u32)

@@ -41,6 +41,8 @@ pub enum Unit {
     Character,
     Digit,
     Pair,
+    /// A character of a strip.
+    Drawn,
 }
 
 impl Columns {
@@ -106,6 +108,9 @@ impl Columns {
             let (byte, length) = match (sign, unit) {
                 ('\\', _) => (pair(rest.get(2..4).unwrap_or("")), 4),
                 (_, Unit::Character) => (sign as u8, 1),
+                ('.', Unit::Drawn) => (b' ', 1),
+                ('|', Unit::Drawn) => (b'\n', 1),
+                (_, Unit::Drawn) => (sign as u8, 1),
                 ('.', _) => {
                     rest = &rest[1..];
                     continue;

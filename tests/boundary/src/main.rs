@@ -34,7 +34,7 @@ macro_rules! calls {
     };
 }
 
-calls!(evaluate, node_text, table, extend, check, search, write_file, read_file);
+calls!(evaluate, node_text, table, extend, check, search, strip, write_file, read_file);
 
 use std::collections::BTreeMap;
 use std::sync::atomic::Ordering::Relaxed;

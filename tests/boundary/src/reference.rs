@@ -27,9 +27,14 @@ pub fn none(number: u32, mut places: impl Iterator<Item = usize>) -> Result<(), 
     places.next().map_or(Ok(()), |place| Err((number, place)))
 }
 
-pub fn accepted(text: &[u8], c: u32, k: u32) -> Result<Reading, Refusal> {
+/// Questions 1 and 2.
+pub fn limited(c: u32, k: u32) -> Result<(), Refusal> {
     yes((1..=8).contains(&c), 1)?;
-    yes(k <= 32, 2)?;
+    yes(k <= 32, 2)
+}
+
+pub fn accepted(text: &[u8], c: u32, k: u32) -> Result<Reading, Refusal> {
+    limited(c, k)?;
     yes((1..=255).contains(&text.len()), 3)?;
     let reading = read(text).ok_or_else(|| (4, place_of_no_text(text)))?;
     let letters = reading.letters.iter();

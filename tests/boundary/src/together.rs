@@ -1,5 +1,6 @@
 //! What the calls say together, whatever the second implementation says; and the largest tables that there are, which are printed.
 
+use std::collections::BTreeMap;
 use std::time::Instant;
 
 use crate::assignments::{extend_and_check, extension, large};
@@ -11,6 +12,7 @@ use crate::fence::Side;
 use crate::files::both;
 use crate::lent::Lender;
 use crate::search::without_limit;
+use crate::strip::{of_few_bits, of_turned_bits, Strip};
 use crate::table::counts::{largest, Largest};
 use crate::table::{any_tables, forced, small_tables, Forced, Table, TableCase};
 use crate::{count, TOGETHER};
@@ -19,6 +21,7 @@ pub fn try_together(lender: &mut Lender, seed: u64) {
     try_agreement(lender, seed);
     try_round_trips(lender, seed);
     try_found(lender, seed);
+    try_strips(lender, seed);
 }
 
 /// The calls that say what a formula means agree.
@@ -94,6 +97,28 @@ fn wrong_recording(lender: &mut Lender, asked: &Asked, recording: Vec<u8>) -> Op
         .wrong(lender, &(65, 0).into())
         .or_else(|| extend.wrong(lender, &Ok(Written::Assignment(extension)).into()))
         .or_else(|| check.wrong(lender, &Ok(Written::Recording(recording)).into()))
+}
+
+/// Recordings of one C and k that differ have strips that differ: all of few bits, and any with each of their bits turned.
+fn try_strips(lender: &mut Lender, seed: u64) {
+    fault::allow(60);
+    let begun = Instant::now();
+    let turned = (0..200).map(|draw| of_turned_bits(&mut Dice::new(seed, TOGETHER + 3, draw)));
+    let mut strips = 0;
+    let wrong = of_few_bits().chain(turned).find_map(|cases| {
+        strips += cases.len();
+        shared_strip(lender, &cases)
+    });
+    println!("strips beside each other: {strips} in {:.1} s", begun.elapsed().as_secs_f32());
+    count("recordings that differ have strips that differ", wrong);
+}
+
+fn shared_strip(lender: &mut Lender, cases: &[Strip]) -> Option<String> {
+    let mut strips = BTreeMap::new();
+    cases.iter().find_map(|case| match case.own_strip(lender) {
+        Some(strip) => strips.insert(strip, case).map(|other| format!("{case}: has the strip of {other}")),
+        None => Some(format!("{case}: should be written")),
+    })
 }
 
 /// More literals than the tables have whose recordings are short.

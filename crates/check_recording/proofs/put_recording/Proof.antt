@@ -1,6 +1,6 @@
 -- `put_recording` fills its slice instant by instant,
 -- and each byte is the recording's at that instant.
-use Rattle.extend_truths.proofs.Filled.{Filled, begun, turn, done}
+use Rattle.lists.proofs.Filled.{Filled, begun, turn, done}
 use Rattle.paper_assignments.specs.Extension.{valueIn, recordingBy}
 use Rattle.paper_circuit.specs.Circuit.{channelOf}
 use Rattle.lists.specs.Listing.{sum}

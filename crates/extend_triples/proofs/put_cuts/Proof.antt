@@ -7,7 +7,7 @@ use Rattle.paper_meaning.specs.Meaning.{bit}
 use Rattle.truth_table.specs.Table.{highAt}
 use Rattle.paper_assignments.specs.Extension.{cuts}
 use Rattle.extend_triples.specs.Cuts.{onPlaces}
-use Rattle.extend_truths.proofs.Filled.{Filled, begun, turn, done}
+use Rattle.lists.proofs.Filled.{Filled, begun, turn, done}
 use Rattle.extend_triples.proofs.Cutting.{Cutting, next-cut, first-cut, last-cut, cut-small, cut-byte}
 use native.Mathlib.Omega.{arith}
 use borrow.Author.Needs.{needs}

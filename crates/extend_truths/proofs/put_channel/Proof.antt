@@ -5,7 +5,7 @@ use Prim.Native.Nat.{ℕ, _-_}
 use lib.ListN.{length}
 use borrow.Author.Needs.{needs}
 use Rattle.paper_meaning.specs.Meaning.{bit, bitAt, channelAt}
-use Rattle.extend_truths.proofs.Filled.{Filled, begun, turn, done}
+use Rattle.lists.proofs.Filled.{Filled, begun, turn, done}
 use Rattle.extend_truths.proofs.put_channel.Statement.{statement}
 use Rattle.extend_truths.proofs.put_channel.Tie as tie
 

@@ -9,7 +9,7 @@ use borrow.Author.Needs.{needs}
 use Rattle.paper_meaning.specs.Meaning.{bit}
 use Rattle.truth_table.specs.Table.{highAt}
 use Rattle.truth_table.proofs.Joined.{inverse-bit}
-use Rattle.extend_truths.proofs.Filled.{Filled, begun, turn, done}
+use Rattle.lists.proofs.Filled.{Filled, begun, turn, done}
 use Rattle.extend_truths.proofs.put_inverse.Statement.{statement}
 use Rattle.extend_truths.proofs.put_inverse.Tie as tie
 

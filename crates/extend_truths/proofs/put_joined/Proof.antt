@@ -8,7 +8,7 @@ use Rattle.paper_meaning.specs.Meaning.{bit}
 use Rattle.truth_word.specs.Word.{joined}
 use Rattle.truth_table.specs.Table.{highAt, joinedByte}
 use Rattle.truth_table.proofs.Joined.{joined-bits}
-use Rattle.extend_truths.proofs.Filled.{Filled, begun, turn, done}
+use Rattle.lists.proofs.Filled.{Filled, begun, turn, done}
 use Rattle.extend_truths.proofs.put_joined.Statement.{statement}
 use Rattle.extend_truths.proofs.put_joined.Tie as tie
 

@@ -4,7 +4,7 @@ use mathlib.Core.Path.{refl}
 use Prim.Native.Nat.{_-_}
 use lib.ListN.{length, getD}
 use borrow.Author.Needs.{needs}
-use Rattle.extend_truths.proofs.Filled.{Filled, begun, turn, done}
+use Rattle.lists.proofs.Filled.{Filled, begun, turn, done}
 use Rattle.extend_truths.proofs.put_table.Statement.{statement}
 use Rattle.extend_truths.proofs.put_table.Tie as tie
 
