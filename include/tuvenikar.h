@@ -22,8 +22,8 @@
  *     }
  *
  * Proved, for every input: what each call answers and writes, and that the number of its answer tells the answer. This file is not
- * part of the proof: tests/header/run holds its numbers of answers, and the refusals that it lists at each call, to the definitions
- * that are. Not proved: the stack figures, measured on x86-64, and TUV_MOST_*, counted.
+ * part of the proof: tests/header/run holds its numbers of answers, the refusals that it lists at each call, and TUV_STRIP_LINE to the
+ * definitions that are. Not proved: the stack figures, measured on x86-64, and TUV_MOST_*, counted.
  *
  * Language: C99 or later, or C++11 or later. Target: x86-64, System V calling convention, 64-bit pointers and size_t. Link
  * libtuvenikar.a, which `rt staticlib tuvenikar` writes; of the firmware it needs memcpy and memset, and nothing else.
