@@ -42,7 +42,7 @@ extern "C" {
 /* Raised by one with each change that a caller can see: a call more, another prototype, number or limit, another answer or other
  * bytes for some input. A quicker engine, other stack figures and other words here leave it as it is. The archive does not carry
  * it: header and archive go together. */
-#define TUV_VERSION 2
+#define TUV_VERSION 3
 
 /* What an answer says: a tuv_refusal or a tuv_answer. */
 static inline uint32_t tuv_code(uint64_t answer) { return (uint32_t)(answer & 0xffffffffu); }

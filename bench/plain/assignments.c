@@ -37,9 +37,10 @@ static void extend_duration(const struct formula *f, uint32_t n, uint8_t *v, con
 static void extend_throughout(const struct formula *f, uint8_t *v, const uint8_t *s)
 {
     for (uint32_t i = 0; i <= f->k; i++) {
-        *v++ = 1;
-        for (uint32_t j = i + 1; j <= f->k; j++, v++)
-            *v = v[-1] & s[j - 1];
+        uint8_t all = 1;
+        *v++ = 0;
+        for (uint32_t j = i + 1; j <= f->k; j++)
+            *v++ = all &= s[j - 1];
     }
 }
 
@@ -162,9 +163,9 @@ static bool met_duration(uint32_t *clauses, const struct formula *f, uint32_t n,
 static bool met_throughout(uint32_t *clauses, const struct formula *f, const uint8_t *v, const uint8_t *s)
 {
     for (uint32_t i = 0; i <= f->k; i++) {
-        if (!met(clauses, *v++))
+        if (!met(clauses, !*v++) || (i < f->k && !met_equal(clauses, *v++, s[i])))
             return false;
-        for (uint32_t j = i + 1; j <= f->k; j++, v++)
+        for (uint32_t j = i + 2; j <= f->k; j++, v++)
             if (!met_both(clauses, *v, v[-1], s[j - 1]))
                 return false;
     }

@@ -91,9 +91,11 @@ static void fill(const struct question *q, uint32_t x, uint8_t holds[INTERVALS])
         break;
     default:
         word = word_of(q, left_of(x));
-        for (uint32_t i = 0; i <= k; i++)
-            for (uint32_t j = i; j <= k; j++)
+        for (uint32_t i = 0; i <= k; i++) {
+            holds[q->row[i] + i] = false;
+            for (uint32_t j = i + 1; j <= k; j++)
                 holds[q->row[i] + j] = highs(word, i, j) == j - i;
+        }
     }
 }
 

@@ -154,8 +154,10 @@ static bool duration_part(struct search *s, uint32_t x, uint32_t instant)
 static inline bool settle_throughout(struct search *s, uint32_t x, uint32_t place)
 {
     struct pair ends = s->ends[place];
-    uint32_t v = s->first[x] + place;
-    return ends.first == ends.second || settle_both(s, v, v - 1, s->left[x] + ends.second - 1);
+    uint32_t steps = ends.second - ends.first, v = s->first[x] + place, t = s->left[x] + ends.second - 1;
+    if (steps <= 1)
+        return steps == 0 || settle_equal(s, v, t);
+    return settle_both(s, v, v - 1, t);
 }
 
 static bool throughout_own(struct search *s, uint32_t x, uint32_t place)
@@ -339,7 +341,7 @@ static void put_node(struct search *s, uint32_t x)
             put_empty_intervals(s, v + level * f->intervals, LOW);
         return;
     case THROUGHOUT:
-        put_empty_intervals(s, v, HIGH);
+        put_empty_intervals(s, v, LOW);
         return;
     default:
         return;

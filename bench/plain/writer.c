@@ -17,7 +17,7 @@ struct table {
 
 static struct sizes sizes_of(const struct formula *f)
 {
-    uint32_t empty = f->k + 1, longer = f->intervals - empty;
+    uint32_t empty = f->k + 1, one_step = f->k, longer = f->intervals - empty;
     struct sizes s = {1, 1};
     for (uint32_t x = 0; x < f->count; x++) {
         uint32_t places = places_of(f, x), n = f->nodes[x].number;
@@ -46,8 +46,8 @@ static struct sizes sizes_of(const struct formula *f)
             s.literals += f->intervals + n * (empty + 11 * longer);
             break;
         default:
-            s.clauses += empty + 3 * longer;
-            s.literals += empty + 7 * longer;
+            s.clauses += empty + 2 * one_step + 3 * (longer - one_step);
+            s.literals += empty + 4 * one_step + 7 * (longer - one_step);
         }
     }
     return s;
@@ -126,8 +126,10 @@ static size_t put_duration(struct table t, size_t at, const struct formula *f, u
 static size_t put_throughout(struct table t, size_t at, const struct formula *f, uint32_t v, uint32_t s)
 {
     for (uint32_t i = 0; i <= f->k; i++) {
-        at = put_one(t, at, v++, PLAIN);
-        for (uint32_t j = i + 1; j <= f->k; j++, v++)
+        at = put_one(t, at, v++, NEGATED);
+        if (i < f->k)
+            at = put_equal(t, at, v++, s + i);
+        for (uint32_t j = i + 2; j <= f->k; j++, v++)
             at = put_both(t, at, v, v - 1, s + j - 1);
     }
     return at;

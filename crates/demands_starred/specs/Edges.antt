@@ -84,8 +84,8 @@ edges =
     ∷ evaluation "#T>=2" 1 (0 ∷ 1 ∷ []) Yes
     ∷ evaluation "#T>=2" 1 (1 ∷ 0 ∷ []) Yes
     ∷ evaluation "#T>=2" 1 (1 ∷ 1 ∷ []) Yes
-    -- "*`[a]` and `#a>=0` at k 0: yes."
-    ∷ evaluation "[a]" 1 [] Yes
+    -- "*`[a]` and `#a>=0` at k 0: yes.", and of request C-12 "`[a]` at k 0 becomes no."
+    ∷ evaluation "[a]" 1 [] No
     ∷ evaluation "#a>=0" 1 [] Yes
     -- "*The file above."
     ∷ file fileAbove

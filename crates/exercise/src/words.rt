@@ -113,7 +113,7 @@ STEPS     how many instants there are, at most ",
         b"\n\
 FORMULA   without blanks, in single quotes:\n\
 \x20           #S>=n               S is high at n instants or more\n\
-\x20           [S]                 S is high at every instant\n\
+\x20           [S]                 S is high at every instant, and there is one\n\
 \x20           (P;Q)               first P, and then Q\n\
 \x20           !P  (P&Q)  (P|Q)    not, and, or\n\
 \x20           T  F                true, false\n\

@@ -34,8 +34,8 @@ use Rattle.table_blocks.specs.declared.Block.{Block}
 use Rattle.table_blocks.specs.declared.Rule.{Rule}
 use Rattle.table_blocks.specs.declared.Rule.the-variants.{Duration, Throughout, Cut}
 use Rattle.table_blocks.proofs.Heads.{rule-head}
-use Rattle.table_sizes.specs.Weights.{variableWeight, longerBy, weightBy, pointsBy, rowWeight, weightTo}
-use Rattle.table_sizes.proofs.Weights.{suc-le-count}
+use Rattle.table_sizes.specs.Weights.{variableWeight, weightBy, pointsBy, rowWeight, weightTo}
+use Rattle.table_sizes.proofs.Weights.{longer-ones}
 use Rattle.table_sizes.proofs.Rows.{weightBefore, part-width, total-next}
 use Rattle.table_nodes.specs.Nodes.{Fine}
 use Rattle.table_layout.specs.Rows.{seatBy, blockBy}
@@ -171,15 +171,14 @@ module _ (k points : ℕ) where
   rules-fit : (number : ℕ) → k ≤ maxSteps → points ≤ maxCount → All Long (rulesFor number)
   unfolding weightBy
   rules-fit number h p =
-      let e : longerBy k 1 ≡ countOf k = omega (arith, suc-le-count k) in
-      let levels : Long (Duration number) = λ l. (l, omega (arith, ap (λ (m : ℕ). number * m) e, suc-mul number (countOf k))) in
+      let levels : Long (Duration number) = λ l. (l, omega (arith, ap (λ (m : ℕ). number * m) (longer-ones k), suc-mul number (countOf k))) in
       (λ l. p, (λ l. p, (λ l. omega arith, (λ l. omega arith, (λ l. omega arith, (λ l. omega arith, (λ l. omega arith, (levels, tt))))))))
 
 row-fits : (k kind number : ℕ) → k ≤ maxSteps → pointsBy k kind ≤ maxCount → numberOf (ruleBy kind number) ≤ 255 → Fits k (rowWeight variableWeight k kind number) (ruleBy kind number)
 unfolding rowWeight ruleBy weightBy
 row-fits k kind number h p =
     let points = pointsBy k kind in
-    all-or (Long k points) (rulesFor number) Throughout (λ l. omega (arith, suc-le-count k)) (kind % 16) (rules-fit k points number h p)
+    all-or (Long k points) (rulesFor number) Throughout (λ l. longer-ones k) (kind % 16) (rules-fit k points number h p)
 
 -- ---- the loop over the nodes, whatever the node table says
 

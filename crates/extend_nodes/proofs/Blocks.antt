@@ -3,7 +3,7 @@
 use mathlib.Core.Path.{_≡_, refl, sym, ap, ap₂, _∙_}
 use mathlib.Core.Bool.{Bool, not, _&&_, _||_}
 use mathlib.Core.List.{List, [], _∷_, _++_, map}
-use Prim.Native.Nat.{ℕ, suc, _+_, _-_, _%_, _≤_, _<_}
+use Prim.Native.Nat.{ℕ, suc, _+_, _-_, _%_, _≤_, _<_, max}
 use native.Mathlib.Nat.{mod-eq-of-lt}
 use native.Mathlib.Omega.{arith}
 use lib.Dec.{leb}
@@ -25,7 +25,7 @@ use Rattle.paper_grammar.specs.declared.Sort.the-variants.{State, Formula}
 use Rattle.paper_grammar.specs.Nodes.{Node}
 use Rattle.paper_grammar.proofs.EachNode.{OnParts}
 use Rattle.paper_meaning.specs.Meaning.{bit, Point, truth, lasts, fills, chops, channelAt}
-use Rattle.paper_meaning.proofs.Laws.{highs-agree, every-highs}
+use Rattle.paper_meaning.proofs.Laws.{highs-agree, throughout-lasts}
 use Rattle.paper_circuit.specs.Circuit.{pointsOf, widthOf}
 use Rattle.paper_circuit.proofs.Inputs.{intervals-in, triples-in}
 use Rattle.table_blocks.specs.Blocks.{ruleOf}
@@ -64,8 +64,7 @@ module _ (k : ℕ) where
     lasts-agree c v o = ap (leb c) (highs-agree f g (v .i) (v .j - v .i) (λ t l m. h t (omega (arith, o .ends))))
 
     fills-agree : (v : Interval) → IntervalOf k v → fills f v ≡ fills g v
-    unfolding fills lasts
-    fills-agree v o = every-highs f (v .i) (v .j - v .i) ∙ lasts-agree (v .j - v .i) v o ∙ sym (every-highs g (v .i) (v .j - v .i))
+    fills-agree v o = throughout-lasts f v ∙ lasts-agree (max 1 (v .j - v .i)) v o ∙ sym (throughout-lasts g v)
 
   module _ (f f′ g g′ : Interval → Bool) (h : (v : Interval) → IntervalOf k v → f v ≡ f′ v) (l : (v : Interval) → IntervalOf k v → g v ≡ g′ v) where
     cuts-agree : (t : Triple) → TripleOf k t → cuts f g t ≡ cuts f′ g′ t

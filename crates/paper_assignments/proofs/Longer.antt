@@ -6,7 +6,7 @@ use Prim.Native.Nat.{ℕ, zero, suc, _+_, _-_, _<_}
 use native.Mathlib.Nat.{add-zero}
 use native.Mathlib.Omega.{arith}
 use lib.Dec.{leb}
-use borrow.Author.Tests.{leb-true, leb-false, le-leb, lt-leb}
+use borrow.Author.Tests.{leb-true, leb-false, le-leb, lt-leb, lt-ltb, le-ltb}
 use Rattle.interval.specs.declared.Interval.{Interval}
 use Rattle.paper_meaning.specs.Meaning.{bit, highs, every, any, lasts, fills}
 use Rattle.paper_circuit.specs.Circuit.{shorter}
@@ -26,9 +26,9 @@ module _ (f : ℕ → Bool) (v : Interval) where
     none : v .j - v .i ≡ 0
     none = omega arith
 
-    pub fills-empty : fills f v ≡ true
-    unfolding fills every
-    fills-empty = rw none
+    pub fills-empty : fills f v ≡ false
+    unfolding fills
+    fills-empty = rw (le-ltb (v .i) (v .j) (omega arith)) refl
 
     pub lasts-empty : (c : ℕ) → lasts (suc c) f v ≡ false
     unfolding lasts highs
@@ -41,9 +41,14 @@ module _ (f : ℕ → Bool) (v : Interval) where
     last : v .i + (v .j - 1 - v .i) ≡ v .j - 1
     last = omega arith
 
-    pub fills-longer : fills f v ≡ (fills f (shorter v) && f (v .j - 1))
+    pub fills-one : v .i + 1 ≡ v .j → fills f v ≡ f (v .i)
     unfolding fills every
-    fills-longer = rw (steps, last)
+    fills-one e =
+        let one : v .j - v .i ≡ 1 = omega arith in rw (lt-ltb (v .i) (v .j) h, one, add-zero) refl
+
+    pub fills-longer : (v .i + 1 ≡ v .j → ⊥) → fills f v ≡ (fills f (shorter v) && f (v .j - 1))
+    unfolding fills every
+    fills-longer n = rw (lt-ltb (v .i) (v .j) h, lt-ltb (v .i) (v .j - 1) (omega arith), steps, last)
 
     pub lasts-longer : (c : ℕ) → lasts (suc c) f v ≡ (lasts (suc c) f (shorter v) || lasts c f (shorter v) && f (v .j - 1))
     unfolding lasts highs

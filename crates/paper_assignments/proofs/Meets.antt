@@ -25,6 +25,7 @@ use Rattle.lists.proofs.Lists.{all-append, all-rows, all-mapped}
 use Rattle.paper_grammar.proofs.EachNode.{OnParts, Each, LettersNode}
 use Rattle.paper_meaning.specs.Meaning.{bit, channelAt, highs, any, lasts, fills, chops, truth}
 use Rattle.paper_meaning.proofs.Words.{high-bit}
+use Rattle.paper_circuit.specs.declared.Gate.{Gate}
 use Rattle.paper_circuit.specs.Gates.{Assignment, valueOf}
 use Rattle.paper_circuit.specs.Circuit.{channelOf, pointsOf, widthOf, blocksOf, truthOf, Definition, shorter, throughoutGate, levelOf, levelGate}
 use Rattle.paper_circuit.specs.Circuit.{tripleGate, chopGate, Seats, seatsOf, ownBy, ownOf, definedFrom}
@@ -33,7 +34,7 @@ use Rattle.paper_circuit.proofs.Inputs.{intervals-in, triples-in, row-lt}
 use Rattle.paper_assignments.specs.Extension.{truthValues, cuts, cutValues, blockValues, nodeValues}
 use Rattle.paper_assignments.proofs.Values.{mapped-length, mapped-at, alike-length, alike-at, pointAt, truth-length, truth-at, block-length}
 use Rattle.paper_assignments.proofs.Values.{values-append, values-length, values-parts, truth-stands}
-use Rattle.paper_assignments.proofs.Longer.{fills-empty, fills-longer, lasts-empty, lasts-longer, some-along}
+use Rattle.paper_assignments.proofs.Longer.{fills-empty, fills-one, fills-longer, lasts-empty, lasts-longer, some-along}
 
 -- the variable has its gate's value
 abbrev pub Defined : Assignment → Definition → Type 0
@@ -83,10 +84,14 @@ module _ (a : Assignment) (k : ℕ) where
     unfolding valueOf
     throughout-meets h v o =
         let own = on-intervals b (fills f) h in
-        cond-elim (λ g. a (b + placeOf k v) ≡ valueOf a g) (eqb (v .i) (v .j)) (λ e. own v o ∙ fills-empty f v (eqb-true (v .i) (v .j) e))
+        cond-elim Met (eqb (v .i) (v .j)) (λ e. own v o ∙ fills-empty f v (eqb-true (v .i) (v .j) e))
         (λ e.
         let n : v .i < v .j = omega (arith, eqb-false (v .i) (v .j) e) in
-        own v o ∙ fills-longer f v n ∙ sym (ap₂ _&&_ (own (shorter v) (omega arith)) (part (v .j - 1) (omega arith))))
+        cond-elim Met (eqb (v .i + 1) (v .j)) (λ e. own v o ∙ fills-one f v n (eqb-true (v .i + 1) (v .j) e) ∙ sym (part (v .i) (omega arith)))
+        (λ e. own v o ∙ fills-longer f v n (eqb-false (v .i + 1) (v .j) e) ∙ sym (ap₂ _&&_ (own (shorter v) (omega arith)) (part (v .j - 1) (omega arith)))))
+      where
+        Met : Gate → Type 0
+        Met g = a (b + placeOf k v) ≡ valueOf a g
 
     level-meets : (n : ℕ) → ((c : ℕ) → c < n → HasOn (b + c * countOf k) (lasts c f))
         → (c : ℕ) → c < n → (v : Interval) → IntervalOf k v → a (levelOf k b c v) ≡ valueOf a (levelGate k b l c v)

@@ -9,7 +9,7 @@ use native.Mathlib.Nat.{suc-mul}
 use native.Mathlib.Omega.{arith}
 use lib.Dec.{eqb}
 use lib.Arith.{digits-lt}
-use borrow.Author.Tests.{eqb-false}
+use borrow.Author.Tests.{eqb-true, eqb-false}
 use Rattle.lists.specs.Listing.{rows, tab, All}
 use Rattle.interval.specs.Places.{countOf, tripleCountOf, placeOf, triplePlaceOf, intervalsOf, triplesOf}
 use Rattle.interval.specs.Limits.{IntervalOf, TripleOf}
@@ -122,8 +122,13 @@ module _ (C k b : ℕ) where
   unfolding widthOf inputsOf
   throughout-stands x v o =
       let p = intervals-numbered k .below v o in
-      by-shorter (λ g. Stands C k b (throughout x) (b + placeOf k v) (inputsOf g)) v o (omega arith)
-      (λ q h. let t = truth-lt k x (v .j - 1) h in record { inside = omega arith; inputs = (own (omega arith), (part (omega arith), tt)); apart = omega arith })
+      by-shorter Fine v o (omega arith)
+      (λ q h. let t = truth-lt k x (v .j - 1) h in
+      cond-elim Fine (eqb (v .i + 1) (v .j)) (λ e. record { inside = omega arith; inputs = (part (omega (arith, eqb-true (v .i + 1) (v .j) e)), tt); apart = (tt, tt) })
+      (λ e. record { inside = omega arith; inputs = (own (omega arith), (part (omega arith), tt)); apart = omega arith }))
+    where
+      Fine : Gate → Type 0
+      Fine g = Stands C k b (throughout x) (b + placeOf k v) (inputsOf g)
 
   level-stands : (x : Tree State) (n c : ℕ) → c < suc n → (v : Interval) → IntervalOf k v
       → Defined (duration x n) (define (levelOf k b c v) (levelGate k b (b + suc n * countOf k + truthOf k x) c v))

@@ -58,9 +58,10 @@ alike b n g = tab n (λ p. define (b + p) (g p))
 abbrev pub shorter : Interval → Interval
 shorter v = record { i = v .i; j = v .j - 1 }
 
--- `[S]`, its block from b on, S from s on: (v) on an empty interval; else v is both p and s
+-- `[S]`, its block from b on, S from s on: "On i = j it becomes false", "On j = i + 1 it is S at i" (request C-12); else v is both p and s
 abbrev pub throughoutGate : ℕ → ℕ → ℕ → Interval → Gate
-throughoutGate k b s v = cond (eqb (v .i) (v .j)) (Constant true) (Both (b + placeOf k (shorter v)) (s + (v .j - 1)))
+throughoutGate k b s v =
+    cond (eqb (v .i) (v .j)) (Constant false) (cond (eqb (v .i + 1) (v .j)) (Copy (s + v .i)) (Both (b + placeOf k (shorter v)) (s + (v .j - 1))))
 
 -- level c of a duration: v is p, or both q and s
 abbrev pub levelOf : ℕ → ℕ → ℕ → Interval → ℕ

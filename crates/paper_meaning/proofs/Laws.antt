@@ -3,10 +3,10 @@
 use mathlib.Core.Path.{_≡_, refl, sym, ap, ap₂, _∙_}
 use mathlib.Core.Logic.{_↔_}
 use mathlib.Core.Bool.{Bool, true, false, _&&_, _||_, false≢true}
-use Prim.Native.Nat.{ℕ, zero, suc, _+_, _-_, _≤_, _<_}
+use Prim.Native.Nat.{ℕ, zero, suc, _+_, _-_, _≤_, _<_, max}
 use native.Mathlib.Omega.{arith}
 use lib.Dec.{leb, ltb}
-use borrow.Author.Tests.{le-leb, lt-leb, leb-true, leb-false, ltb-true, ltb-false}
+use borrow.Author.Tests.{le-leb, lt-leb, lt-ltb, leb-true, leb-false, ltb-true, ltb-false}
 use Rattle.lists.proofs.Tests.{both}
 use Rattle.interval.specs.declared.Interval.{Interval}
 use Rattle.paper_meaning.specs.Meaning.{bit, highs, every, any, lasts, fills, chops}
@@ -22,7 +22,7 @@ module _ (f : ℕ → Bool) (i : ℕ) where
   highs-le (suc n) = omega (arith, highs-le n, bit-le (f (i + n)))
 
   -- every one of n instants is true exactly where n are
-  pub every-highs : (n : ℕ) → every f i n ≡ leb n (highs f i n)
+  every-highs : (n : ℕ) → every f i n ≡ leb n (highs f i n)
   unfolding every highs
   every-highs zero = sym (le-leb 0 0 (omega arith))
   every-highs (suc n) = ap (λ (b : Bool). b && f (i + n)) (every-highs n) ∙ one-more (f (i + n)) (highs f i n) (highs-le n)
@@ -91,11 +91,25 @@ chop-some f g v h =
       λ o. w .1 (o .0, o .1, omega (arith, o .2), ap₂ _&&_ (o .3) (o .4)),
     )
 
--- `[S]` is every t with i ≤ t < j
-pub throughout-each : (f : ℕ → Bool) (v : Interval) → v .i ≤ v .j → (fills f v ≡ true) ↔ ((t : ℕ) → v .i ≤ t → t < v .j → f t ≡ true)
+-- `[S]` is every t with i ≤ t < j, and there is one
+pub throughout-each : (f : ℕ → Bool) (v : Interval) → (fills f v ≡ true) ↔ ((v .i < v .j) × ((t : ℕ) → v .i ≤ t → t < v .j → f t ≡ true))
 unfolding fills
-throughout-each f v h =
-    let w = every-each f (v .i) (v .j - v .i) in (λ e t l m. w .0 e t l (omega arith), λ g. w .1 (λ t l m. g t l (omega arith)))
+throughout-each f v =
+    let w = every-each f (v .i) (v .j - v .i) in (
+      λ e. let t = both (ltb (v .i) (v .j)) (every f (v .i) (v .j - v .i)) e in (ltb-true (v .i) (v .j) (t .0), λ u l m. w .0 (t .1) u l (omega arith)),
+      λ g. ap₂ _&&_ (lt-ltb (v .i) (v .j) (g .0)) (w .1 (λ t l m. g .1 t l (omega arith))),
+    )
+
+-- `[S]` asks for as many instants as there are, and for one at least
+pub throughout-lasts : (f : ℕ → Bool) (v : Interval) → fills f v ≡ lasts (max 1 (v .j - v .i)) f v
+unfolding fills lasts
+throughout-lasts f v = go (v .j - v .i) (ltb (v .i) (v .j)) refl refl
+  where
+    go : (n : ℕ) (b : Bool) → ltb (v .i) (v .j) ≡ b → n ≡ v .j - v .i → (b && every f (v .i) n) ≡ leb (max 1 n) (highs f (v .i) n)
+    go n true e d =
+        let m : n ≡ max 1 n = omega (arith, ltb-true (v .i) (v .j) e) in
+        every-highs f (v .i) n ∙ ap (λ (m : ℕ). leb m (highs f (v .i) n)) m
+    go n false e d = sym (lt-leb (max 1 n) (highs f (v .i) n) (omega (arith, highs-le f (v .i) n, ltb-false (v .i) (v .j) e)))
 
 -- a duration turns on the t with i ≤ t < j alone
 pub duration-within : (n : ℕ) (f g : ℕ → Bool) (v : Interval) → v .i ≤ v .j → ((t : ℕ) → v .i ≤ t → t < v .j → f t ≡ g t) → lasts n f v ≡ lasts n g v

@@ -3,7 +3,7 @@
 use mathlib.Core.Bool.{Bool, true, false, not, _&&_, _||_}
 use mathlib.Core.List.{List}
 use Prim.Native.Nat.{ℕ, zero, suc, _+_, _-_, _/_, _%_, _^_}
-use lib.Dec.{eqb, leb}
+use lib.Dec.{eqb, leb, ltb}
 use lib.ListN.{getD}
 use Rattle.interval.specs.declared.Interval.{Interval}
 use Rattle.paper_grammar.specs.Trees.{and, or, chop, Tree, constant, letter, negation, pair, duration, throughout}
@@ -42,9 +42,9 @@ any f i (suc n) = any f i n || f (i + n)
 unfoldable pub lasts : ℕ → (ℕ → Bool) → Interval → Bool
 lasts n f v = leb n (highs f (v .i) (v .j - v .i))
 
--- "`[S]`: S is true at every instant of the interval"
+-- "`[S]`: S is true at every instant of the interval", and, by request C-12, "only on an interval with at least one instant"
 unfoldable pub fills : (ℕ → Bool) → Interval → Bool
-fills f v = every f (v .i) (v .j - v .i)
+fills f v = ltb (v .i) (v .j) && every f (v .i) (v .j - v .i)
 
 -- "`(P;Q)`: some m with i ≤ m ≤ j has P on [i, m] and Q on [m, j]"
 unfoldable pub chops : (Interval → Bool) → (Interval → Bool) → Interval → Bool

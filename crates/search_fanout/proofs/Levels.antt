@@ -6,7 +6,7 @@ use mathlib.Core.Bool.{false}
 use Prim.Native.Nat.{ℕ, zero, suc, _+_, _-_, _*_, _≤_, _<_}
 use native.Mathlib.Omega.{arith}
 use lib.Dec.{eqb, ltb}
-use borrow.Author.Tests.{eqb-false, lt-ltb, ltb-true}
+use borrow.Author.Tests.{eqb-true, eqb-false, lt-ltb, ltb-true}
 use Rattle.lists.proofs.Tests.{cond-elim}
 use Rattle.lists.specs.Listing.{sum}
 use Rattle.interval.specs.Places.{countOf}
@@ -47,12 +47,17 @@ module _ (k u f l y a i d : ℕ) where
       go v w (inr (inl e)) = below w v e
       go v w (inr (inr e)) = instant w v e
 
-  all-uses : Mention u (f + y) (throughoutBy f l y i d) → Uses k u f l 0 y a i d
-  all-uses (inl e) = own e
-  all-uses (inr m) = cond-elim (λ (g : Gate). Inputs u g → Uses k u f l 0 y a i d) (eqb d 0) (λ _ m. absurd m) (λ w m. go (some w) m) m
+  all-uses : Mention u (f + y) (throughoutBy (f + y) l i d) → d ≤ y → Uses k u f l 0 y a i d
+  all-uses (inl e) h = own e
+  all-uses (inr m) h =
+      cond-elim Used (eqb d 0) (λ _ m. absurd m)
+      (λ v m. cond-elim Used (eqb d 1) (λ w m. instant (some v) (omega arith) (omega (arith, m, eqb-true d 1 w))) (λ w m. go (some v) m) m) m
     where
-      go : 1 ≤ d → (u ≡ f + (y - 1)) ⊎ (u ≡ l + (i + (d - 1))) → Uses k u f l 0 y a i d
-      go w (inl e) = shorter w e
+      Used : Gate → Type 0
+      Used g = Inputs u g → Uses k u f l 0 y a i d
+
+      go : 1 ≤ d → (u ≡ f + y - 1) ⊎ (u ≡ l + (i + (d - 1))) → Uses k u f l 0 y a i d
+      go w (inl e) = shorter w (omega arith)
       go w (inr e) = instant w (omega arith) e
 
 -- ---- places of n levels and the lowest
@@ -151,7 +156,7 @@ module _ (C k u : ℕ) (b : Block) where
   after-all x p j o e =
       some-places C k u (ruled Throughout b) (afterCount k 0 p) (afterPlace k x) (after-in k (b .points) 0 p x (o .inside) (o .at))
       (λ y h m. after-hit k (b .points) 0 p x (o .inside) (o .at) u (b .first) (b .left) 0 e (omega (arith, j)) (y .0) (y .1 .0) (y .1 .1) h
-      (all-uses k u (b .first) (b .left) _ (y .0) (y .1 .0) (y .1 .1) m))
+      (all-uses k u (b .first) (b .left) _ (y .0) (y .1 .0) (y .1 .1) m (omega arith)))
 
   -- the block's own variable in place x, at position p
   pub after-suffices : {n x : ℕ} (p : Position) → Levels (b .rule) n → Laid C k b → Placed (b .points) k (b .rule) x (p .row) (p .line) (p .cell) → u ≡ b .first + x
@@ -171,7 +176,7 @@ module _ (C k u : ℕ) (b : Block) where
   instant-all t j e h =
       more-places C k u (ruled Throughout b) (suc t) 1 (instantPlace k 0 t) (instant-in k (b .points) 0 u (b .first) (b .left) 0 1 t e (omega (arith, j)) (omega arith) h)
       (λ y o m. instant-hit k (b .points) 0 u (b .first) (b .left) 0 1 t e (omega (arith, j)) (omega arith) (y .0) (y .1 .0) (y .1 .1) o
-      (all-uses k u (b .first) (b .left) _ (y .0) (y .1 .0) (y .1 .1) m))
+      (all-uses k u (b .first) (b .left) _ (y .0) (y .1 .0) (y .1 .1) m (omega arith)))
 
   -- S at instant t
   pub instant-suffices : {z m t : ℕ} → Rising (b .rule) z m → Laid C k b → u ≡ b .left + t → t < k → Suffices (nodeClauses C k b) u (instantClauses C k b z m t)

@@ -6,7 +6,7 @@ use mathlib.Core.List.{List, [], _++_}
 use Prim.Native.Nat.{ℕ, _+_, _*_, _<_}
 use native.Mathlib.Omega.{arith}
 use lib.Dec.{eqb}
-use borrow.Author.Tests.{eqb-false}
+use borrow.Author.Tests.{eqb-true, eqb-false}
 use Rattle.lists.proofs.Tests.{cond-elim}
 use Rattle.lists.specs.Listing.{sum}
 use Rattle.interval.proofs.Shape.{Shape, Inside, count, place, place-lt}
@@ -74,8 +74,12 @@ module _ (C k u : ℕ) (b : Block) where
       (λ e m. three (λ f. inl (omega (arith, f, p))) (λ f. inl (omega (arith, f, p))) (λ f. inr (omega (arith, f, h .1, eqb-false d 0 e))) m) m) m
   input-near Throughout a i d h m =
       let p = place-lt (shape Throughout) (a, (i, d)) h in
-      cond-elim (λ (g : Gate). Inputs u g → NearBy C k b u Throughout) (eqb d 0) (λ _ m. absurd m)
-      (λ e m. ⊎-elim (λ f. inl (omega (arith, f, p))) (λ f. inr (omega (arith, f, h .1, eqb-false d 0 e))) m) m
+      cond-elim Near (eqb d 0) (λ _ m. absurd m)
+      (λ e m. cond-elim Near (eqb d 1) (λ f m. inr (omega (arith, m, h .1, eqb-true d 1 f)))
+      (λ _ m. ⊎-elim (λ f. inl (omega (arith, f, p, eqb-false d 0 e))) (λ f. inr (omega (arith, f, h .1, eqb-false d 0 e))) m) m) m
+    where
+      Near : Gate → Type 0
+      Near g = Inputs u g → NearBy C k b u Throughout
   input-near Cut a i d h (inl m) = inl (let t = intervals-numbered k .below (record { i = a; j = a + d }) (record { starts = omega arith; ends = omega (arith, h .1) }) in omega (arith, m, t))
   input-near Cut a i d h (inr m) =
       inr (let t = intervals-numbered k .below (record { i = a + d; j = a + i }) (record { starts = omega (arith, h .1); ends = omega (arith, h .1) }) in

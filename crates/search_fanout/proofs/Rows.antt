@@ -16,8 +16,8 @@ use Rattle.table_blocks.specs.Blocks.{ruleBy}
 use Rattle.table_blocks.specs.declared.Block.{Block}
 use Rattle.table_blocks.specs.declared.Rule.{Rule}
 use Rattle.table_blocks.specs.declared.Rule.the-variants.{Fixed, Letter, Negation, And, Or, Chop, Duration, Throughout, Cut}
-use Rattle.table_sizes.specs.Weights.{variableWeight, longerBy, pointsBy, weightBy, rowWeight, weightTo}
-use Rattle.table_sizes.proofs.Weights.{suc-le-count}
+use Rattle.table_sizes.specs.Weights.{variableWeight, pointsBy, weightBy, rowWeight, weightTo}
+use Rattle.table_sizes.proofs.Weights.{longer-ones}
 use Rattle.paper_clauses.specs.Clauses.{Clause}
 use Rattle.table_layout.specs.Rows.{seatBy, blockBy}
 use Rattle.search_clauses.specs.Clauses.{rowClauses}
@@ -87,11 +87,8 @@ module _ {C k : ℕ} {kinds numbers sizes firsts parents : List ℕ} {n : ℕ} (
     apart-by And e p = (omega (arith, e, next-from (p .0 .0)), last-from points (p .0) (p .1 .0))
     apart-by Or e p = (omega (arith, e, next-from (p .0 .0)), last-from points (p .0) (p .1 .0))
     apart-by Chop e p = (omega (arith, e, next-from (p .0 .0)), last-from (countOf k) (p .0) (p .1 .0))
-    apart-by (Duration m) e p = omega (arith, e, next-from (p .0), suc-le-count k, suc-mul m (countOf k), ap (λ c. m * c) longer)
-      where
-        longer : longerBy k 1 ≡ countOf k
-        longer = omega (arith, suc-le-count k)
-    apart-by Throughout e p = omega (arith, e, next-from (p .0), suc-le-count k)
+    apart-by (Duration m) e p = omega (arith, e, next-from (p .0), suc-mul m (countOf k), ap (λ c. m * c) (longer-ones k))
+    apart-by Throughout e p = omega (arith, e, next-from (p .0), longer-ones k)
     apart-by Cut e p = absurd p
 
     voiced-by : (q : Rule) → PartsAt C k kinds numbers parents n y last points q → Voiced C k (block y) q

@@ -1,5 +1,5 @@
 -- The interval that ends a step after instant t is longer than empty, so on a level but the first its gate goes by the place before, the
--- level below, and the instant; that of `[S]` by the place before and the instant. The next level stands I places further.
+-- level below, and the instant; that of `[S]` by the instant, and on more than one step by the place before. The next level stands I places further.
 use mathlib.Core.Path.{_≡_, refl, sym, ap, _∙_, subst}
 use mathlib.Core.Logic.{inl, inr}
 use mathlib.Core.List.{List}
@@ -11,7 +11,7 @@ use Rattle.lists.specs.Listing.{rows}
 use Rattle.interval.specs.Places.{countOf, placeOf}
 use Rattle.interval.specs.Limits.{maxSteps, maxCount}
 use Rattle.interval.proofs.Shape.{Inside}
-use Rattle.paper_circuit.specs.declared.Gate.the-variants.{Both, Step}
+use Rattle.paper_circuit.specs.declared.Gate.the-variants.{Copy, Both, Step}
 use Rattle.table_blocks.specs.Blocks.{shapeOf, gateOf, definedBy, Placed, Bounded, bound}
 use Rattle.table_blocks.specs.declared.Block.{Block}
 use Rattle.table_blocks.specs.declared.Rule.{Rule}
@@ -26,7 +26,7 @@ use Rattle.search_fanout.proofs.Fine.{level-place, chop-place}
 use Rattle.search_fanout.specs.Fanout.{Rising}
 use Rattle.interval.proofs.Counts.{few-intervals}
 use Rattle.search_walks.proofs.Places.{interval-small}
-use Rattle.search_levels.proofs.Gates.{whole-gate, level-gate}
+use Rattle.search_levels.proofs.Gates.{whole-one, whole-gate, level-gate}
 
 longer-than-empty : (k i t : ℕ) → i ≤ t → 1 ≤ placeOf k (record { i = i; j = t + 1 })
 unfolding placeOf
@@ -73,24 +73,6 @@ module _ (C k : ℕ) (b : Block) (i t : ℕ) (o : i ≤ t) (l : t < k) where
       level-asks : {values trail : List ℕ} {top : ℕ} → Standing C k b values trail top → Variable (length values) v × InputsIn (length values) (Step (v - 1) (v - 1 - I) (b .left + t))
       level-asks {values} s = let w = visit-asks C k b level gate (s .bounded, s .points) (s .mentioned) in (subst (Variable (length values)) (sym e) (w .0), w .1)
 
-  -- `[S]`
-  module _ (d : b .rule ≡ Throughout) where
-    line : Placed (b .points) k (b .rule) ends 0 i steps
-    line =
-        let w : Inside (shapeOf (b .points) k Throughout) (0, (i, steps)) = (omega arith, (omega arith, omega arith)) in
-        subst (λ (r : Rule). Placed (b .points) k r ends 0 i steps) (sym d)
-        (record { inside = w; at = sym (chop-place k (b .points) 0 i steps w ∙ ap (λ (j : ℕ). placeOf k (record { i = i; j = j })) end) })
-
-    module _ {v : ℕ} (e : v ≡ b .first + ends) where
-      both : Both (v - 1) (b .left + t) ≡ gateOf C k b ends 0 i steps
-      both = whole-gate C k b ends 0 i steps d some (omega (arith, e, longer-than-empty k i t o)) (omega arith)
-
-      line-clauses : clausesOf v (Both (v - 1) (b .left + t)) ≡ clausesAt (definedBy C k b) ends
-      line-clauses = ap (λ (v′ : ℕ). clausesOf v′ (Both (v - 1) (b .left + t))) e ∙ clauses-here C k b line both
-
-      line-asks : {values trail : List ℕ} {top : ℕ} → Standing C k b values trail top → Variable (length values) v × InputsIn (length values) (Both (v - 1) (b .left + t))
-      line-asks {values} s = let w = visit-asks C k b line both (s .bounded, s .points) (s .mentioned) in (subst (Variable (length values)) (sym e) (w .0), w .1)
-
 -- ---- `[S]`, by the code's test
 
 module _ (C k : ℕ) (b : Block) {a n i t p : ℕ} (r : Rising (b .rule) a n) (o : i ≤ t) (l : t < k) (z : a ≡ 0) (e : p ≡ placeOf k (record { i = i; j = i + (t + 1 - i) })) where
@@ -101,19 +83,26 @@ module _ (C k : ℕ) (b : Block) {a n i t p : ℕ} (r : Rising (b .rule) a n) (o
       go (inl w) = absurd (omega (arith, w .1, z))
       go (inr w) = (w .0, w .2)
 
-  ended : b .first + p ≡ b .first + placeOf k (record { i = i; j = t + 1 })
-  ended = ap (λ (p : ℕ). b .first + p) (e ∙ ap (λ (j : ℕ). placeOf k (record { i = i; j = j })) (end C k b i t o l))
+  pub whole-placed : Placed (b .points) k (b .rule) p 0 i (t + 1 - i)
+  whole-placed =
+      let w : Inside (shapeOf (b .points) k Throughout) (0, (i, t + 1 - i)) = (omega arith, (omega arith, omega arith)) in
+      subst (λ (r : Rule). Placed (b .points) k r p 0 i (t + 1 - i)) (sym (whole .0)) (record { inside = w; at = e ∙ sym (chop-place k (b .points) 0 i (t + 1 - i) w) })
 
-  pub whole-clauses : clausesOf (b .first + p) (Both (b .first + p - 1) (b .left + t)) ≡ riseClauses C k b a n t i
-  unfolding rows
-  whole-clauses = line-clauses C k b i t o l (whole .0) ended ∙ rw (whole .1, z, zero-mul, zero-add) refl
+  ended : p ≡ placeOf k (record { i = i; j = t + 1 })
+  ended = e ∙ ap (λ (j : ℕ). placeOf k (record { i = i; j = j })) (end C k b i t o l)
 
   pub whole-some : 1 ≤ b .first + p
   whole-some = omega (arith, ended, longer-than-empty k i t o)
 
-  pub whole-asks : {values trail : List ℕ} {top : ℕ} → Standing C k b values trail top
-      → Variable (length values) (b .first + p) × InputsIn (length values) (Both (b .first + p - 1) (b .left + t))
-  whole-asks s = line-asks C k b i t o l (whole .0) ended s
+  pub whole-copy : i ≡ t → Copy (b .left + t) ≡ gateOf C k b p 0 i (t + 1 - i)
+  whole-copy f = whole-one C k b p 0 i (t + 1 - i) (whole .0) (some C k b i t o l) (omega arith) (omega arith)
+
+  pub whole-both : (i ≡ t → ⊥) → Both (b .first + p - 1) (b .left + t) ≡ gateOf C k b p 0 i (t + 1 - i)
+  whole-both f = whole-gate C k b p 0 i (t + 1 - i) (whole .0) (omega (arith, f)) (omega arith)
+
+  pub whole-clauses : clausesAt (definedBy C k b) p ≡ riseClauses C k b a n t i
+  unfolding rows
+  whole-clauses = ap (clausesAt (definedBy C k b)) ended ∙ rw (whole .1, z, zero-mul, zero-add) refl
 
 -- ---- a duration: the loop over levels stands at a + e, v being the variable
 

@@ -1,5 +1,6 @@
 // The gates of a duration's or `[S]`'s block that mention its part at an instant, visited: those of the intervals that end a step later.
 use search_closing::Closed;
+use search_patterns::COPY;
 use table_blocks::Block;
 ghost use mathlib.Core.Path.{_≡_};
 ghost use Prim.Native.Nat.{_≤_, _<_};
@@ -27,7 +28,11 @@ fn visit_rise(
 {
     let first = block.first + table_blocks::place(i, t + 1 - i, k, all);
     if a == 0 {
-        return search_patterns::settle_both(values, trail, top, first, first - 1, block.left + t);
+        let last = block.left + t;
+        if i == t {
+            return search_patterns::settle_by(values, trail, top, COPY, first, last, first, first);
+        }
+        return search_patterns::settle_both(values, trail, top, first, first - 1, last);
     }
     let mut v = first + all;
     let mut end = top;

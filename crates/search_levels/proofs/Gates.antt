@@ -1,18 +1,19 @@
 -- A duration's first level is true, a level above false on an empty interval, and else it goes by the place before, the level below and the
--- last instant; `[S]` is true on an empty interval, and else goes by the place before and the last instant.
-use mathlib.Core.Path.{_≡_, sym, ap₂, _∙_, subst}
+-- last instant; `[S]` is false on an empty interval, S on one step, and else goes by the place before and the last instant.
+use mathlib.Core.Path.{_≡_, sym, ap, _∙_, subst}
 use mathlib.Core.Logic.{inl, inr}
 use mathlib.Core.Bool.{Bool, true, false, true≢false, false≢true}
-use Prim.Native.Nat.{ℕ, _+_, _-_}
+use Prim.Native.Nat.{ℕ, _+_, _-_, _≤_, _<_}
 use borrow.Author.Tests.{eq-eqb, ne-eqb}
 use Rattle.interval.specs.Places.{countOf}
 use Rattle.paper_circuit.specs.declared.Gate.{Gate}
-use Rattle.paper_circuit.specs.declared.Gate.the-variants.{Constant, Both, Step}
-use Rattle.table_blocks.specs.Blocks.{gateOf, levelBy, throughoutBy}
+use Rattle.paper_circuit.specs.declared.Gate.the-variants.{Constant, Copy, Both, Step}
+use Rattle.table_blocks.specs.Blocks.{gateOf, levelBy}
 use Rattle.table_blocks.specs.declared.Block.{Block}
 use Rattle.table_blocks.specs.declared.Rule.{Rule}
 use Rattle.table_blocks.specs.declared.Rule.the-variants.{Duration, Throughout}
 use Rattle.table_blocks.proofs.Positions.{gate-by}
+use Rattle.table_blocks.proofs.Throughout.{throughout-empty, throughout-one, throughout-longer}
 use Rattle.search_levels.specs.Rules.{isThroughout, Leveled}
 
 -- ---- the rule, by the code's test
@@ -33,17 +34,14 @@ module _ (C k : ℕ) (b : Block) (x a i d : ℕ) where
   gate = gateOf C k b x a i d
 
   module _ (r : b .rule ≡ Throughout) where
-    pub whole-empty : d ≡ 0 → Constant true ≡ gate
-    whole-empty e = known ∙ gate-by C k b x a i d r
-      where
-        known : Constant true ≡ throughoutBy (b .first) (b .left) x i d
-        known = simp (eq-eqb d 0 e)
+    pub whole-empty : d ≡ 0 → Constant false ≡ gate
+    whole-empty e = throughout-empty (b .first + x) (b .left) i d e ∙ gate-by C k b x a i d r
 
-    pub whole-gate : (d ≡ 0 → ⊥) → {p s : ℕ} → p ≡ b .first + (x - 1) → s ≡ b .left + (i + (d - 1)) → Both p s ≡ gate
-    whole-gate f e g = ap₂ Both e g ∙ known ∙ gate-by C k b x a i d r
-      where
-        known : Both (b .first + (x - 1)) (b .left + (i + (d - 1))) ≡ throughoutBy (b .first) (b .left) x i d
-        known = simp (ne-eqb d 0 f)
+    pub whole-one : (d ≡ 0 → ⊥) → d < 2 → {s : ℕ} → s ≡ b .left + i → Copy s ≡ gate
+    whole-one f h e = ap Copy e ∙ throughout-one (b .first + x) (b .left) i d f h ∙ gate-by C k b x a i d r
+
+    pub whole-gate : 2 ≤ d → {s : ℕ} → s ≡ b .left + (i + (d - 1)) → Both (b .first + x - 1) s ≡ gate
+    whole-gate h e = ap (Both (b .first + x - 1)) e ∙ throughout-longer (b .first + x) (b .left) i d h ∙ gate-by C k b x a i d r
 
   module _ {n : ℕ} (r : b .rule ≡ Duration n) where
     pub level-true : a ≡ 0 → Constant true ≡ gate

@@ -1,5 +1,6 @@
 // A gate of a duration's or `[S]`'s block, visited in its place: by the rule, the level and the length of the interval.
 use search_closing::Closed;
+use search_patterns::COPY;
 use search_patterns::HIGH;
 use search_patterns::LOW;
 use table_blocks::Block;
@@ -52,17 +53,14 @@ pub fn visit_level(
     let left = block.left;
     let v = first + x;
     if is_throughout(rule) {
-        if d == 0 {
-            return search_patterns::settle_by(values, trail, top, HIGH, v, v, v, v);
+        if d < 2 {
+            if d == 0 {
+                return search_patterns::settle_by(values, trail, top, LOW, v, v, v, v);
+            }
+            return search_patterns::settle_by(values, trail, top, COPY, v, left + i, v, v);
         }
-        return search_patterns::settle_both(
-            values,
-            trail,
-            top,
-            v,
-            first + (x - 1),
-            left + (i + (d - 1)),
-        );
+        let last = left + (i + (d - 1));
+        return search_patterns::settle_both(values, trail, top, v, v - 1, last);
     }
     if a == 0 {
         return search_patterns::settle_by(values, trail, top, HIGH, v, v, v, v);

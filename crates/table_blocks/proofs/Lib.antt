@@ -5,3 +5,4 @@ pub mod Rules
 pub mod Positions
 pub mod Heads
 pub mod Own
+pub mod Throughout

@@ -35,9 +35,12 @@ module _ (k b s : ℕ) where
   before : (i d : ℕ) → i + suc d ≤ k → placeOf k (record { i = i; j = i + suc d - 1 }) ≡ place (intervals k) (i, d)
   before i d h = let e : i + suc d - 1 ≡ i + d = omega arith in ap (λ (j : ℕ). placeOf k (record { i = i; j = j })) e ∙ interval-entry k (i, d) (omega arith) .1
 
-  throughout-same : (i d : ℕ) → i + d ≤ k → throughoutGate k b s (record { i = i; j = i + d }) ≡ throughoutBy b s (place (intervals k) (i, d)) i d
+  throughout-same : (i d : ℕ) → i + d ≤ k → throughoutGate k b s (record { i = i; j = i + d }) ≡ throughoutBy (b + place (intervals k) (i, d)) s i d
   throughout-same i zero h = rw (eq-eqb i (i + 0) (omega arith)) refl
-  throughout-same i (suc d) h = rw (throughoutBy, not-zero d, ne-eqb i (i + suc d) (λ o. omega arith)) (ap₂ Both (omega (arith, before i d h)) (omega arith))
+  throughout-same i (suc zero) h = rw (throughoutBy, ne-eqb i (i + 1) (λ o. omega arith), eq-eqb (i + 1) (i + 1) refl) refl
+  throughout-same i (suc (suc d)) h =
+      rw (throughoutBy, not-zero (suc d), ne-eqb (suc (suc d)) 1 (λ o. omega arith), ne-eqb i (i + suc (suc d)) (λ o. omega arith), ne-eqb (i + 1) (i + suc (suc d)) (λ o. omega arith))
+      (ap₂ Both (omega (arith, before i (suc d) h)) (omega arith))
 
   level-same : (c i d : ℕ) → i + d ≤ k → levelGate k b s c (record { i = i; j = i + d }) ≡ levelBy k b s (c * countOf k + place (intervals k) (i, d)) c i d
   level-same zero i d h = refl
@@ -100,7 +103,7 @@ module _ (C k b : ℕ) (S : Seats) where
   own-defined (duration x n) _ = rows-same (suc n) _ _ (λ c h. level-defined k b (S .left) c)
   own-defined (throughout x) n =
       on-intervals k b (S .left) _ _
-      (λ i d h p. ap₂ define (omega (arith, p)) (throughout-same k b (S .left) i d h ∙ ap (λ (p : ℕ). throughoutBy b (S .left) p i d) (omega arith)))
+      (λ i d h p. ap₂ define (omega (arith, p)) (throughout-same k b (S .left) i d h ∙ ap (λ (p : ℕ). throughoutBy (b + p) (S .left) i d) (omega arith)))
 
   pub chop-defined : (x y : Tree Formula) → ownBy C k b S (pair chop x y) ≡ definedBy C k (tripled k b (S .left) (S .right)) ++
       definedBy C k (blockOf k b (b + countOf k) (S .right) (pair chop x y))

@@ -98,10 +98,11 @@ nextOf points k r p =
     (cond (ltb (p .line + 1) (linesOf k (p .row) (formOf r))) (record { row = p .row; line = p .line + 1; cell = 0; before = p .before + (p .cell + 1) })
     (record { row = p .row + 1; line = 0; cell = 0; before = 0 }))
 
--- `[S]` and a duration in place x of their block from b on, S from s on: p stands in the place before, q one level below p
-abbrev pub throughoutBy : ℕ → ℕ → ℕ → ℕ → ℕ → Gate
-throughoutBy b s x i d = cond (eqb d 0) (Constant true) (Both (b + (x - 1)) (s + (i + (d - 1))))
+-- v is `[S]`, S from s on: p is the variable before
+abbrev pub throughoutBy : ℕ → ℕ → ℕ → ℕ → Gate
+throughoutBy v s i d = cond (eqb d 0) (Constant false) (cond (eqb d 1) (Copy (s + i)) (Both (v - 1) (s + (i + (d - 1)))))
 
+-- a duration in place x of its block from b on: p stands in the place before, q one level below p
 abbrev pub levelBy : ℕ → ℕ → ℕ → ℕ → ℕ → ℕ → ℕ → Gate
 levelBy k b s x a i d = cond (eqb a 0) (Constant true) (cond (eqb d 0) (Constant false) (Step (b + (x - 1)) (b + (x - 1 - countOf k)) (s + (i + (d - 1)))))
 
@@ -120,7 +121,7 @@ gateBy C k b l r x a i d And = Both (l + x) (r + x)
 gateBy C k b l r x a i d Or = Either (l + x) (r + x)
 gateBy C k b l r x a i d Chop = chopBy k l i d
 gateBy C k b l r x a i d (Duration n) = levelBy k b l x a i d
-gateBy C k b l r x a i d Throughout = throughoutBy b l x i d
+gateBy C k b l r x a i d Throughout = throughoutBy (b + x) l i d
 gateBy C k b l r x a i d Cut = tripleBy k l r a i d
 
 unfoldable pub gateOf : ℕ → ℕ → Block → ℕ → ℕ → ℕ → ℕ → Gate

@@ -184,20 +184,22 @@ fn level_gate(k: u32, all: u32, b: u32, s: u32, x: u32, a: u32, i: u32, d: u32) 
     if d == 0 {
         return Gate::Constant(false);
     }
-    let p = x - 1;
-    let q = p - all;
-    Gate::Step(b + p, b + q, s + (i + (d - 1)))
+    let p = b + (x - 1);
+    Gate::Step(p, p - all, s + (i + (d - 1)))
 }
 
-// `[S]` likewise.
-fn throughout_gate(b: u32, s: u32, x: u32, i: u32, d: u32) -> Gate
-    requires { ⌜ (b < bound) × (s < bound) × (x < 2 ^ 24) × (i + d ≤ maxSteps) × (d ≤ x) ⌝ }
-    ensures { λ r. ⌜ r ≡ throughoutBy b s x i d ⌝ }
+// `[S]` likewise, v being its variable.
+fn throughout_gate(v: u32, s: u32, i: u32, d: u32) -> Gate
+    requires { ⌜ (s < bound) × (i + d ≤ maxSteps) × (d ≤ v) ⌝ }
+    ensures { λ r. ⌜ r ≡ throughoutBy v s i d ⌝ }
 {
     if d == 0 {
-        return Gate::Constant(true);
+        return Gate::Constant(false);
     }
-    Gate::Both(b + (x - 1), s + (i + (d - 1)))
+    if d == 1 {
+        return Gate::Copy(s + i);
+    }
+    Gate::Both(v - 1, s + (i + (d - 1)))
 }
 
 // The triple that starts at a, of i steps, chopped after d.
@@ -234,7 +236,7 @@ pub fn gate_at(c: u32, k: u32, all: u32, block: Block, x: u32, p: Position) -> G
         Rule::Or => Gate::Either(left + x, right + x),
         Rule::Chop => Gate::AnyOf(left + p.before, p.cell + 1),
         Rule::Duration(_) => level_gate(k, all, first, left, x, p.row, p.line, p.cell),
-        Rule::Throughout => throughout_gate(first, left, x, p.line, p.cell),
+        Rule::Throughout => throughout_gate(first + x, left, p.line, p.cell),
         Rule::Cut => triple_gate(k, all, left, right, p.row, p.line, p.cell),
     }
 }

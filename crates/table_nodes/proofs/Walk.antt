@@ -16,7 +16,7 @@ use Rattle.interval.proofs.Counts.{triple-count-le}
 use Rattle.interval.proofs.Laws.{triples-numbered}
 use Rattle.paper_circuit.specs.Circuit.{Definition, define}
 use Rattle.paper_circuit.specs.declared.Gate.{Gate}
-use Rattle.paper_circuit.specs.declared.Gate.the-variants.{Constant}
+use Rattle.paper_circuit.specs.declared.Gate.the-variants.{Constant, Copy}
 use Rattle.table_blocks.specs.Blocks.{shapeOf, gateBy, gateOf, definedBy, Placed, Before, Bounded, bound, nextOf}
 use Rattle.table_blocks.specs.declared.Block.{Block}
 use Rattle.table_blocks.specs.declared.Position.{Position}
@@ -121,7 +121,7 @@ module _ (C k : ℕ) (block : Block) (s : Bounded C k block) where
           let t = triples-numbered k .below first (record { starts = omega arith; cut = omega arith; ends = h }) in
           (omega arith, omega (arith, h, t, triples-below, s .left, s .steps))
       go (Duration n) e = within-cond (eqb a 0) (Constant true) _ tt (within-cond (eqb d 0) (Constant false) _ tt tt)
-      go Throughout e = within-cond (eqb d 0) (Constant true) _ tt tt
+      go Throughout e = within-cond (eqb d 0) (Constant false) _ tt (within-cond (eqb d 1) (Copy (block .left + i)) _ tt tt)
       go Cut e = tt
 
 -- ---- the definition in place x

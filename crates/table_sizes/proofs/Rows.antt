@@ -35,7 +35,7 @@ use Rattle.table_blocks.proofs.Heads.{rule-head, chop-or-not}
 use Rattle.table_blocks.proofs.Own.{tripled, own-defined, chop-defined}
 use Rattle.table_sizes.specs.Weights.{weightAll, variableWeight, longerBy, weightBy, Light, Small, pointsBy, rowWeight, weightTo, maxSum, Summed}
 use Rattle.table_sizes.specs.declared.Weight.{Weight}
-use Rattle.table_sizes.proofs.Weights.{weight-append, block-weight, suc-le-count}
+use Rattle.table_sizes.proofs.Weights.{weight-append, block-weight, longer-ones}
 
 -- ---- a row
 
@@ -90,8 +90,8 @@ width-by k {s} (negation x) = mul-one (pointsOf s k)
 width-by k {s} (pair and x y) = mul-one (pointsOf s k)
 width-by k {s} (pair or x y) = mul-one (pointsOf s k)
 width-by k (pair chop x y) = omega arith
-width-by k (duration x n) = let e : longerBy k 1 ≡ countOf k = omega (arith, suc-le-count k) in omega (arith, ap (λ (m : ℕ). n * m) e, suc-mul n (countOf k))
-width-by k (throughout x) = omega (arith, suc-le-count k)
+width-by k (duration x n) = omega (arith, ap (λ (m : ℕ). n * m) (longer-ones k), suc-mul n (countOf k))
+width-by k (throughout x) = longer-ones k
 
 pub row-width : (k : ℕ) {s : Sort} (x : Tree s) → rowWeight variableWeight k (headOf x .kind) (headOf x .number) ≡ widthOf k x
 row-width k x = row-by variableWeight k x ∙ width-by k x

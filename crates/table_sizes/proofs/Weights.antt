@@ -1,14 +1,15 @@
 -- What the gates of a block weigh. A block's definitions stand in a shape, so their weight is a sum over the shape's entries; the gates
--- of a line or of triples weigh alike, a chop's each the number of its triples, and those of intervals alike but on the empty ones.
+-- of a line or of triples weigh alike, a chop's each the number of its triples, those of intervals alike but on empty ones and on one step.
 use mathlib.Core.Path.{_≡_, refl, sym, ap, _∙_}
 use mathlib.Core.List.{List, [], _∷_, _++_}
-use Prim.Native.Nat.{ℕ, suc, _+_, _-_, _*_, _≤_, _<_}
-use native.Mathlib.Nat.{zero-add, mul-one, mul-le-mul}
+use Prim.Native.Nat.{ℕ, zero, suc, _+_, _-_, _*_, _≤_, _<_}
+use native.Mathlib.Nat.{zero-add, zero-mul, suc-mul, mul-suc, mul-one, mul-le-mul}
 use native.Mathlib.Numerals.{add-one}
 use mir.Syntax.{w32}
 use mir.Val.{Fits}
 use native.Mathlib.Omega.{arith}
 use lib.Dec.{eqb·suc-zero}
+use borrow.Author.Tests.{ne-eqb}
 use lib.ListN.{length}
 use Rattle.lists.specs.Listing.{rows, sum}
 use Rattle.interval.specs.Places.{countOf, tripleCountOf}
@@ -49,22 +50,35 @@ in-line n c u h = all-alike (oneLine n) n c (omega arith) u h
 
 -- ---- sums over intervals, by start and length
 
--- from each i one is empty and k − i are not
-longer-count : (k : ℕ) → countOf k ≡ suc k + sum (λ i. k - i) (suc k)
+-- from each i one is empty; from each but k one is of one step, and k − 1 − i are longer
+pub longer-count : (k : ℕ) → countOf k ≡ suc k + k + sum (λ i. k - 1 - i) k
+unfolding sum
 longer-count k =
-    omega (arith, sum-linear (λ i. suc k - i) (λ i. 1) (λ i. k - i) 1 1 (suc k) (λ i l. omega arith), sum-ones (suc k), intervals-count k)
+    omega (arith, sum-linear (λ i. suc k - i) (λ i. 1) (λ i. k - 1 - i) 2 1 k (λ i l. omega arith), sum-ones k, intervals-count k)
 
--- 1 on the empty ones, alike on the others
-longer : (k c : ℕ) (u : Entry (intervals k) → ℕ) → ((i : ℕ) → u (i, 0) ≡ 1) → ((i d : ℕ) → u (i, suc d) ≡ c)
-    → total (intervals k) u ≡ longerBy k c
-longer k c u o h =
-    let e : sum (λ i. k - i) (suc k) ≡ countOf k - suc k = omega (arith, longer-count k) in
-    omega (arith, sum-linear _ (λ i. 1) (λ i. k - i) 1 c (suc k) from, sum-ones (suc k), ap (λ m. m * c) e)
+-- 1 on the empty ones, alike on those of one step and on the others
+after-two : (u : ℕ → ℕ) {c : ℕ} → ((i : ℕ) → u (suc (suc i)) ≡ c) → (n : ℕ) → sum u (suc (suc n)) ≡ u 0 + u 1 + n * c
+unfolding sum
+after-two u {c} h zero = omega (arith, zero-mul c)
+after-two u {c} h (suc n) = omega (arith, after-two u h n, h n, suc-mul n c)
+
+longer : (k c e : ℕ) (u : Entry (intervals k) → ℕ) → ((i : ℕ) → u (i, 0) ≡ 1) → ((i : ℕ) → u (i, 1) ≡ c) → ((i d : ℕ) → u (i, suc (suc d)) ≡ e)
+    → total (intervals k) u ≡ longerBy k c e
+unfolding sum
+longer k c e u o p h =
+    let m : sum (λ i. k - 1 - i) k ≡ countOf k - suc k - k = omega (arith, longer-count k) in
+    let n : suc k - k ≡ 1 = omega arith in
+    let last : sum (λ d. u (k, d)) (suc k - k) ≡ 1 = ap (sum (λ d. u (k, d))) n ∙ omega (arith, o k) in
+    omega (arith, last, sum-linear _ (λ i. 1) (λ i. k - 1 - i) (suc c) e k from, ap (λ n. n * suc c) (sum-ones k), mul-suc k c, ap (λ m. m * e) m)
   where
-    from : (i : ℕ) → i < suc k → sum (λ d. u (i, d)) (suc k - i) ≡ 1 * 1 + (k - i) * c
+    from : (i : ℕ) → i < k → sum (λ d. u (i, d)) (suc k - i) ≡ 1 * suc c + (k - 1 - i) * e
     from i l =
-        let f : suc k - i ≡ suc (k - i) = omega arith in
-        ap (sum (λ d. u (i, d))) f ∙ omega (arith, sum-after (λ d. u (i, d)) c (k - i) (h i), o i)
+        let f : suc k - i ≡ suc (suc (k - 1 - i)) = omega arith in
+        ap (sum (λ d. u (i, d))) f ∙ omega (arith, after-two (λ d. u (i, d)) (h i) (k - 1 - i), o i, p i)
+
+-- 1 on all: how many there are
+pub longer-ones : (k : ℕ) → longerBy k 1 1 ≡ countOf k
+longer-ones k = omega (arith, longer-count k)
 
 -- c for each way to chop, and 1
 chopped : (k c : ℕ) → total (intervals k) (λ x. suc (x .1) * c + 1) ≡ countOf k + tripleCountOf k * c
@@ -112,10 +126,11 @@ module _ (w : Weight) where
     rule-weight Or = in-line (block .points) (2 * w .each + 1) _ (λ x. refl)
     rule-weight Chop = zero-add _ ∙ chopped k (w .each)
     rule-weight (Duration n) =
-        sum-after (λ a. total (intervals k) (λ x. weightAt (Duration n) (a, x))) (longerBy k (w .step)) n
-        (λ a. longer k (w .step) (λ x. weightAt (Duration n) (suc a, x)) (λ i. simp eqb·suc-zero) (λ i d. simp eqb·suc-zero))
-        ∙ ap (λ m. m + n * longerBy k (w .step)) (all-alike (intervals k) (countOf k) 1 (intervals-count k) _ (λ x. refl) ∙ mul-one (countOf k))
-    rule-weight Throughout = zero-add _ ∙ longer k (2 * w .each + 1) (λ x. weightAt Throughout (0, x)) (λ i. refl) (λ i d. simp eqb·suc-zero)
+        sum-after (λ a. total (intervals k) (λ x. weightAt (Duration n) (a, x))) (longerBy k (w .step) (w .step)) n
+        (λ a. longer k (w .step) (w .step) (λ x. weightAt (Duration n) (suc a, x)) (λ i. simp eqb·suc-zero) (λ i. simp eqb·suc-zero) (λ i d. simp eqb·suc-zero))
+        ∙ ap (λ m. m + n * longerBy k (w .step) (w .step)) (all-alike (intervals k) (countOf k) 1 (intervals-count k) _ (λ x. refl) ∙ mul-one (countOf k))
+    rule-weight Throughout =
+        zero-add _ ∙ longer k (w .copy) (2 * w .each + 1) (λ x. weightAt Throughout (0, x)) (λ i. refl) (λ i. refl) (λ i d. simp (eqb·suc-zero, ne-eqb (suc (suc d)) 1 (λ e. omega arith)))
     rule-weight Cut = all-alike (triples k) (tripleCountOf k) (2 * w .each + 1) (triples-count k) _ (λ x. refl)
 
     -- the definitions of a block weigh what its rule says
@@ -156,16 +171,17 @@ suc-le-count k = omega (arith, longer-count k)
 pub points-le : (points c : ℕ) → points ≤ maxCount → c ≤ 11 → points * c ≤ maxCount * 11
 points-le points c h g = mul-le-mul {n₂ = maxCount} {m₂ = 11} h g
 
-module _ (k c : ℕ) (h : k ≤ maxSteps) (g : c ≤ 11) where
-  pub longer-le : longerBy k c ≤ maxCount * 12
-  longer-le = omega (arith, points-le (countOf k - suc k) c (omega (arith, few-intervals k h)) g, suc-le-count k, few-intervals k h)
+module _ (k : ℕ) (h : k ≤ maxSteps) where
+  pub longer-le : (c e : ℕ) → c ≤ 11 → e ≤ 11 → longerBy k c e ≤ maxCount * 12
+  longer-le c e f g =
+      omega (arith, mul-le-mul {n₁ = k} {n₂ = k} {m₂ = 11} (omega arith) f, mul-le-mul {n₁ = countOf k - suc k - k} {n₂ = countOf k - suc k - k} {m₂ = 11} (omega arith) g, longer-count k, few-intervals k h)
 
-  pub levels-le : (n : ℕ) → n ≤ 255 → countOf k + n * longerBy k c ≤ maxWeight
-  levels-le n l = omega (arith, few-intervals k h, mul-le-mul {n₁ = n} {n₂ = 255} {m₂ = maxCount * 12} l longer-le)
+  pub levels-le : (c n : ℕ) → c ≤ 11 → n ≤ 255 → countOf k + n * longerBy k c c ≤ maxWeight
+  levels-le c n g l = omega (arith, few-intervals k h, mul-le-mul {n₁ = n} {n₂ = 255} {m₂ = maxCount * 12} l (longer-le c c g g))
 
-  pub triples-le : countOf k + tripleCountOf k * c ≤ maxWeight
+  pub triples-le : (c : ℕ) → c ≤ 11 → countOf k + tripleCountOf k * c ≤ maxWeight
   unfolding tripleCountOf
-  triples-le = omega (arith, few-intervals k h, mul-le-mul {m₂ = 11} (triple-count-le maxSteps k h) g)
+  triples-le c g = omega (arith, few-intervals k h, mul-le-mul {m₂ = 11} (triple-count-le maxSteps k h) g)
 
 -- a duration's n is its rule's number
 pub level-le : {r : Rule} {n : ℕ} → numberOf r ≤ 255 → r ≡ Duration n → n ≤ 255
@@ -179,17 +195,19 @@ module _ {w : Weight} {k points : ℕ} {r : Rule} (l : Light w k points r) where
   weight-le Negation e = omega (arith, points-le points (w .copy) (l .points) (omega (arith, l .small .copy)))
   weight-le And e = omega (arith, points-le points (2 * w .each + 1) (l .points) (omega (arith, l .small .each)))
   weight-le Or e = omega (arith, points-le points (2 * w .each + 1) (l .points) (omega (arith, l .small .each)))
-  weight-le Chop e = triples-le k (w .each) (l .small .steps) (omega (arith, l .small .each))
-  weight-le (Duration n) e = levels-le k (w .step) (l .small .steps) (l .small .step) n (level-le (l .number) e)
-  weight-le Throughout e = omega (arith, longer-le k (2 * w .each + 1) (l .small .steps) (omega (arith, l .small .each)))
-  weight-le Cut e = omega (arith, triples-le k (2 * w .each + 1) (l .small .steps) (omega (arith, l .small .each)))
+  weight-le Chop e = triples-le k (l .small .steps) (w .each) (omega (arith, l .small .each))
+  weight-le (Duration n) e = levels-le k (l .small .steps) (w .step) n (l .small .step) (level-le (l .number) e)
+  weight-le Throughout e = omega (arith, longer-le k (l .small .steps) (w .copy) (2 * w .each + 1) (omega (arith, l .small .copy)) (omega (arith, l .small .each)))
+  weight-le Cut e = omega (arith, triples-le k (l .small .steps) (2 * w .each + 1) (omega (arith, l .small .each)))
 
   -- a block's weight, its rule being known
   pub weighed : (s : Rule) {v : ℕ} → r ≡ s → v ≡ weightBy w k points s → (v ≡ weightBy w k points r) × (v ≤ maxWeight)
   weighed s e f = (f ∙ ap (weightBy w k points) (sym e), omega (arith, f, weight-le s e))
 
-pub longer-code : (a k c : ℕ) → a ≡ countOf k → k + 1 + (a - (k + 1)) * c ≡ longerBy k c
-longer-code a k c e = rw (e, add-one)
+-- as the code adds it up
+pub longer-sum : (a k c e : ℕ) → k ≤ maxSteps → c ≤ 11 → e ≤ 11 → a ≡ countOf k →
+    (let s = k + 1 + k * c + (a - (k + 1) - k) * e in (s ≡ longerBy k c e) × (s ≤ maxCount * 12))
+longer-sum a k c e h f g q = rw (q, add-one) (refl, longer-le k h c e f g)
 
 pub product-fits : (a b : ℕ) → a ≤ 65535 → b ≤ 65535 → Fits w32 (a * b)
 product-fits a b h g = omega (arith, mul-le-mul {n₂ = 65535} {m₂ = 65535} h g)

@@ -42,9 +42,10 @@ clauseWeight = record { copy = 2; each = 1; step = 4 }
 abbrev pub literalWeight : Weight
 literalWeight = record { copy = 4; each = 3; step = 11 }
 
--- the weight of a block's gates, which is that of its definitions (the law `block-weight`): those on empty intervals weigh 1
-abbrev pub longerBy : ℕ → ℕ → ℕ
-longerBy k step = suc k + (countOf k - suc k) * step
+-- the weight of a block's gates, which is that of its definitions (the law `block-weight`): those on empty intervals weigh 1, those on
+-- one step `one`, and `more` on the others
+abbrev pub longerBy : ℕ → ℕ → ℕ → ℕ
+longerBy k one more = suc k + k * one + (countOf k - suc k - k) * more
 
 unfoldable pub weightBy : Weight → ℕ → ℕ → Rule → ℕ
 weightBy w k points (Fixed v) = points
@@ -53,8 +54,8 @@ weightBy w k points Negation = points * w .copy
 weightBy w k points And = points * (2 * w .each + 1)
 weightBy w k points Or = points * (2 * w .each + 1)
 weightBy w k points Chop = countOf k + tripleCountOf k * w .each
-weightBy w k points (Duration n) = countOf k + n * longerBy k (w .step)
-weightBy w k points Throughout = longerBy k (2 * w .each + 1)
+weightBy w k points (Duration n) = countOf k + n * longerBy k (w .step) (w .step)
+weightBy w k points Throughout = longerBy k (w .copy) (2 * w .each + 1)
 weightBy w k points Cut = tripleCountOf k * (2 * w .each + 1)
 
 -- no block weighs more (the law `weighed`), for a weight of copy up to 4, each up to 3 and step up to 11, levels up to 255, and

@@ -52,14 +52,13 @@ pub fn literals() -> Weight
     }
 }
 
-// The weight of the gates on all intervals, those on empty ones weighing 1.
-fn longer(k: u32, step: u32) -> u32
-    requires { ⌜ k ≤ maxSteps ⌝ }
-    requires { ⌜ step ≤ 11 ⌝ }
-    ensures { λ r. ⌜ (r ≡ longerBy k step) × (r ≤ maxCount * 12) ⌝ }
+// The weight of the gates on all intervals: 1 on empty ones, `one` on those of one step, `more` on the others.
+fn longer(k: u32, one: u32, more: u32) -> u32
+    requires { ⌜ (k ≤ maxSteps) × (one ≤ 11) × (more ≤ 11) ⌝ }
+    ensures { λ r. ⌜ (r ≡ longerBy k one more) × (r ≤ maxCount * 12) ⌝ }
 {
     let empty = k + 1;
-    empty + (Interval::count(k as usize) as u32 - empty) * step
+    empty + k * one + (Interval::count(k as usize) as u32 - empty - k) * more
 }
 
 // The weight of a block's gates.
@@ -76,8 +75,8 @@ pub fn weigh(w: Weight, k: u32, points: u32, rule: Rule) -> u32
         Rule::Or => points * both,
         Rule::Chop => Interval::count(k as usize) as u32
             + Triple::count(k as usize) as u32 * w.each,
-        Rule::Duration(n) => Interval::count(k as usize) as u32 + n * longer(k, w.step),
-        Rule::Throughout => longer(k, both),
+        Rule::Duration(n) => Interval::count(k as usize) as u32 + n * longer(k, w.step, w.step),
+        Rule::Throughout => longer(k, w.copy, both),
         Rule::Cut => Triple::count(k as usize) as u32 * both,
     }
 }

@@ -3,7 +3,7 @@
 use mathlib.Core.Path.{_≡_, refl, sym, ap, _∙_}
 use mathlib.Core.Bool.{Bool}
 use mathlib.Core.List.{List}
-use Prim.Native.Nat.{ℕ, _-_, _≤_}
+use Prim.Native.Nat.{ℕ, _-_, _≤_, max}
 use native.Mathlib.Omega.{arith}
 use lib.Dec.{leb}
 use lib.ListN.{getD, replicate, getD-replicate}
@@ -13,7 +13,7 @@ use Rattle.interval.specs.declared.Interval.{Interval}
 use Rattle.interval.proofs.Counts.{count-le}
 use Rattle.interval.proofs.Laws.{intervals-numbered}
 use Rattle.paper_meaning.specs.Meaning.{bit, bitAt, highs, lasts, fills}
-use Rattle.paper_meaning.proofs.Laws.{every-highs}
+use Rattle.paper_meaning.proofs.Laws.{throughout-lasts}
 use Rattle.paper_meaning.specs.Words.{WordOf}
 use Rattle.truth_word.proofs.Words.{word-highs}
 use Rattle.truth_table.specs.Table.{TableOf, leastOn, measured}
@@ -26,9 +26,7 @@ module _ (k w : ℕ) (f : ℕ → Bool) (W : WordOf k f w) (v : Interval) (o : I
   lasts-word n = ap (leb n) (word-highs (v .i) (v .j - v .i) W (omega arith))
 
   fills-word : fills (bitAt w) v ≡ fills f v
-  unfolding fills
-  fills-word =
-      every-highs (bitAt w) (v .i) (v .j - v .i) ∙ ap (leb (v .j - v .i)) (word-highs (v .i) (v .j - v .i) W (omega arith)) ∙ sym (every-highs f (v .i) (v .j - v .i))
+  fills-word = throughout-lasts (bitAt w) v ∙ lasts-word (max 1 (v .j - v .i)) ∙ sym (throughout-lasts f v)
 
   measured-same : (m : Measure) → measured m (bitAt w) v ≡ measured m f v
   measured-same (AtLeast n) = lasts-word n
@@ -46,6 +44,6 @@ constant-places k b v t h e r = record {
 
 -- judged by how many must be high
 pub measured-least : (m : Measure) (f : ℕ → Bool) (v : Interval) → leb (leastOn m v) (highs f (v .i) (v .j - v .i)) ≡ measured m f v
-unfolding fills lasts
+unfolding lasts
 measured-least (AtLeast n) f v = refl
-measured-least Throughout f v = sym (every-highs f (v .i) (v .j - v .i))
+measured-least Throughout f v = sym (throughout-lasts f v)

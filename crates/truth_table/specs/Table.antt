@@ -3,7 +3,7 @@
 use mathlib.Core.Path.{_≡_}
 use mathlib.Core.Bool.{Bool, cond}
 use mathlib.Core.List.{List}
-use Prim.Native.Nat.{ℕ, suc, _+_, _-_, _<_}
+use Prim.Native.Nat.{ℕ, suc, _+_, _-_, _<_, max}
 use lib.Bits.{bitAnd, bitOr}
 use lib.Dec.{eqb}
 use lib.ListN.{length, getD}
@@ -47,4 +47,4 @@ measured Throughout f v = fills f v
 -- at how many instants of an interval S must be true for that
 abbrev pub leastOn : Measure → Interval → ℕ
 leastOn (AtLeast n) v = n
-leastOn Throughout v = v .j - v .i
+leastOn Throughout v = max 1 (v .j - v .i)

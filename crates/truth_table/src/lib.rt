@@ -12,7 +12,8 @@ ghost use Rattle.paper_meaning.specs.Meaning.{bit, bitAt};
 ghost use Rattle.truth_word.specs.Word.{Lows, joined};
 ghost use Rattle.truth_table.specs.Table.{TableOf, RowOf, joinedByte, leastOn, measured};
 
-// What is asked of a state assertion S on an interval: `#S>=n`, that it is true at n of its instants or more; `[S]`, at every one.
+// What is asked of a state assertion S on an interval: `#S>=n`, that it is true at n of its instants or more; `[S]`, at every one,
+// of at least one.
 pub enum Measure {
     AtLeast(u8),
     Throughout,
@@ -45,7 +46,12 @@ fn least_on(measure: Measure, i: usize, j: usize) -> u32
 {
     match measure {
         Measure::AtLeast(n) => n as u32,
-        Measure::Throughout => (j - i) as u32,
+        Measure::Throughout => {
+            if i == j {
+                return 1;
+            }
+            (j - i) as u32
+        }
     }
 }
 

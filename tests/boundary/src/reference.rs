@@ -1,6 +1,6 @@
-//! What of document 01 the calls share, written down a second time from the paper alone: plain, slow and unlike an engine.
-//! Trees are boxed, meaning is direct recursion over [i, j] and instants, and the place of question 4
-//! is found by its own definition. What it shares with the engine is the paper.
+//! What of document 01 the calls share, with the `[S]` of request C-12, written down a second time from these words alone:
+//! plain, slow and unlike an engine. Trees are boxed, meaning is direct recursion over [i, j] and instants, and the place of
+//! question 4 is found by its own definition. What it shares with the engine is the paper.
 
 /// A call's answer as C sees it: the code, and the value that belongs to it.
 pub type Answer = (u32, u32);
@@ -275,7 +275,7 @@ impl<'a> Meaning<'a> {
             Kind::Either(p, q) => self.holds(p, i, j) || self.holds(q, i, j),
             Kind::Chop(p, q) => (i..=j).any(|m| self.holds(p, i, m) && self.holds(q, m, j)),
             Kind::AtLeast(s, n) => (i..j).filter(|t| true_at(s, recording[*t])).count() as u64 >= *n,
-            Kind::Throughout(s) => (i..j).all(|t| true_at(s, recording[t])),
+            Kind::Throughout(s) => i < j && (i..j).all(|t| true_at(s, recording[t])),
         }
     }
 }

@@ -85,6 +85,7 @@ gate-at-spec =
     (λ c. search needs)
     level-gate-requires
     (λ c. search needs)
+    (λ c. search needs)
     throughout-gate-requires
     (λ c. search needs)
     triple-gate-requires

@@ -55,14 +55,20 @@ impl Steps {
         (self.0 + 1) * (self.0 + 2) * (self.0 + 3) / 6
     }
 
-    /// Every interval: the empty ones by one clause, the others by a step from the one that is shorter.
-    fn stepwise(self, step: Counts) -> Counts {
-        let empty = self.0 + 1;
-        empty * ALONE + (self.intervals() - empty) * step
+    fn duration(self, n: u64) -> Counts {
+        self.intervals() * ALONE + n * self.level()
     }
 
-    fn duration(self, n: u64) -> Counts {
-        self.intervals() * ALONE + n * self.stepwise(LEVEL)
+    /// The empty intervals by one clause, the others by a step from the one that is shorter.
+    fn level(self) -> Counts {
+        let empty = self.0 + 1;
+        empty * ALONE + (self.intervals() - empty) * LEVEL
+    }
+
+    /// The empty intervals by one clause, those of one instant by a copy, the others by a step from the one that is shorter.
+    fn throughout(self) -> Counts {
+        let (empty, short) = (self.0 + 1, self.0);
+        empty * ALONE + short * COPY + (self.intervals() - empty - short) * TWO
     }
 
     fn chop(self) -> Counts {
@@ -85,7 +91,7 @@ impl Steps {
             Kind::Both(q, r) | Kind::Either(q, r) => self.intervals() * TWO + self.formula(q) + self.formula(r),
             Kind::Chop(q, r) => self.chop() + self.formula(q) + self.formula(r),
             Kind::AtLeast(s, n) => self.duration(*n) + self.state(s),
-            Kind::Throughout(s) => self.stepwise(TWO) + self.state(s),
+            Kind::Throughout(s) => self.throughout() + self.state(s),
         }
     }
 }
@@ -158,7 +164,7 @@ fn largest_by_nodes(which: usize, nodes: usize, steps: Steps, most_n: u64) -> (V
             ways.extend(pairs(&formulas, size, own(intervals * TWO), '&'));
             ways.extend(pairs(&formulas, size, own(steps.chop()), ';'));
             let (part, text) = &states[size - 1];
-            ways.push((own(steps.stepwise(TWO)) + part, format!("[{text}]")));
+            ways.push((own(steps.throughout()) + part, format!("[{text}]")));
             ways.extend((0..=most_n).map(|n| (own(steps.duration(n)) + part, format!("#{text}>={n}"))));
         }
         formulas.push(ways.into_iter().max_by_key(rank).expect("a way"));

@@ -227,11 +227,16 @@ impl Writer {
         }
     }
 
+    /// With the clauses that request C-12 has for empty intervals and for one step.
     fn throughout(&mut self, first: i32, state: i32) {
         for (i, j) in self.intervals.clone() {
             let v = first + self.place(i, j);
             if i == j {
-                self.clause(&[v]);
+                self.clause(&[-v]);
+            } else if j == i + 1 {
+                let s = state + i;
+                self.clause(&[-v, s]);
+                self.clause(&[v, -s]);
             } else {
                 let (p, s) = (first + self.place(i, j - 1), state + j - 1);
                 self.clause(&[-v, p]);
