@@ -1,7 +1,7 @@
 -- `[S]` as a lesson puts it: S never fails and there is an instant, so no `#!S>=1`; and what `[S]` says of an interval it says of both parts that
 -- it is chopped into, if each has an instant.
 use mathlib.Core.Path.{_≡_, refl, sym, ap, ap₂, _∙_}
-use mathlib.Core.Bool.{Bool, true, false, not, _&&_, and-true, and-false, false≢true}
+use mathlib.Core.Bool.{Bool, true, false, not, _&&_, and-true, and-false}
 use mathlib.Core.List.{List}
 use Prim.Native.Nat.{ℕ, zero, suc, _+_, _-_, _≤_, _<_}
 use native.Mathlib.Nat.{add-zero}

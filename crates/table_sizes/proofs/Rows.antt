@@ -33,7 +33,7 @@ use Rattle.table_blocks.specs.declared.Rule.the-variants.{Chop, Cut}
 use Rattle.table_blocks.proofs.Positions.{rule-number}
 use Rattle.table_blocks.proofs.Heads.{rule-head, chop-or-not}
 use Rattle.table_blocks.proofs.Own.{tripled, own-defined, chop-defined}
-use Rattle.table_sizes.specs.Weights.{weightAll, variableWeight, longerBy, weightBy, Light, Small, pointsBy, rowWeight, weightTo, maxSum, Summed}
+use Rattle.table_sizes.specs.Weights.{weightAll, variableWeight, weightBy, Light, Small, pointsBy, rowWeight, weightTo, maxSum, Summed}
 use Rattle.table_sizes.specs.declared.Weight.{Weight}
 use Rattle.table_sizes.proofs.Weights.{weight-append, block-weight, longer-ones}
 
