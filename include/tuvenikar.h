@@ -92,8 +92,8 @@ enum tuv_answer {
  * Lent:    the text; the recording, k bytes: byte t is instant t, its lowest bit channel a, the next b, and so on; 1 is high.
  * Written: nothing.
  * Answers: TUV_NO, TUV_YES, a refusal 1 to 7 or 9 to 11.
- * Stack:   117,000 bytes for any input: 1,792 for each formula within a formula (measured: 115,984 for 63 `!` and `T`; 58,640
- *          for 31 chops one within the other; 5,304 for `T`).
+ * Stack:   119,000 bytes for any input: 1,824 for each formula within a formula (measured: 118,192 for 63 `!` and `T`; 59,824
+ *          for 31 chops one within the other; 5,432 for `T`).
  */
 uint64_t tuv_evaluate(const uint8_t *text, size_t text_length, uint32_t c, uint32_t k, uint32_t i, uint32_t j,
                       const uint8_t *recording, size_t recording_length);
@@ -145,7 +145,7 @@ enum tuv_most {
  *          variable, in marks its mark. For `#a>=1`, c 1, k 1: sizes 1, 1, 8, 12, 21, and 21 places of the other two, which
  *          begin with 2, 3, 4, 5, 6, 5, 2 and 3, 3, 3, 2, 0, 1, 3: four clauses of one literal and one of three.
  * Answers: TUV_WRITTEN, a refusal 1 to 7 or 18.
- * Stack:   47,000 bytes for any input: 176 for each level of brackets and signs (measured: 46,960 for 255 `(`; 13,168 for the
+ * Stack:   48,000 bytes for any input: 176 for each level of brackets and signs (measured: 47,120 for 255 `(`; 13,328 for the
  *          deepest text that is accepted).
  */
 uint64_t tuv_table(const uint8_t *text, size_t text_length, uint32_t c, uint32_t k, uint32_t *sizes, size_t sizes_length,
@@ -158,7 +158,7 @@ uint64_t tuv_table(const uint8_t *text, size_t text_length, uint32_t c, uint32_t
  * Written: on TUV_WRITTEN the v bytes of the assignment, also where the formula does not hold: byte x is variable x + 1, 0 or 1.
  *          For `#a>=1`, c 1, k 1: 0, 1, 1, 1, 0, 0, 0, 0 for recording 0 and 1, 1, 1, 1, 0, 1, 0, 1 for recording 1.
  * Answers: TUV_WRITTEN, a refusal 1 to 7, 10, 11 or 18.
- * Stack:   51,000 bytes for any input: 176 for each level of brackets and signs (measured: 50,016 for 255 `(`; 16,224 for the
+ * Stack:   51,000 bytes for any input: 176 for each level of brackets and signs (measured: 50,112 for 255 `(`; 16,320 for the
  *          deepest text that is accepted).
  */
 uint64_t tuv_extend(const uint8_t *text, size_t text_length, uint32_t c, uint32_t k, const uint8_t *recording,
@@ -170,7 +170,7 @@ uint64_t tuv_extend(const uint8_t *text, size_t text_length, uint32_t c, uint32_
  * Written: on TUV_ACCEPTED the k bytes of the recording that the channels' variables are; the formula holds on the whole of it.
  * Answers: TUV_ACCEPTED, a refusal 1 to 7, 12 to 14 or 18. What tuv_extend wrote is accepted where the formula holds, but for
  *          want of room (18); where it does not, it is refused for the last clause (TUV_CLAUSE at m - 1).
- * Stack:   48,000 bytes for any input: 176 for each level of brackets and signs (measured: 47,616 for 255 `(`; 13,824 for the
+ * Stack:   48,000 bytes for any input: 176 for each level of brackets and signs (measured: 47,776 for 255 `(`; 13,984 for the
  *          deepest text that is accepted).
  */
 uint64_t tuv_check(const uint8_t *text, size_t text_length, uint32_t c, uint32_t k, const uint8_t *assignment,
@@ -193,8 +193,8 @@ uint64_t tuv_check(const uint8_t *text, size_t text_length, uint32_t c, uint32_t
  *          For `(#a>=1|#b>=1)`, c 2, k 1: TUV_FOUND after 1 try, a low, and recording 2; with limit 0 TUV_SPENT.
  * Answers: TUV_FOUND, TUV_NONE, TUV_SPENT, a refusal 1 to 7 or 18. TUV_NONE is certain, whatever the limit was; with a higher
  *          limit the same tries are made, and more only after TUV_SPENT.
- * Stack:   51,376 bytes at most (measured: 255 `(`, a text that is refused); 17,584 on the deepest text that is accepted, 63 `!`
- *          and `T`; 7,200 for 256 tries one below another, which need no more than one.
+ * Stack:   51,504 bytes at most (measured: 255 `(`, a text that is refused); 17,712 on the deepest text that is accepted, 63 `!`
+ *          and `T`; 7,328 for 256 tries one below another, which need no more than one.
  */
 uint64_t tuv_search(const uint8_t *text, size_t text_length, uint32_t c, uint32_t k, uint32_t limit, uint32_t *variables,
                     size_t variables_length, uint8_t *marks, size_t marks_length, uint8_t *values, size_t values_length,

@@ -1,4 +1,5 @@
 // A proposed assignment, from anyone: whether it meets every clause, and the recording read from its channel variables.
+use interval::Interval;
 use node_rows::NodeTable;
 use paper_assignments::Checked;
 use paper_grammar::MAX_NODES;
@@ -10,6 +11,7 @@ ghost use lib.ListN.{length, getD};
 ghost use Rattle.moments.specs.Moments.{old, new};
 ghost use Rattle.refusal.specs.Asked.{asked};
 ghost use Rattle.interval.specs.Limits.{maxSteps};
+ghost use Rattle.interval.specs.Rows.{RowsOf};
 ghost use Rattle.paper_grammar.specs.Limits.{maxNodes, maxChannels};
 ghost use Rattle.paper_grammar.specs.Trees.{Tree};
 ghost use Rattle.paper_grammar.specs.declared.Sort.the-variants.{Formula};
@@ -29,9 +31,10 @@ fn ask_nodes(
     firsts: &[u32; MAX_NODES],
     numbered: &[u32; MAX_NODES],
     c: u32,
+    rows: &[u32],
     k: u32,
 ) -> Reply
-    requires { ⌜ (c ≤ maxChannels) × (k ≤ maxSteps) × (table .count ≤ maxNodes) × Low (now firsts) × Low (now numbered) ⌝ }
+    requires { ⌜ (c ≤ maxChannels) × (k ≤ maxSteps) × (table .count ≤ maxNodes) × Low (now firsts) × Low (now numbered) × RowsOf k (now rows) ⌝ }
     requires { ⌜ ((x : ℕ) → x < table .count → getD (now numbered) x 0 ≡ 0 + weightTo clauseWeight k (table .kinds) (table .numbers) x) ⌝ }
     requires { ⌜ AllMentioned (length (now assignment)) (definedIn c k table (now firsts)) ⌝ }
     ensures { λ r. ⌜ r ≡ askClauses (valueIn (old assignment)) 0 (clausesBy (definedIn c k table (old firsts))) ⌝ }
@@ -45,7 +48,7 @@ fn ask_nodes(
             k,
             x,
         );
-        if let Reply::No(r) = check_clauses::ask_node(assignment, c, k, block, numbered[x]) {
+        if let Reply::No(r) = check_clauses::ask_node(assignment, c, rows, k, block, numbered[x]) {
             return Reply::No(r);
         }
     }
@@ -75,7 +78,9 @@ fn ask_table(
         0,
         &mut numbered,
     );
-    if let Reply::No(r) = ask_nodes(assignment, table, firsts, &numbered, c, k) {
+    let mut rows = [0; Interval::MAX_ROWS];
+    Interval::put_rows(&mut rows, k);
+    if let Reply::No(r) = ask_nodes(assignment, table, firsts, &numbered, c, &rows, k) {
         return Reply::No(r);
     }
     let root = table_layout::seat(&table.kinds, &table.numbers, firsts, k, 0) + k;

@@ -11,6 +11,7 @@ ghost use Rattle.moments.specs.Moments.{old, new};
 ghost use Rattle.lists.specs.Listing.{rows, tab};
 ghost use Rattle.interval.specs.Limits.{maxSteps};
 ghost use Rattle.interval.specs.Places.{countOf, tripleCountOf};
+ghost use Rattle.interval.specs.Rows.{RowsOf};
 ghost use Rattle.paper_grammar.specs.Limits.{maxChannels};
 ghost use Rattle.paper_grammar.specs.declared.Sort.the-variants.{Formula};
 ghost use Rattle.paper_meaning.specs.Meaning.{bit, bitAt, lasts};
@@ -61,25 +62,32 @@ fn put_levels(out: &mut [u8], n: u32, word: u32, k: usize)
 }
 
 // A chop: its intervals, then its triples.
-fn put_chop(out: &mut [u8], p: &[u8; Interval::MAX_COUNT], q: &[u8; Interval::MAX_COUNT], k: usize)
-    requires { ⌜ (k ≤ maxSteps) × (length (now out) ≡ countOf k + tripleCountOf k) × Binary (now p) × Binary (now q) ⌝ }
+fn put_chop(
+    out: &mut [u8],
+    p: &[u8; Interval::MAX_COUNT],
+    q: &[u8; Interval::MAX_COUNT],
+    rows: &[u32],
+    k: usize,
+)
+    requires { ⌜ (k ≤ maxSteps) × (length (now out) ≡ countOf k + tripleCountOf k) × Binary (now p) × Binary (now q) × RowsOf k (now rows) ⌝ }
     ensures { λ _. ⌜ new out ≡ chopValues k (highAt (old p)) (highAt (old q)) ⌝ }
 {
-    let count = Interval::count(k);
-    extend_truths::put_table(&mut out[..count], &truth_chop::chop_table(p, q, k));
-    extend_triples::put_triples(&mut out[count..], p, q, k);
+    let count = Interval::all(rows, k as u32) as usize;
+    extend_truths::put_table(&mut out[..count], &truth_chop::chop_table(p, q, rows, k));
+    extend_triples::put_triples(&mut out[count..], p, q, rows, k);
 }
 
 // The values of a node's own block, which is lent whole, from the truths of its parts.
 pub fn put_values(
     out: &mut [u8],
     rule: Rule,
+    rows: &[u32],
     k: usize,
     recording: &[u8],
     p: &[u8; Interval::MAX_COUNT],
     q: &[u8; Interval::MAX_COUNT],
 )
-    requires { ⌜ (k ≤ maxSteps) × Fits k (length (now out)) rule × Binary (now p) × Binary (now q) ⌝ }
+    requires { ⌜ (k ≤ maxSteps) × Fits k (length (now out)) rule × Binary (now p) × Binary (now q) × RowsOf k (now rows) ⌝ }
     ensures { λ _. ⌜ new out ≡ valuesBy k (old recording) (length (old out)) (highAt (old p)) (highAt (old q)) rule ⌝ }
 {
     match rule {
@@ -91,7 +99,7 @@ pub fn put_values(
         Rule::Negation => extend_truths::put_inverse(out, p),
         Rule::And => extend_truths::put_joined(out, true, p, q),
         Rule::Or => extend_truths::put_joined(out, false, p, q),
-        Rule::Chop => put_chop(out, p, q, k),
+        Rule::Chop => put_chop(out, p, q, rows, k),
         Rule::Duration(n) => put_levels(out, n, truth_word::word_of(p, 0, k), k),
         Rule::Throughout => {
             extend_truths::put_table(

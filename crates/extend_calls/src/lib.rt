@@ -1,5 +1,6 @@
 // The assignment that extends a recording: the channels, then a block for each node, the last node's first, since a node goes by its
 // parts and these stand after it.
+use interval::Interval;
 use node_rows::NodeTable;
 use paper_grammar::MAX_NODES;
 use refusal::Reply;
@@ -9,6 +10,7 @@ ghost use Prim.Native.Nat.{ℕ, _≤_};
 ghost use lib.ListN.{length};
 ghost use Rattle.moments.specs.Moments.{old, new};
 ghost use Rattle.interval.specs.Limits.{maxSteps};
+ghost use Rattle.interval.specs.Rows.{RowsOf};
 ghost use Rattle.paper_grammar.specs.Limits.{maxNodes, maxChannels};
 ghost use Rattle.table_layout.specs.Rows.{Low};
 ghost use Rattle.paper_assignments.specs.Calls.{extended};
@@ -19,11 +21,12 @@ fn put_nodes(
     assignment: &mut [u8],
     table: NodeTable,
     firsts: &[u32; MAX_NODES],
+    rows: &[u32],
     k: u32,
     last: usize,
     recording: &[u8],
 )
-    requires { ⌜ (k ≤ maxSteps) × (table .count ≤ maxNodes) × (last ≤ length (now assignment)) × Low (now firsts) ⌝ }
+    requires { ⌜ (k ≤ maxSteps) × (table .count ≤ maxNodes) × (last ≤ length (now assignment)) × Low (now firsts) × RowsOf k (now rows) ⌝ }
     requires { ⌜ ((C : ℕ) × Seated C k table (now firsts) last) ⌝ }
     ensures { λ _. ⌜ NodesPut k (old recording) table (old firsts) last (old assignment) (new assignment) ⌝ }
 {
@@ -39,7 +42,7 @@ fn put_nodes(
             k,
             x,
         );
-        extend_nodes::put_node(assignment, block, end, k as usize, recording);
+        extend_nodes::put_node(assignment, block, end, rows, k as usize, recording);
         end = block.first as usize - 1;
     }
 }
@@ -62,10 +65,13 @@ fn write_extension(
     }
     let channels = (k * c) as usize;
     extend_blocks::put_channels(&mut assignment[..channels], c as usize, recording);
+    let mut rows = [0; Interval::MAX_ROWS];
+    Interval::put_rows(&mut rows, k);
     put_nodes(
         assignment,
         table,
         &layout.firsts,
+        &rows,
         k,
         s.variables as usize,
         recording,

@@ -9,11 +9,12 @@ use lib.Bits.{bitAnd}
 use lib.ListN.{getD}
 use Rattle.interval.specs.Limits.{maxSteps, maxCount}
 use Rattle.interval.specs.Places.{countOf, placeOf}
+use Rattle.interval.specs.Rows.{startOf}
 use Rattle.interval.proofs.Counts.{count-le}
 use Rattle.interval.proofs.Laws.{intervals-numbered}
+use Rattle.interval.proofs.Rows.{place-in-row, row-next}
 use Rattle.paper_meaning.specs.Meaning.{bit}
-use Rattle.truth_table.specs.Table.{highAt, Binary, startOf}
-use Rattle.truth_table.proofs.Rows.{row-next, place-in-row}
+use Rattle.truth_table.specs.Table.{highAt, Binary}
 use Rattle.truth_table.proofs.Joined.{joined-bits}
 use Rattle.paper_assignments.specs.Extension.{cuts}
 use Rattle.extend_triples.specs.Cuts.{onPlaces}
@@ -43,9 +44,9 @@ module _ {k i d e at : ℕ} (s : i + d ≤ k) (w : Cutting k i d e at) where
   pub last-cut : {to : ℕ} → d ≤ e → Cutting k i d (e + 1) to
   last-cut h = record { right = λ l. absurd (omega arith) }
 
-  module _ {first : ℕ} (f : first ≡ placeOf k (record { i = i; j = i })) (h : e ≤ d) where
+  module _ {first : ℕ} (f : first ≡ placeOf k (record { i = i; j = i + 0 })) (h : e ≤ d) where
     left : first + e ≡ placeOf k (record { i = i; j = i + e })
-    left = omega (arith, place-in-row k (record { i = i; j = i }) (omega arith), place-in-row k (record { i = i; j = i + e }) (omega arith))
+    left = omega (arith, place-in-row k (record { i = i; j = i + 0 }) (omega arith), place-in-row k (record { i = i; j = i + e }) (omega arith))
 
     pub cut-small : k ≤ maxSteps → (first + e < maxCount) × (at < maxCount)
     unfolding countOf

@@ -6,16 +6,15 @@ use native.Mathlib.Nat.{suc-mul, mul-suc, zero-mul, mul-comm, mul-assoc, mul-le-
 use native.Mathlib.Omega.{arith}
 use Rattle.lists.specs.Listing.{sum}
 use Rattle.interval.specs.Places.{countOf, placeOf, tripleCountOf}
-use Rattle.interval.specs.Limits.{maxSteps, maxCount, IntervalOf, TripleOf}
+use Rattle.interval.specs.Limits.{maxSteps, maxCount, IntervalOf}
 use Rattle.interval.specs.declared.Interval.{Interval}
-use Rattle.interval.specs.declared.Triple.{Triple}
 use Rattle.interval.proofs.Shape.{count, place, intervals, triples}
 
 -- w 1 + .. + w n
 abbrev upTo : (ℕ → ℕ) → ℕ → ℕ
 upTo w n = sum (λ x. w (suc x)) n
 
-rows-before : (w : ℕ → ℕ) (n i : ℕ) → i ≤ n → sum (λ a. w (n - a)) i + upTo w (n - i) ≡ upTo w n
+pub rows-before : (w : ℕ → ℕ) (n i : ℕ) → i ≤ n → sum (λ a. w (n - a)) i + upTo w (n - i) ≡ upTo w n
 unfolding sum
 rows-before w n zero h = omega (arith, ap (upTo w) (sub-zero n))
 rows-before w n (suc i) h =
@@ -87,29 +86,6 @@ pub interval-place : (k : ℕ) (v : Interval) → IntervalOf k v → placeOf k v
 unfolding placeOf
 interval-place k v o =
     omega (arith, rows-and-lack (suc k) (v .i) (omega arith), triangle (v .i), less-one (v .i), mul-suc (v .i) (suc k), mul-suc (v .i) (v .i))
-
--- ---- what the code computes: those that start before i are all but those of k − i steps
-
-module _ (w : ℕ → ℕ) (f : ℕ → ℕ) (e : (k : ℕ) → upTo w (suc k) ≡ f k) where
-  all-but : (k i : ℕ) → i ≤ k → sum (λ a. w (suc k - a)) i + f (k - i) ≡ f k
-  all-but k i h =
-      let n : suc k - i ≡ suc (k - i) = omega arith in
-      omega (arith, rows-before w (suc k) i (omega arith), ap (upTo w) n, e (k - i), e k)
-
-pub interval-place-code : (k : ℕ) (v : Interval) (a b : ℕ) → IntervalOf k v → a ≡ countOf k → b ≡ countOf (k - v .i)
-    → (b ≤ a) × (a - b + (v .j - v .i) ≡ placeOf k v)
-interval-place-code k v a b o p q = omega (arith, all-but (λ x. x) countOf triangle-count k (v .i) (omega arith), interval-place k v o)
-
--- the shorter intervals from i on have 1, 2, .., d triples
-pub half : (d : ℕ) → d * (d + 1) / 2 ≡ sum suc d
-half d = omega (arith, triangle d)
-
-pub triple-place-code : (k : ℕ) (t : Triple) (a b : ℕ) → TripleOf k t → a ≡ tripleCountOf k → b ≡ tripleCountOf (k - t .i)
-    → (b ≤ a) × (a - b + (t .j - t .i) * (t .j - t .i + 1) / 2 + (t .m - t .i) ≡ place (triples k) (t .i, (t .j - t .i, t .m - t .i)))
-triple-place-code k t a b o p q = omega (arith, all-but (sum suc) tripleCountOf pyramid-count k (t .i) (omega arith), half (t .j - t .i))
-
-pub half-le : (n k : ℕ) (t : Triple) → k ≤ n → TripleOf k t → (t .j - t .i) * (t .j - t .i + 1) ≤ n * (n + 1)
-half-le n k t h o = mul-le-mul (omega arith) (omega arith)
 
 -- no more intervals than a table holds
 pub few-intervals : (k : ℕ) → k ≤ maxSteps → countOf k ≤ maxCount

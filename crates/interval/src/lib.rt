@@ -3,8 +3,11 @@ use refusal::Refusal;
 use refusal::Reply;
 ghost use mathlib.Core.Path.{_≡_};
 ghost use Prim.Native.Nat.{_+_, _≤_, _<_};
+ghost use lib.ListN.{length};
+ghost use Rattle.moments.specs.Moments.{new};
 ghost use Rattle.interval.specs.Places.{countOf, placeOf, tripleCountOf, triplePlaceOf};
-ghost use Rattle.interval.specs.Limits.{maxSteps, askSteps, askInterval, madeOf, IntervalOf, TripleOf};
+ghost use Rattle.interval.specs.Limits.{maxSteps, maxCount, askSteps, askInterval, madeOf};
+ghost use Rattle.interval.specs.Rows.{RowsOf, StartsOf};
 
 // [i, j]: it holds the instants i to j - 1.
 pub struct Interval {
@@ -24,6 +27,9 @@ impl Interval {
 
     // The ends that an interval can have: 0 to the most steps.
     pub const MAX_ENDS: usize = Self::MAX_STEPS + 1;
+
+    // Where the rows of intervals can begin, and where the last one ends.
+    pub const MAX_ROWS: usize = Self::MAX_ENDS + 1;
 
     // The intervals of so many steps: 561.
     pub const MAX_COUNT: usize = (Self::MAX_STEPS + 1) * (Self::MAX_STEPS + 2) / 2;
@@ -63,24 +69,34 @@ impl Interval {
         (k + 1) * (k + 2) / 2
     }
 
-    // Its place among the intervals of k steps.
-    pub fn place(self, k: usize) -> usize
-        requires { ⌜ k ≤ maxSteps ⌝ }
-        requires { ⌜ IntervalOf k self ⌝ }
-        ensures { λ r. do ⌜ (r ≡ placeOf k self) × (r < (← ⟦Interval::MAX_COUNT⟧ .entry)) ⌝ }
+    // Where the row of each start begins, which has k + 1, k, .. intervals; after the last stands where it ends: I. Written in place, since
+    // an array handed back is copied.
+    pub fn put_rows(rows: &mut [u32], k: u32)
+        requires { ⌜ (k ≤ maxSteps) × (k + 2 ≤ length (now rows)) ⌝ }
+        ensures { λ _. ⌜ RowsOf k (new rows) ⌝ }
     {
-        let i = self.i as u32;
-        let steps = self.j as u32 - i;
-        Self::place_from(i, steps, k as u32, Self::count(k) as u32) as usize
+        rows[0] = 0;
+        let mut start = 0;
+        for i in 0..k + 1 {
+            start += k + 1 - i;
+            rows[i as usize + 1] = start;
+        }
     }
 
-    // The same of the interval of so many steps from i on, for those who ask often: k steps have I intervals in all, and those that start
-    // before i are all but those of k - i steps.
-    pub fn place_from(i: u32, steps: u32, k: u32, all: u32) -> u32
-        requires { ⌜ (i + steps ≤ k) × (k ≤ maxSteps) × (all ≡ countOf k) ⌝ }
-        ensures { λ r. do ⌜ (r ≡ placeOf k (record { i = i; j = i + steps })) × (r < (← ⟦Interval::MAX_COUNT⟧ .entry)) ⌝ }
+    // I, from the rows of k steps.
+    pub fn all(rows: &[u32], k: u32) -> u32
+        requires { ⌜ (k ≤ maxSteps) × RowsOf k (now rows) ⌝ }
+        ensures { λ r. ⌜ (r ≡ countOf k) × (r ≤ maxCount) ⌝ }
     {
-        all - Self::count((k - i) as usize) as u32 + steps
+        rows[k as usize + 1]
+    }
+
+    // The place of the interval of so many steps from i on, among those of k steps: after the rows before its own and the shorter ones.
+    pub fn place(rows: &[u32], k: u32, i: u32, steps: u32) -> u32
+        requires { ⌜ (i + steps ≤ k) × (k ≤ maxSteps) × RowsOf k (now rows) ⌝ }
+        ensures { λ r. ⌜ (r ≡ placeOf k (record { i = i; j = i + steps })) × (r < maxCount) ⌝ }
+    {
+        rows[i as usize] + steps
     }
 }
 
@@ -106,15 +122,28 @@ impl Triple {
         (k + 1) * (k + 2) * (k + 3) / 6
     }
 
-    // Its place among the triples of k steps: those that start before i are all but those of k - i steps, and the shorter
-    // intervals from i on have 1, 2, .., length triples.
-    pub fn place(self, k: usize) -> usize
-        requires { ⌜ k ≤ maxSteps ⌝ }
-        requires { ⌜ TripleOf k self ⌝ }
-        ensures { λ r. do ⌜ (r ≡ triplePlaceOf k self) × (r < (← ⟦Triple::MAX_COUNT⟧ .entry)) ⌝ }
+    // Where the triples of each start begin: at a start are as many as intervals from it on.
+    pub fn starts(rows: &[u32], k: u32) -> [u32; Interval::MAX_ENDS]
+        requires { ⌜ (k ≤ maxSteps) × RowsOf k (now rows) ⌝ }
+        ensures { λ r. ⌜ StartsOf k r ⌝ }
     {
-        let i = self.i;
-        let length = self.j - i;
-        Self::count(k) - Self::count(k - i) + length * (length + 1) / 2 + (self.m - i)
+        let all = Interval::all(rows, k);
+        let mut starts = [0; Interval::MAX_ENDS];
+        let mut start = 0;
+        for i in 0..k {
+            start += all - Interval::place(rows, k, i, 0);
+            starts[i as usize + 1] = start;
+        }
+        starts
+    }
+
+    // The place of the triple from i on, of so many steps and chopped after `cut` of them: after those of the starts before, and those of
+    // the shorter intervals from i on, which are 1, 2, .. and so as many as intervals in the last rows.
+    pub fn place(rows: &[u32], starts: &[u32], k: u32, i: u32, steps: u32, cut: u32) -> u32
+        requires { ⌜ (cut ≤ steps) × (i + steps ≤ k) × (k ≤ maxSteps) × RowsOf k (now rows) × StartsOf k (now starts) ⌝ }
+        ensures { λ r. ⌜ (r ≡ triplePlaceOf k (record { i = i; m = i + cut; j = i + steps })) × (r < tripleCountOf k) ⌝ }
+    {
+        let shorter = Interval::all(rows, k) - rows[(k + 1 - steps) as usize];
+        starts[i as usize] + shorter + cut
     }
 }

@@ -49,13 +49,14 @@ pub fn try_literal<'a>(
     parents: &[u8; MAX_NODES],
     intervals: &[u16],
     starts: &[u32],
+    rows: &[u32],
     count: usize,
     c: u32,
     k: u32,
     v: u32,
     mark: u8,
 ) -> Closed
-    requires { ⌜ OnGround c k kinds numbers sizes firsts seats parents count values × Tables k (now intervals) (now starts) ⌝ }
+    requires { ⌜ OnGround c k kinds numbers sizes firsts seats parents count values × Tables k (now intervals) (now starts) (now rows) ⌝ }
     requires { ⌜ Ready (tableBy c k (now kinds) (now numbers) (now sizes) (now firsts) count) (now values) (now trail) top v ⌝ }
     ensures { λ r. ⌜ TriesLiteral (tableBy c k (old kinds) (old numbers) (old sizes) (old firsts) count) (literalOf (entry v mark)) values trail top r ⌝ }
 {
@@ -73,6 +74,7 @@ pub fn try_literal<'a>(
         parents,
         intervals,
         starts,
+        rows,
         count,
         c,
         k,
@@ -93,11 +95,12 @@ pub fn try_high<'a>(
     parents: &[u8; MAX_NODES],
     intervals: &[u16],
     starts: &[u32],
+    rows: &[u32],
     count: usize,
     c: u32,
     k: u32,
 ) -> Closed
-    requires { ⌜ OnGround c k kinds numbers sizes firsts seats parents count values × Tables k (now intervals) (now starts) ⌝ }
+    requires { ⌜ OnGround c k kinds numbers sizes firsts seats parents count values × Tables k (now intervals) (now starts) (now rows) ⌝ }
     requires { ⌜ Undoable (tableBy c k (now kinds) (now numbers) (now sizes) (now firsts) count) (now values) (now trail) from to ⌝ }
     ensures { λ r. ⌜ TriesHigh (tableBy c k (old kinds) (old numbers) (old sizes) (old firsts) count) values trail from to r ⌝ }
 {
@@ -115,6 +118,7 @@ pub fn try_high<'a>(
         parents,
         intervals,
         starts,
+        rows,
         count,
         c,
         k,

@@ -17,7 +17,11 @@ clausesAt D x = let d = definitionIn D x in clausesOf (d .variable) (d .gate)
 abbrev pub rowClauses : ℕ → ℕ → List ℕ → List ℕ → List ℕ → List ℕ → ℕ → List Clause
 rowClauses C k kinds numbers sizes firsts x = clausesBy (rowDefinitions C k kinds numbers sizes firsts x)
 
+-- those of the first n nodes
+abbrev pub nodesBy : ℕ → ℕ → List ℕ → List ℕ → List ℕ → List ℕ → ℕ → List Clause
+nodesBy C k kinds numbers sizes firsts n = rows n (rowClauses C k kinds numbers sizes firsts)
+
 -- all nodes' clauses, and the root alone
 unfoldable pub tableBy : ℕ → ℕ → List ℕ → List ℕ → List ℕ → List ℕ → ℕ → List Clause
 tableBy C k kinds numbers sizes firsts n =
-    rows n (rowClauses C k kinds numbers sizes firsts) ++ clausesOf (seatBy kinds numbers firsts k 0 + k) (Constant true)
+    nodesBy C k kinds numbers sizes firsts n ++ clausesOf (seatBy kinds numbers firsts k 0 + k) (Constant true)

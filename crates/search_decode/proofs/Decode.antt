@@ -13,11 +13,13 @@ use Rattle.lists.specs.Listing.{sum}
 use Rattle.interval.specs.Places.{countOf, tripleCountOf, placeOf}
 use Rattle.interval.proofs.Shape.{intervals}
 use Rattle.interval.specs.Limits.{maxSteps, IntervalOf, TripleOf}
+use Rattle.interval.specs.Rows.{tripleStart}
 use Rattle.interval.specs.declared.Interval.{Interval}
 use Rattle.interval.proofs.Counts.{triangle-count, intervals-count, triples-count, interval-place}
-use Rattle.interval.proofs.Laws.{triple-place, triples-numbered, counts-at-32}
+use Rattle.interval.proofs.Laws.{triple-place}
+use Rattle.interval.proofs.Rows.{row, starts-are, split-count}
 use Rattle.lists.proofs.Listing.{sum-le}
-use Rattle.search_decode.specs.Decode.{InPlace, TripleIn, unpacked, IntervalsTo, tripleStart, StartsTo, Tables, LastFrom}
+use Rattle.search_decode.specs.Decode.{InPlace, TripleIn, unpacked, IntervalsTo, Tables, LastFrom}
 
 module _ (k : ℕ) where
   pub longer-next : (v : Interval) → IntervalOf k v → v .j < k → InPlace k (placeOf k v + 1) (record { i = v .i; j = v .j + 1 })
@@ -63,60 +65,24 @@ module _ (k : ℕ) where
   -- ---- a triple by its place: i by where the triples of each start begin, then its length and cut, which stand as the intervals do from
   -- the last to the first
 
-  -- how many triples start at a
-  abbrev pub row : ℕ → ℕ
-  row a = sum suc (suc k - a)
-
-  pub starts-are : (i : ℕ) → i ≤ k → tripleStart k i ≡ sum row i
-  unfolding sum
-  starts-are i h = let z : i - i ≡ 0 = omega arith in omega (arith, triple-place k (record { i = i; m = i; j = i }) (record { starts = omega arith; cut = omega arith; ends = h }), ap (sum suc) z)
-
-  row-counts : (i : ℕ) → i ≤ k → row i ≡ countOf (k - i)
-  row-counts i h = let e : suc k - i ≡ suc (k - i) = omega arith in ap (sum suc) e ∙ triangle-count (k - i)
-
-  -- ---- the starts, one after another
-
-  pub no-starts : (table : List ℕ) → StartsTo k table 0
-  no-starts table = record { each = λ i h. absurd (omega arith) }
-
-  pub first-start : tripleStart k 0 ≡ 0
-  unfolding sum
-  first-start = starts-are 0 (omega arith)
-
-  pub one-start : {table : List ℕ} {x at : ℕ} → StartsTo k table x → x < length table → at ≡ tripleStart k x → StartsTo k (set table x at) (x + 1)
-  one-start {table} {x} {at} t h e = record {
-    each = λ i l. by-cases (decLt i x) (λ m. getD-set-other table x i at 0 (λ e. omega arith) ∙ t .each i m)
-        (λ m. let f : i ≡ x = omega arith in ap (λ i. getD (set table x at) i 0) f ∙ getD-set-same table x at 0 h ∙ e ∙ ap (tripleStart k) (sym f));
-  }
-
-  pub next-start : {i at : ℕ} → i < k → at ≡ tripleStart k i → at + countOf (k - i) ≡ tripleStart k (i + 1)
-  unfolding sum
-  next-start {i} h e = let n : i + 1 ≡ suc i = omega arith in omega (arith, e, starts-are i (omega arith), row-counts i (omega arith), starts-are (i + 1) (omega arith), ap (sum row) n)
-
   -- ---- the triple
 
-  -- all intervals are those that start before i and the triangle of the others
-  split-count : (i : ℕ) → i ≤ suc k → sum (λ a. suc k - a) i + sum suc (suc k - i) ≡ countOf k
-  unfolding sum
-  split-count zero h = let e : suc k - 0 ≡ suc k = omega arith in omega (arith, triangle-count k, ap (sum suc) e)
-  split-count (suc i) h = let e : suc k - i ≡ suc (suc k - suc i) = omega arith in omega (arith, split-count i (omega arith), ap (sum suc) e, e)
-
   module _ (x i : ℕ) (h : i ≤ k) (l : x < tripleCountOf k) (a : tripleStart k i ≤ x) (b : i < k → x < tripleStart k (i + 1)) where
-    below-next : x < sum row (suc i)
+    below-next : x < sum (row k) (suc i)
     unfolding sum
-    below-next = let n : i + 1 ≡ suc i = omega arith in by-cases (decLt i k) (λ m. omega (arith, b m, starts-are (i + 1) (omega arith), ap (sum row) n))
-        (λ m. let r : suc k ≡ suc i = omega arith in omega (arith, l, triples-count k, ap (sum row) r))
+    below-next = let n : i + 1 ≡ suc i = omega arith in by-cases (decLt i k) (λ m. omega (arith, b m, starts-are k (i + 1) (omega arith), ap (sum (row k)) n))
+        (λ m. let r : suc k ≡ suc i = omega arith in omega (arith, l, triples-count k, ap (sum (row k)) r))
 
     pub after-lt : x - tripleStart k i < countOf k
     unfolding sum
-    after-lt = omega (arith, below-next, a, starts-are i h, sum-le suc (suc k) (suc k - i) (omega arith), triangle-count k)
+    after-lt = omega (arith, below-next, a, starts-are k i h, sum-le suc (suc k) (suc k - i) (omega arith), triangle-count k)
 
     found : (d e : ℕ) → e ≤ d → sum suc d + e ≡ x - tripleStart k i → TripleIn k x (record { i = i; m = i + e; j = i + d })
     unfolding sum
     found d e c f =
         let p : i + d - i ≡ d = omega arith in
         let q : i + e - i ≡ e = omega arith in
-        let s = starts-are i h in
+        let s = starts-are k i h in
         let short : d < suc k - i = by-cases (decLt d (suc k - i)) (λ m. m) (λ m. absurd (omega (arith, sum-le suc d (suc k - i) (omega arith), f, below-next, a, s))) in
         let o : TripleOf k (record { i = i; m = i + e; j = i + d }) = record { starts = omega arith; cut = omega arith; ends = omega arith } in
         (o, omega (arith, f, a, s, q, ap (sum suc) p, triple-place k (record { i = i; m = i + e; j = i + d }) o))
@@ -126,7 +92,7 @@ module _ (k : ℕ) where
     unfolding sum
     mirrored v (o, e) =
         let n : suc k - v .i ≡ suc (k - v .i) = omega (arith, o .starts, o .ends) in
-        let s : sum (λ a. suc k - a) (v .i) + sum suc (k - v .i) + suc (k - v .i) ≡ countOf k = omega (arith, split-count (v .i) (omega (arith, o .starts, o .ends)), ap (sum suc) n) in
+        let s : sum (λ a. suc k - a) (v .i) + sum suc (k - v .i) + suc (k - v .i) ≡ countOf k = omega (arith, split-count k (v .i) (omega (arith, o .starts, o .ends)), ap (sum suc) n) in
         go (x - tripleStart k i) (placeOf k v) (sum (λ a. suc k - a) (v .i)) (sum suc (k - v .i)) after-lt s (interval-place k v o) e (o .starts) (o .ends)
       where
         go : (y p before rest : ℕ) → y < countOf k → before + rest + suc (k - v .i) ≡ countOf k → p ≡ before + (v .j - v .i) → p ≡ countOf k - 1 - y → v .i ≤ v .j → v .j ≤ k
@@ -137,17 +103,14 @@ module _ (k : ℕ) where
     triple-found v o = found (k - v .i) (k - v .j) (omega (arith, o .0 .starts)) (mirrored v o)
 
 -- the triple, from the tables
-module _ {k x i : ℕ} {intervals starts : List ℕ} (t : Tables k intervals starts) (l : x < tripleCountOf k) (w : LastFrom starts (k + 1) x i) where
+module _ {k x i : ℕ} {intervals starts table : List ℕ} (t : Tables k intervals starts table) (l : x < tripleCountOf k) (w : LastFrom starts (k + 1) x i) where
   start-is : getD starts i 0 ≡ tripleStart k i
-  start-is = t .starts-to .each i (omega (arith, w .below))
+  start-is = t .starts-of .at i (omega (arith, w .below))
 
   pub after-in : x - getD starts i 0 < countOf k
-  after-in = rw start-is (after-lt k x i (omega (arith, w .below)) l (omega (arith, start-is, w .from)) (λ m. omega (arith, w .next (omega arith), t .starts-to .each (i + 1) (omega arith))))
+  after-in = rw start-is (after-lt k x i (omega (arith, w .below)) l (omega (arith, start-is, w .from)) (λ m. omega (arith, w .next (omega arith), t .starts-of .at (i + 1) (omega arith))))
 
   pub triple-in : {v : Interval} → InPlace k (countOf k - 1 - (x - getD starts i 0)) v → TripleIn k x (record { i = i; m = i + (k - v .j); j = i + (k - v .i) })
   triple-in {v} o =
       triple-found k x i (omega (arith, w .below)) l (omega (arith, start-is, w .from))
-      (λ m. omega (arith, w .next (omega arith), t .starts-to .each (i + 1) (omega arith))) v (rw start-is at o)
-
-pub start-small : (k i : ℕ) → k ≤ maxSteps → i ≤ k → tripleStart k i < 6545
-start-small k i h l = omega (arith, triples-numbered k .below (record { i = i; m = i; j = i }) (record { starts = omega arith; cut = omega arith; ends = l }), counts-at-32 k h)
+      (λ m. omega (arith, w .next (omega arith), t .starts-of .at (i + 1) (omega arith))) v (rw start-is at o)

@@ -1,12 +1,14 @@
 -- An interval by its place and a triple by its place, from tables by value. Nothing here need be believed: no call open to others cites it.
 use mathlib.Core.Path.{_≡_}
 use mathlib.Core.List.{List}
-use Prim.Native.Nat.{ℕ, suc, _+_, _/_, _%_, _≤_, _<_}
+use Prim.Native.Nat.{ℕ, _+_, _*_, _/_, _%_, _≤_, _<_}
 use lib.ListN.{length, getD}
 use Rattle.interval.specs.Limits.{IntervalOf, TripleOf}
 use Rattle.interval.specs.Places.{countOf, placeOf, triplePlaceOf}
+use Rattle.interval.specs.Rows.{RowsOf, StartsOf}
 use Rattle.interval.specs.declared.Interval.{Interval}
 use Rattle.interval.specs.declared.Triple.{Triple}
+use Rattle.search_decode.specs.declared.Cell.{Cell}
 
 -- v is the interval in place p, t the triple in place x
 abbrev pub InPlace : ℕ → ℕ → Interval → Type 0
@@ -23,19 +25,17 @@ unpacked t = record { i = t / 128; j = t % 128 }
 pub record IntervalsTo (k : ℕ) (table : List ℕ) (x : ℕ) : Type 0 where
   pub each : (p : ℕ) → p < x → InPlace k p (unpacked (getD table p 0))
 
--- where the triples that start at i begin
-abbrev pub tripleStart : ℕ → ℕ → ℕ
-tripleStart k i = triplePlaceOf k (record { i = i; m = i; j = i })
-
-pub record StartsTo (k : ℕ) (table : List ℕ) (x : ℕ) : Type 0 where
-  pub each : (i : ℕ) → i < x → getD table i 0 ≡ tripleStart k i
-
--- both tables, of k steps
-pub record Tables (k : ℕ) (intervals starts : List ℕ) : Type 0 where
+-- the tables that the queue goes by, of k steps
+pub record Tables (k : ℕ) (intervals starts rows : List ℕ) : Type 0 where
   pub room : countOf k ≤ length intervals
   pub intervals-to : IntervalsTo k intervals (countOf k)
-  pub ends : suc k ≤ length starts
-  pub starts-to : StartsTo k starts (suc k)
+  pub starts-of : StartsOf k starts
+  pub rows-of : RowsOf k rows
+
+-- place x is in this cell of lines that have so many cells each
+pub record CellOf (width x : ℕ) (r : Cell) : Type 0 where
+  pub at : r .line * width + r .cell ≡ x
+  pub inside : r .cell < width
 
 -- of n numbers that grow the last that is not beyond u is in place r
 pub record LastFrom (table : List ℕ) (n u r : ℕ) : Type 0 where

@@ -7,7 +7,7 @@ ghost use lib.ListN.{length, getD};
 ghost use Rattle.moments.specs.Moments.{old, new};
 ghost use Rattle.interval.specs.Limits.{maxSteps, IntervalOf};
 ghost use Rattle.interval.specs.Places.{countOf, tripleCountOf, placeOf};
-ghost use Rattle.search_decode.specs.Decode.{InPlace, TripleIn, IntervalsTo, StartsTo, Tables, LastFrom};
+ghost use Rattle.search_decode.specs.Decode.{InPlace, TripleIn, IntervalsTo, Tables, LastFrom, CellOf};
 
 // Of numbers that grow the last that is not beyond u.
 pub fn last_from(table: &[u32], count: usize, u: u32) -> usize
@@ -25,6 +25,26 @@ pub fn last_from(table: &[u32], count: usize, u: u32) -> usize
         }
     }
     low
+}
+
+// Where a place is in lines of so many cells each: a duration's levels, or the channels at each instant.
+pub struct Cell {
+    pub line: u32,
+    pub cell: u32,
+}
+
+// A whole line less, until what is left is within one: there are few lines.
+pub fn cell_at(x: u32, width: u32) -> Cell
+    requires { ⌜ 0 < width ⌝ }
+    ensures { λ r. ⌜ CellOf width x r ⌝ }
+{
+    let mut line = 0;
+    let mut cell = x;
+    while width <= cell {
+        cell -= width;
+        line += 1;
+    }
+    Cell { line, cell }
 }
 
 // The interval in the next place.
@@ -54,18 +74,6 @@ pub fn put_intervals(table: &mut [u16], k: usize)
     }
 }
 
-// Where the triples of each start begin.
-pub fn put_starts(table: &mut [u32], k: usize)
-    requires { ⌜ (k ≤ maxSteps) × (suc k ≤ length (now table)) ⌝ }
-    ensures { λ _. ⌜ StartsTo k (new table) (suc k) ⌝ }
-{
-    let mut at = 0;
-    for i in 0..k + 1 {
-        table[i] = at;
-        at += Interval::count(k - i) as u32;
-    }
-}
-
 fn wide(x: u16) -> usize
     ensures { λ r. ⌜ r ≡ x ⌝ }
 {
@@ -86,16 +94,21 @@ pub fn interval_at(intervals: &[u16], k: usize, p: usize) -> Interval
 
 // The triple in a place. Those of one start stand by length and cut as the intervals stand, from the last to the first, by what is
 // left after start and end.
-pub fn triple_at(intervals: &[u16], starts: &[u32], k: usize, x: u32) -> Triple
-    requires { ⌜ (k ≤ maxSteps) × (x < tripleCountOf k) × Tables k (now intervals) (now starts) ⌝ }
+pub fn triple_at(intervals: &[u16], starts: &[u32], rows: &[u32], k: u32, x: u32) -> Triple
+    requires { ⌜ (k ≤ maxSteps) × (x < tripleCountOf k) × Tables k (now intervals) (now starts) (now rows) ⌝ }
     ensures { λ r. ⌜ TripleIn k x r ⌝ }
 {
-    let i = last_from(starts, k + 1, x);
-    let after = (x - starts[i]) as usize;
-    let v = interval_at(intervals, k, Interval::count(k) - 1 - after);
+    let steps = k as usize;
+    let i = last_from(starts, steps + 1, x);
+    let after = x - starts[i];
+    let v = interval_at(
+        intervals,
+        steps,
+        (Interval::all(rows, k) - 1 - after) as usize,
+    );
     Triple {
         i,
-        m: i + (k - v.j),
-        j: i + (k - v.i),
+        m: i + (steps - v.j),
+        j: i + (steps - v.i),
     }
 }

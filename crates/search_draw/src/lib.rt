@@ -24,11 +24,12 @@ pub fn draw(
     parents: &[u8; MAX_NODES],
     intervals: &[u16],
     starts: &[u32],
+    rows: &[u32],
     c: u32,
     k: u32,
     limit: u32,
 ) -> Answer
-    requires { ⌜ GroundOf c k table firsts seats parents values × Tables k (now intervals) (now starts) ⌝ }
+    requires { ⌜ GroundOf c k table firsts seats parents values × Tables k (now intervals) (now starts) (now rows) ⌝ }
     requires { ⌜ (length (now values) ≤ length (now trail)) × (length (now values) < 2 ^ 32) × (length (now recording) ≡ k) ⌝ }
     ensures { λ r. ⌜ left r recording ≡ limited c k limit (old recording) (tree (tableClauses c k table (old firsts)) (length (old values)) (k * c)) ⌝ }
 {
@@ -41,6 +42,7 @@ pub fn draw(
         parents,
         intervals,
         starts,
+        rows,
         c,
         k,
         limit,

@@ -75,8 +75,8 @@ module _ (C k : ℕ) (f : Tree Formula) {T : NodeTable} (e : T ≡ nodeTableOf f
 
     -- what the tree of tries asks for
     pub parts-fit : s .variables < 2 ^ 32 → Letters C f → C ≤ maxChannels → k ≤ maxSteps → T .count ≤ maxNodes → {Q P : List ℕ} →
-        Seated (T .kinds) (T .numbers) G k Q maxNodes → Nearest (T .sizes) P (T .count) → {I S : List ℕ} → Tables k I S
-        → (Ground C k (T .kinds) (T .numbers) (T .sizes) G Q P (T .count) (length (take (s .variables) values)) × Tables k I S)
+        Seated (T .kinds) (T .numbers) G k Q maxNodes → Nearest (T .sizes) P (T .count) → {I S R : List ℕ} → Tables k I S R
+        → (Ground C k (T .kinds) (T .numbers) (T .sizes) G Q P (T .count) (length (take (s .variables) values)) × Tables k I S R)
         × ((length (take (s .variables) values) ≤ length (take (s .variables) trail)) × (length (take (s .variables) values) < 2 ^ 32) × (length (take k recording) ≡ k))
     parts-fit l L c k n q p i = (
       (ground-of C _ f e w L c k n q p (take (s .variables) values) values-taken, i),

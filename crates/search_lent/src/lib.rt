@@ -1,5 +1,6 @@
 // The search in its lent arrays: what the queue goes by, and the parts of them that it takes.
 use interval::Interval;
+use interval::Triple;
 use node_rows::NodeTable;
 use paper_grammar::MAX_NODES;
 use paper_search::Answer;
@@ -41,8 +42,9 @@ pub fn search_lent(
     let steps = k as usize;
     let mut intervals = [0; Interval::MAX_COUNT];
     search_decode::put_intervals(&mut intervals, steps);
-    let mut starts = [0; Interval::MAX_ENDS];
-    search_decode::put_starts(&mut starts, steps);
+    let mut rows = [0; Interval::MAX_ROWS];
+    Interval::put_rows(&mut rows, k);
+    let starts = Triple::starts(&rows, k);
     let s = layout.sizes;
     let v = s.variables as usize;
     search_draw::draw(
@@ -55,6 +57,7 @@ pub fn search_lent(
         &parents,
         &intervals,
         &starts,
+        &rows,
         c,
         k,
         limit,

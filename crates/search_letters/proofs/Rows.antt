@@ -3,8 +3,8 @@
 use mathlib.Core.Path.{_≡_, refl, sym, ap, _∙_, subst}
 use mathlib.Core.Bool.{true, false}
 use mathlib.Core.List.{List}
-use Prim.Native.Nat.{ℕ, suc, _*_, _/_, _%_, _<_}
-use native.Mathlib.Nat.{mul-le-mul-right, div-add-mod'}
+use Prim.Native.Nat.{ℕ, suc, _*_, _<_}
+use native.Mathlib.Nat.{mul-le-mul-right}
 use native.Mathlib.Decide.{decLt}
 use mathlib.Core.Logic.{by-cases}
 use native.Mathlib.Omega.{arith}
@@ -18,6 +18,8 @@ use Rattle.table_blocks.specs.declared.Rule.{Rule}
 use Rattle.table_nodes.specs.Nodes.{Fine}
 use Rattle.table_layout.specs.Rows.{seatBy, blockBy, Seated}
 use Rattle.paper_clauses.specs.Clauses.{Clause}
+use Rattle.search_decode.specs.Decode.{CellOf}
+use Rattle.search_decode.specs.declared.Cell.{Cell}
 use Rattle.search_closing.specs.Values.{Trailing}
 use Rattle.search_closing.specs.declared.Closed.{Closed}
 use Rattle.search_visits.specs.Visits.{Visited}
@@ -59,11 +61,12 @@ module _ (C k x : ℕ) (h : x < k * C) where
       zero : (k : ℕ) → k * 0 ≡ 0
       zero k = omega arith
 
-  pub instant-below : x / C < k
-  instant-below = by-cases (decLt (x / C) k) (λ l. l) (λ l. absurd (omega (arith, mul-le-mul-right {m = k} {n = x / C} C (omega (arith, l)), div-add-mod' x C, h)))
+  module _ {cell : Cell} (o : CellOf C x cell) where
+    pub instant-below : cell .line < k
+    instant-below = by-cases (decLt (cell .line) k) (λ l. l) (λ l. absurd (omega (arith, mul-le-mul-right {m = k} {n = cell .line} C (omega (arith, l)), o .at, h)))
 
-  pub channel-is : suc x ≡ channelOf C (x / C) (x % C)
-  channel-is = omega (arith, div-add-mod' x C)
+    pub channel-is : suc x ≡ channelOf C (cell .line) (cell .cell)
+    channel-is = omega (arith, o .at)
 
 -- ---- answers
 

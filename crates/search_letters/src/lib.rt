@@ -7,6 +7,7 @@ ghost use mathlib.Core.Path.{_≡_};
 ghost use Prim.Native.Nat.{ℕ, _*_, _≤_, _<_};
 ghost use Rattle.moments.specs.Moments.{old};
 ghost use Rattle.interval.specs.Limits.{maxSteps};
+ghost use Rattle.interval.specs.Places.{countOf};
 ghost use Rattle.lists.specs.Listing.{rows};
 ghost use Rattle.paper_grammar.specs.Limits.{maxNodes, maxChannels};
 ghost use Rattle.table_nodes.specs.Nodes.{Fine};
@@ -41,9 +42,11 @@ pub fn block_of<'a>(
     firsts: &[u32; MAX_NODES],
     seats: &[u32; MAX_NODES],
     k: u32,
+    all: u32,
     x: usize,
 ) -> Block
-    requires { ⌜ (k ≤ maxSteps) × (x < maxNodes) × Low (now firsts) × Seated (now kinds) (now numbers) (now firsts) k (now seats) maxNodes ⌝ }
+    requires { ⌜ (k ≤ maxSteps) × (x < maxNodes) × Low (now firsts) × Seated (now kinds) (now numbers) (now firsts) k (now seats) maxNodes
+        × (all ≡ countOf k) ⌝ }
     ensures { λ r. ⌜ r ≡ blockBy (old kinds) (old numbers) (old sizes) (old firsts) k x ⌝ }
     ensures { λ r. ⌜ ((c : ℕ) → c ≤ maxChannels → Fine c k r) ⌝ }
 {
@@ -52,7 +55,7 @@ pub fn block_of<'a>(
     let right = table_layout::number_at(seats, node_calls::second(sizes, x));
     Block {
         rule: table_blocks::rule_of(kind, node_rows::byte_at(numbers, x)),
-        points: table_sizes::points_of(kind, k),
+        points: table_sizes::points_of(kind, k, all),
         first: table_layout::number_at(firsts, x),
         left,
         right,
@@ -73,17 +76,18 @@ fn reach_letter<'a>(
     count: usize,
     c: u32,
     k: u32,
+    all: u32,
     x: usize,
     t: u32,
     e: u32,
 ) -> Closed
     requires { ⌜ OnGround c k kinds numbers sizes firsts seats parents count values × Trailing (now values) (now trail) top ⌝ }
-    requires { ⌜ (x < count) × (t < k) ⌝ }
+    requires { ⌜ (x < count) × (t < k) × (all ≡ countOf k) ⌝ }
     ensures { λ r. ⌜ Visits (letterAt c k (old kinds) (old numbers) (old sizes) (old firsts) t e x) values trail top r ⌝ }
 {
     let rule = table_blocks::rule_of(kinds[x], numbers[x]);
     if speaks_of(rule, e) {
-        let block = block_of(kinds, numbers, sizes, firsts, seats, k, x);
+        let block = block_of(kinds, numbers, sizes, firsts, seats, k, all, x);
         return search_lines::visit_line(values, trail, top, c, k, block, t);
     }
     search_lines::done(top)
@@ -103,11 +107,12 @@ fn reach_letters<'a>(
     count: usize,
     c: u32,
     k: u32,
+    all: u32,
     t: u32,
     e: u32,
 ) -> Closed
     requires { ⌜ OnGround c k kinds numbers sizes firsts seats parents count values × Trailing (now values) (now trail) top ⌝ }
-    requires { ⌜ (t < k) ⌝ }
+    requires { ⌜ (t < k) × (all ≡ countOf k) ⌝ }
     ensures { λ r. ⌜ Visits (rows count (letterAt c k (old kinds) (old numbers) (old sizes) (old firsts) t e)) values trail top r ⌝ }
 {
     let mut last = top;
@@ -125,6 +130,7 @@ fn reach_letters<'a>(
             count,
             c,
             k,
+            all,
             x,
             t,
             e,
@@ -151,13 +157,14 @@ pub fn reach_channel<'a>(
     count: usize,
     c: u32,
     k: u32,
+    all: u32,
     u: u32,
 ) -> Closed
     requires { ⌜ OnGround c k kinds numbers sizes firsts seats parents count values × Trailing (now values) (now trail) top ⌝ }
-    requires { ⌜ (1 ≤ u) × (u ≤ k * c) ⌝ }
+    requires { ⌜ (1 ≤ u) × (u ≤ k * c) × (all ≡ countOf k) ⌝ }
     ensures { λ r. ⌜ Reaches (tableBy c k (old kinds) (old numbers) (old sizes) (old firsts) count) u values trail top r ⌝ }
 {
-    let x = u - 1;
+    let at = search_decode::cell_at(u - 1, c);
     reach_letters(
         values,
         trail,
@@ -171,7 +178,8 @@ pub fn reach_channel<'a>(
         count,
         c,
         k,
-        x / c,
-        x % c,
+        all,
+        at.line,
+        at.cell,
     )
 }

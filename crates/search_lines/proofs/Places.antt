@@ -1,11 +1,11 @@
--- Where a node's own variable stands: a line's in its place, a duration's on the level and the interval that its place leaves when it is
--- divided by I. A chop's has a crate of its own.
+-- Where a node's own variable stands: a line's in its place, a duration's on the level and the interval that its place leaves when
+-- the levels before are taken off. A chop's has a crate of its own.
 use mathlib.Core.Path.{_≡_, refl, sym, ap, _∙_, subst}
 use mathlib.Core.Logic.{inl, inr, ⊎-elim, by-cases}
 use native.Mathlib.Decide.{decLt}
 use mathlib.Core.Bool.{Bool, false, cond}
-use Prim.Native.Nat.{ℕ, suc, _+_, _-_, _*_, _/_, _%_, _≤_, _<_}
-use native.Mathlib.Nat.{mul-le-mul-right, div-add-mod'}
+use Prim.Native.Nat.{ℕ, suc, _+_, _-_, _*_, _≤_, _<_}
+use native.Mathlib.Nat.{mul-le-mul-right}
 use native.Mathlib.Omega.{arith}
 use Rattle.lists.specs.Listing.{sum}
 use Rattle.interval.specs.Places.{countOf, tripleCountOf, placeOf}
@@ -19,7 +19,8 @@ use Rattle.table_blocks.specs.declared.Rule.the-variants.{Fixed, Letter, Negati
 use Rattle.table_blocks.proofs.Rules.{line-rule, level-rule, triples-rule, line-count}
 use Rattle.table_sizes.specs.Weights.{variableWeight, weightBy}
 use Rattle.table_sizes.proofs.Weights.{shape-weight}
-use Rattle.search_decode.specs.Decode.{InPlace}
+use Rattle.search_decode.specs.Decode.{InPlace, CellOf}
+use Rattle.search_decode.specs.declared.Cell.{Cell}
 use Rattle.search_fanout.specs.Walks.{Apart}
 use Rattle.search_fanout.specs.Fanout.{InBlock, Levels, Rising}
 use Rattle.search_fanout.proofs.Fine.{level-place, level-count}
@@ -50,33 +51,31 @@ pub some-intervals : (k : ℕ) → 0 < countOf k
 unfolding countOf
 some-intervals k = omega arith
 
-module _ (points k x : ℕ) (v : Interval) (o : InPlace k (x % countOf k) v) where
-  parted : x / countOf k * countOf k + x % countOf k ≡ x
-  parted = div-add-mod' x (countOf k)
-
+-- place x, on level a and of what is left in place e
+module _ (points k x a e : ℕ) (parted : a * countOf k + e ≡ x) (v : Interval) (o : InPlace k e v) where
   there : v .i + (v .j - v .i) ≡ v .j
   there = omega (arith, o .0 .starts)
 
-  placed-at : placeOf k (record { i = v .i; j = v .i + (v .j - v .i) }) ≡ x % countOf k
+  placed-at : placeOf k (record { i = v .i; j = v .i + (v .j - v .i) }) ≡ e
   placed-at = ap (λ (j : ℕ). placeOf k (record { i = v .i; j = j })) there ∙ o .1
 
-  level-inside : (n : ℕ) → x < suc n * countOf k → Inside (shapeOf points k (Duration n)) (x / countOf k, (v .i, v .j - v .i))
+  level-inside : (n : ℕ) → x < suc n * countOf k → Inside (shapeOf points k (Duration n)) (a, (v .i, v .j - v .i))
   level-inside n h = (
-    by-cases (decLt (x / countOf k) (suc n)) (λ l. l) (λ l. absurd (omega (arith, mul-le-mul-right {m = suc n} {n = x / countOf k} (countOf k) (omega (arith, l)), parted))),
+    by-cases (decLt a (suc n)) (λ l. l) (λ l. absurd (omega (arith, mul-le-mul-right {m = suc n} {n = a} (countOf k) (omega (arith, l)), parted))),
     (omega (arith, o .0 .starts, o .0 .ends), omega (arith, o .0 .starts, o .0 .ends)),
   )
 
-  level-at : (n : ℕ) (h : x < suc n * countOf k) → x ≡ place (shapeOf points k (Duration n)) (x / countOf k, (v .i, v .j - v .i))
-  level-at n h = omega (arith, level-place k points n (x / countOf k) (v .i) (v .j - v .i) (level-inside n h), placed-at, parted)
+  level-at : (n : ℕ) (h : x < suc n * countOf k) → x ≡ place (shapeOf points k (Duration n)) (a, (v .i, v .j - v .i))
+  level-at n h = omega (arith, level-place k points n (a) (v .i) (v .j - v .i) (level-inside n h), placed-at, parted)
 
-  level-placed : {r : Rule} {n : ℕ} → Levels r n → x < count (shapeOf points k r) → Placed points k r x (x / countOf k) (v .i) (v .j - v .i)
-  level-placed {r} {n} (inl e) h =
-      let l : x < suc n * countOf k = omega (arith, subst (λ (r : Rule). x < count (shapeOf points k r)) e h, level-count k points n) in
-      subst (λ (r : Rule). Placed points k r x (x / countOf k) (v .i) (v .j - v .i)) (sym e) (record { inside = level-inside n l; at = level-at n l })
-  level-placed {r} (inr e) h =
-      let f : x < count (shapeOf points k (Duration 0)) = subst (λ (r : Rule). x < count (shapeOf points k r)) (e .0) h in
+  level-placed : {r : Rule} {n : ℕ} → Levels r n → x < count (shapeOf points k r) → Placed points k r x (a) (v .i) (v .j - v .i)
+  level-placed {r} {n} (inl q) h =
+      let l : x < suc n * countOf k = omega (arith, subst (λ (r : Rule). x < count (shapeOf points k r)) q h, level-count k points n) in
+      subst (λ (r : Rule). Placed points k r x (a) (v .i) (v .j - v .i)) (sym q) (record { inside = level-inside n l; at = level-at n l })
+  level-placed {r} (inr q) h =
+      let f : x < count (shapeOf points k (Duration 0)) = subst (λ (r : Rule). x < count (shapeOf points k r)) (q .0) h in
       let l : x < suc 0 * countOf k = omega (arith, f, level-count k points 0) in
-      subst (λ (r : Rule). Placed points k r x (x / countOf k) (v .i) (v .j - v .i)) (sym (e .0)) (record { inside = level-inside 0 l; at = level-at 0 l })
+      subst (λ (r : Rule). Placed points k r x (a) (v .i) (v .j - v .i)) (sym (q .0)) (record { inside = level-inside 0 l; at = level-at 0 l })
 
 pub rise-small : (b : Block) → numberOf (b .rule) ≤ 255 → riseOf (b .rule) .from + riseOf (b .rule) .count ≤ 256
 rise-small b = go (b .rule)
@@ -134,11 +133,10 @@ module _ (k : ℕ) (b : Block) {u x : ℕ} (o : InBlock k b u) (e : u ≡ b .fir
 
 -- a level's variable by the code's numbers
 pub level-here : (k : ℕ) (b : Block) (x : ℕ) → formOf (b .rule) ≡ Intervals → isChop (b .rule) ≡ false → {all : ℕ} → all ≡ countOf k →
-    InBlock k b (b .first + x) → (v : Interval) → InPlace k (x % all) v
-    → Placed (b .points) k (b .rule) x (x / all) (v .i) (v .j - v .i)
-level-here k b x e f {all} a o v w =
-    subst (λ (n : ℕ). Placed (b .points) k (b .rule) x (x / n) (v .i) (v .j - v .i)) (sym a)
-    (level-placed (b .points) k x v (subst (λ (n : ℕ). InPlace k (x % n) v) a w) (levels-of (b .rule) e f) (own-below k b o refl f))
+    InBlock k b (b .first + x) → (c : Cell) → CellOf all x c → (v : Interval) → InPlace k (c .cell) v
+    → Placed (b .points) k (b .rule) x (c .line) (v .i) (v .j - v .i)
+level-here k b x e f {all} a o c w v i =
+    level-placed (b .points) k x (c .line) (c .cell) (ap (λ (n : ℕ). c .line * n + c .cell) (sym a) ∙ w .at) v i (levels-of (b .rule) e f) (own-below k b o refl f)
 
 -- ---- the rule, by what the code has asked
 

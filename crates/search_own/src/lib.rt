@@ -32,10 +32,11 @@ fn reach_level(
 {
     let rule = block.rule;
     let rise = search_lines::rise_of(rule);
-    let v = search_decode::interval_at(intervals, k as usize, (x % all) as usize);
+    let level = search_decode::cell_at(x, all);
+    let v = search_decode::interval_at(intervals, k as usize, level.cell as usize);
     let i = v.i as u32;
     let p = Position {
-        row: x / all,
+        row: level.line,
         line: i,
         cell: v.j as u32 - i,
         before: 0,
@@ -61,13 +62,14 @@ pub fn reach(
     top: usize,
     intervals: &[u16],
     starts: &[u32],
+    rows: &[u32],
     c: u32,
     k: u32,
     all: u32,
     block: Block,
     u: u32,
 ) -> Closed
-    requires { ⌜ Node c k block (now values) (now trail) top × (all ≡ countOf k) × Tables k (now intervals) (now starts) × InBlock k block u ⌝ }
+    requires { ⌜ Node c k block (now values) (now trail) top × (all ≡ countOf k) × Tables k (now intervals) (now starts) (now rows) × InBlock k block u ⌝ }
     ensures { λ r. ⌜ Reaches (nodeClauses c k block) u values trail top r ⌝ }
 {
     let rule = block.rule;
@@ -79,6 +81,7 @@ pub fn reach(
             top,
             intervals,
             starts,
+            rows,
             c,
             k,
             all,

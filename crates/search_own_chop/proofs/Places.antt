@@ -3,18 +3,15 @@
 use mathlib.Core.Path.{_≡_, refl, sym, ap, ap₂, _∙_, subst}
 use mathlib.Core.Bool.{true, false}
 use mathlib.Core.List.{List, [], _∷_, _++_}
-use Prim.Native.Nat.{ℕ, suc, _+_, _-_, _*_, _/_, _≤_, _<_}
-use native.Mathlib.Nat.{mul-le-mul}
+use Prim.Native.Nat.{ℕ, suc, _+_, _-_, _<_}
 use native.Mathlib.Omega.{arith}
 use lib.ListN.{length}
-use Rattle.lists.specs.Listing.{sum}
-use Rattle.interval.specs.Limits.{maxSteps, IntervalOf}
+use Rattle.interval.specs.Limits.{IntervalOf}
 use Rattle.interval.specs.Places.{countOf, placeOf, triplePlaceOf}
 use Rattle.interval.specs.declared.Interval.{Interval}
 use Rattle.interval.specs.declared.Triple.{Triple}
 use Rattle.interval.proofs.Shape.{Inside, place, place-lt, getD-per}
-use Rattle.interval.proofs.Counts.{half}
-use Rattle.interval.proofs.Laws.{triples-numbered, triples-in-a-row, counts-at-32}
+use Rattle.interval.proofs.Laws.{triple-place, triples-numbered, triples-in-a-row, counts-at-32}
 use Rattle.paper_circuit.specs.Circuit.{define}
 use Rattle.paper_circuit.specs.declared.Gate.the-variants.{Constant, AnyOf}
 use Rattle.table_blocks.specs.Blocks.{shapeOf, gateBy, gateOf, definedBy, Placed, Before}
@@ -25,8 +22,7 @@ use Rattle.table_nodes.specs.Walk.{definitionIn}
 use Rattle.table_nodes.specs.Nodes.{intervalBlock, tripleBlock}
 use Rattle.table_nodes.proofs.Nodes.{halves}
 use Rattle.table_gates.specs.Mentioned.{Variable, Mentioned, AllMentioned}
-use Rattle.search_decode.specs.Decode.{InPlace, TripleIn, tripleStart}
-use Rattle.search_decode.proofs.Decode.{starts-are}
+use Rattle.search_decode.specs.Decode.{InPlace, TripleIn}
 use Rattle.search_closing.specs.Values.{Trailing}
 use Rattle.search_visits.specs.Visits.{Visited, Row, raisedBy, longBy}
 use Rattle.search_visits.proofs.Parts.{visited-named, visited-stop, visited-then}
@@ -80,14 +76,15 @@ module _ (C k w : ℕ) (b : Block) (v : Interval) (o : IntervalOf k v) where
       let m = subst (Mentioned n) chop-definition (f (placeOf k v) l) in
       (m .variable, m .inputs)
 
--- d(d + 1)/2 triples stand before those of the interval of d steps, of one start
-pub half-small : (d : ℕ) → d ≤ maxSteps → d * (d + 1) ≤ 32 * 33
-half-small d h = mul-le-mul {n₁ = d} {m₁ = d + 1} {n₂ = 32} {m₂ = 33} h (omega arith)
-
-pub before-here : (points k : ℕ) (v : Interval) → IntervalOf k v → {at : ℕ} → at ≡ tripleStart k (v .i)
-    → Before points k Chop (record { row = 0; line = v .i; cell = v .j - v .i; before = at + (v .j - v .i) * (v .j - v .i + 1) / 2 })
-unfolding sum
-before-here points k v o e = omega (arith, e, starts-are k (v .i) (omega (arith, o .starts, o .ends)), half (v .j - v .i))
+-- before the triples of an interval stand as many as its first one's place says
+pub before-here : (points k : ℕ) (v : Interval) → IntervalOf k v → {at : ℕ} → at ≡ triplePlaceOf k (record { i = v .i; m = v .i + 0; j = v .i + (v .j - v .i) })
+    → Before points k Chop (record { row = 0; line = v .i; cell = v .j - v .i; before = at })
+before-here points k v o e =
+    let m : v .i + 0 ≡ v .i = omega arith in
+    let j : v .i + (v .j - v .i) ≡ v .j = omega (arith, o .starts) in
+    let f : triplePlaceOf k (record { i = v .i; m = v .i + 0; j = v .i + (v .j - v .i) }) ≡ triplePlaceOf k (record { i = v .i; m = v .i; j = v .j }) =
+    ap₂ (λ (m j : ℕ). triplePlaceOf k (record { i = v .i; m = m; j = j })) m j in
+    omega (arith, e, f, triple-place k (record { i = v .i; m = v .i; j = v .j }) (record { starts = omega arith; cut = o .starts; ends = o .ends }))
 
 -- ---- by the code's blocks
 
@@ -99,8 +96,8 @@ module _ (k : ℕ) (b : Block) (w : ℕ) {s : Block} (e : s ≡ intervalBlock w 
   pub interval-here : {x : ℕ} → InPlace k x v → Placed (s .points) k (s .rule) x 0 (v .i) (v .j - v .i)
   interval-here {x} o = subst (λ (s : Block). Placed (s .points) k (s .rule) x 0 (v .i) (v .j - v .i)) (sym e) (interval-placed (b .points) k x v o)
 
-  pub before-at : IntervalOf k v → {at : ℕ} → at ≡ tripleStart k (v .i)
-      → s .rule ≡ Chop → Before (s .points) k Chop (record { row = 0; line = v .i; cell = v .j - v .i; before = at + (v .j - v .i) * (v .j - v .i + 1) / 2 })
+  pub before-at : IntervalOf k v → {at : ℕ} → at ≡ triplePlaceOf k (record { i = v .i; m = v .i + 0; j = v .i + (v .j - v .i) })
+      → s .rule ≡ Chop → Before (s .points) k Chop (record { row = 0; line = v .i; cell = v .j - v .i; before = at })
   before-at o f g = before-here (s .points) k v o f
 
 pub interval-clauses : (C k : ℕ) (b : Block) (x : ℕ) {w : ℕ} {s : Block} → w ≡ b .first + countOf k → s ≡ intervalBlock w b

@@ -1,5 +1,7 @@
 // The gates of a chop's block that mention one of its own variables: of an interval's its own gate alone, of a triple's its own and of its
 // interval's two clauses.
+use interval::Interval;
+use interval::Triple;
 use search_closing::Closed;
 use table_blocks::Block;
 use table_blocks::Position;
@@ -17,6 +19,7 @@ fn reach_interval(
     top: usize,
     intervals: &[u16],
     starts: &[u32],
+    rows: &[u32],
     c: u32,
     k: u32,
     all: u32,
@@ -24,20 +27,20 @@ fn reach_interval(
     x: u32,
 ) -> Closed
     requires { ⌜ Node c k block (now values) (now trail) top × (all ≡ countOf k)
-        × (block .rule ≡ Chop) × Tables k (now intervals) (now starts) × (x < countOf k) ⌝ }
+        × (block .rule ≡ Chop) × Tables k (now intervals) (now starts) (now rows) × (x < countOf k) ⌝ }
     ensures { λ r. ⌜ Reaches (nodeClauses c k block) (block .first + x) values trail top r ⌝ }
 {
     let v = search_decode::interval_at(intervals, k as usize, x as usize);
-    let i = v.i;
-    let d = v.j as u32 - i as u32;
+    let i = v.i as u32;
+    let d = v.j as u32 - i;
     let p = Position {
         row: 0,
-        line: i as u32,
+        line: i,
         cell: d,
-        before: starts[i] + d * (d + 1) / 2,
+        before: Triple::place(rows, starts, k, i, d, 0),
     };
-    let whole = table_nodes::intervals_of(table_nodes::beyond(block.first, k), block);
-    search_walks::visit_at(values, trail, top, c, k, all, whole, x, p)
+    let whole = table_nodes::intervals_of(table_nodes::beyond(block.first, rows, k), block);
+    search_walks::visit_at(values, trail, top, rows, c, k, all, whole, x, p)
 }
 
 // A chop's variable of the triple in place x: its own gate, and of its interval's the two clauses that name it.
@@ -47,6 +50,7 @@ fn reach_triple(
     top: usize,
     intervals: &[u16],
     starts: &[u32],
+    rows: &[u32],
     c: u32,
     k: u32,
     all: u32,
@@ -54,20 +58,20 @@ fn reach_triple(
     x: u32,
 ) -> Closed
     requires { ⌜ Node c k block (now values) (now trail) top × (all ≡ countOf k)
-        × (block .rule ≡ Chop) × Tables k (now intervals) (now starts) × (x < tripleCountOf k) ⌝ }
+        × (block .rule ≡ Chop) × Tables k (now intervals) (now starts) (now rows) × (x < tripleCountOf k) ⌝ }
     ensures { λ r. ⌜ Reaches (nodeClauses c k block) (block .first + countOf k + x) values trail top r ⌝ }
 {
-    let t = search_decode::triple_at(intervals, starts, k as usize, x);
+    let t = search_decode::triple_at(intervals, starts, rows, k, x);
     let i = t.i as u32;
     let d = t.j as u32 - i;
     let e = t.m as u32 - i;
-    let w = table_nodes::beyond(block.first, k);
+    let w = table_nodes::beyond(block.first, rows, k);
     let triples = table_nodes::triples_of(w, block);
-    let r = search_walks::visit_cut(values, trail, top, c, k, all, triples, x, i, d, e);
+    let r = search_walks::visit_cut(values, trail, top, rows, c, k, triples, x, i, d, e);
     if r.clash {
         return r;
     }
-    let v = block.first + table_blocks::place(i, d, k, all);
+    let v = block.first + Interval::place(rows, k, i, d);
     search_visits::visit_one(values, trail, r.top, v, w + x - e, e, d + 1)
 }
 
@@ -78,6 +82,7 @@ pub fn reach_chop(
     top: usize,
     intervals: &[u16],
     starts: &[u32],
+    rows: &[u32],
     c: u32,
     k: u32,
     all: u32,
@@ -85,11 +90,23 @@ pub fn reach_chop(
     x: u32,
 ) -> Closed
     requires { ⌜ Node c k block (now values) (now trail) top × (all ≡ countOf k)
-        × (block .rule ≡ Chop) × Tables k (now intervals) (now starts) × (x < countOf k + tripleCountOf k) ⌝ }
+        × (block .rule ≡ Chop) × Tables k (now intervals) (now starts) (now rows) × (x < countOf k + tripleCountOf k) ⌝ }
     ensures { λ r. ⌜ Reaches (nodeClauses c k block) (block .first + x) values trail top r ⌝ }
 {
     if x < all {
-        return reach_interval(values, trail, top, intervals, starts, c, k, all, block, x);
+        return reach_interval(
+            values,
+            trail,
+            top,
+            intervals,
+            starts,
+            rows,
+            c,
+            k,
+            all,
+            block,
+            x,
+        );
     }
     reach_triple(
         values,
@@ -97,6 +114,7 @@ pub fn reach_chop(
         top,
         intervals,
         starts,
+        rows,
         c,
         k,
         all,

@@ -2,11 +2,10 @@
 use search_closing::Closed;
 use table_blocks::Block;
 ghost use mathlib.Core.Path.{_≡_};
-ghost use Prim.Native.Nat.{_*_, _≤_, _<_};
-ghost use lib.ListN.{length};
+ghost use Prim.Native.Nat.{_*_, _<_};
 ghost use Rattle.interval.specs.Places.{countOf};
 ghost use Rattle.table_blocks.specs.declared.Rule.the-variants.{Chop};
-ghost use Rattle.search_decode.specs.Decode.{IntervalsTo};
+ghost use Rattle.search_decode.specs.Decode.{Tables};
 ghost use Rattle.search_fanout.specs.Fanout.{Reaches, nodeClauses, Node, InBlock};
 ghost use Rattle.search_part_chop.specs.Among.{Among};
 
@@ -26,6 +25,8 @@ pub fn reach_chop(
     trail: &mut [u32],
     top: usize,
     intervals: &[u16],
+    starts: &[u32],
+    rows: &[u32],
     c: u32,
     k: u32,
     all: u32,
@@ -33,21 +34,22 @@ pub fn reach_chop(
     u: u32,
 ) -> Closed
     requires { ⌜ Node c k block (now values) (now trail) top × (all ≡ countOf k) × (block .rule ≡ Chop) × (InBlock k block u → ⊥) × (k * c < u) ⌝ }
-    requires { ⌜ (countOf k ≤ length (now intervals)) × IntervalsTo k (now intervals) (countOf k) ⌝ }
+    requires { ⌜ Tables k (now intervals) (now starts) (now rows) ⌝ }
     ensures { λ r. ⌜ Reaches (nodeClauses c k block) u values trail top r ⌝ }
 {
     let left = block.left;
     let right = block.right;
-    let triples = table_nodes::triples_of(table_nodes::beyond(block.first, k), block);
+    let triples = table_nodes::triples_of(table_nodes::beyond(block.first, rows, k), block);
     if among(left, all, u) {
         let v = search_decode::interval_at(intervals, k as usize, (u - left) as usize);
         return search_triples::visit_first(
             values,
             trail,
             top,
+            starts,
+            rows,
             c,
             k,
-            all,
             triples,
             v.i as u32,
             v.j as u32,
@@ -59,6 +61,8 @@ pub fn reach_chop(
             values,
             trail,
             top,
+            starts,
+            rows,
             c,
             k,
             all,

@@ -5,12 +5,12 @@ use table_blocks::Form;
 use table_blocks::Rule;
 ghost use mathlib.Core.Path.{_≡_};
 ghost use mathlib.Core.Bool.{false};
-ghost use Prim.Native.Nat.{_*_, _≤_, _<_};
-ghost use lib.ListN.{length};
+ghost use Prim.Native.Nat.{_*_, _<_};
 ghost use Rattle.interval.specs.Places.{countOf};
+ghost use Rattle.interval.specs.Rows.{RowsOf};
 ghost use Rattle.table_blocks.specs.Blocks.{isChop, formOf};
 ghost use Rattle.table_blocks.specs.declared.Form.the-variants.{Line, Intervals};
-ghost use Rattle.search_decode.specs.Decode.{IntervalsTo};
+ghost use Rattle.search_decode.specs.Decode.{Tables};
 ghost use Rattle.search_fanout.specs.Fanout.{Reaches, nodeClauses, Node, InBlock};
 ghost use Rattle.search_parts.specs.Part.{partsOf};
 
@@ -63,6 +63,7 @@ fn reach_instant(
     values: &mut [u8],
     trail: &mut [u32],
     top: usize,
+    rows: &[u32],
     c: u32,
     k: u32,
     all: u32,
@@ -70,7 +71,7 @@ fn reach_instant(
     u: u32,
 ) -> Closed
     requires { ⌜ Node c k block (now values) (now trail) top × (all ≡ countOf k) × (InBlock k block u → ⊥) × (k * c < u) ⌝ }
-    requires { ⌜ (formOf (block .rule) ≡ Intervals) × (isChop (block .rule) ≡ false) ⌝ }
+    requires { ⌜ (formOf (block .rule) ≡ Intervals) × (isChop (block .rule) ≡ false) × RowsOf k (now rows) ⌝ }
     ensures { λ r. ⌜ Reaches (nodeClauses c k block) u values trail top r ⌝ }
 {
     let left = block.left;
@@ -83,6 +84,7 @@ fn reach_instant(
         values,
         trail,
         top,
+        rows,
         c,
         k,
         all,
@@ -99,6 +101,8 @@ pub fn reach(
     trail: &mut [u32],
     top: usize,
     intervals: &[u16],
+    starts: &[u32],
+    rows: &[u32],
     c: u32,
     k: u32,
     all: u32,
@@ -106,16 +110,28 @@ pub fn reach(
     u: u32,
 ) -> Closed
     requires { ⌜ Node c k block (now values) (now trail) top × (all ≡ countOf k) × (InBlock k block u → ⊥) × (k * c < u) ⌝ }
-    requires { ⌜ (countOf k ≤ length (now intervals)) × IntervalsTo k (now intervals) (countOf k) ⌝ }
+    requires { ⌜ Tables k (now intervals) (now starts) (now rows) ⌝ }
     ensures { λ r. ⌜ Reaches (nodeClauses c k block) u values trail top r ⌝ }
 {
     let rule = block.rule;
     if table_blocks::is_chop(rule) {
-        return search_part_chop::reach_chop(values, trail, top, intervals, c, k, all, block, u);
+        return search_part_chop::reach_chop(
+            values,
+            trail,
+            top,
+            intervals,
+            starts,
+            rows,
+            c,
+            k,
+            all,
+            block,
+            u,
+        );
     }
     match table_blocks::form_of(rule) {
         Form::Line => reach_line(values, trail, top, c, k, block, u),
-        Form::Intervals => reach_instant(values, trail, top, c, k, all, block, u),
+        Form::Intervals => reach_instant(values, trail, top, rows, c, k, all, block, u),
         Form::Triples => search_lines::done(top),
     }
 }

@@ -25,15 +25,16 @@ pub fn close<'a>(
     parents: &[u8; MAX_NODES],
     intervals: &[u16],
     starts: &[u32],
+    rows: &[u32],
     count: usize,
     c: u32,
     k: u32,
 ) -> Closed
-    requires { ⌜ OnGround c k kinds numbers sizes firsts seats parents count values × Tables k (now intervals) (now starts) ⌝ }
+    requires { ⌜ OnGround c k kinds numbers sizes firsts seats parents count values × Tables k (now intervals) (now starts) (now rows) ⌝ }
     requires { ⌜ Pending (tableBy c k (now kinds) (now numbers) (now sizes) (now firsts) count) (now values) (now trail) head top ⌝ }
     ensures { λ r. ⌜ Closes (tableBy c k (old kinds) (old numbers) (old sizes) (old firsts) count) values trail top r ⌝ }
 {
-    let all = Interval::count(k as usize) as u32;
+    let all = Interval::all(rows, k);
     let mut t = top;
     let mut h = head;
     while h < t {
@@ -50,6 +51,7 @@ pub fn close<'a>(
             parents,
             intervals,
             starts,
+            rows,
             count,
             c,
             k,
@@ -83,15 +85,28 @@ pub fn start<'a>(
     parents: &[u8; MAX_NODES],
     intervals: &[u16],
     starts: &[u32],
+    rows: &[u32],
     count: usize,
     c: u32,
     k: u32,
 ) -> Closed
-    requires { ⌜ OnGround c k kinds numbers sizes firsts seats parents count values × Tables k (now intervals) (now starts) ⌝ }
+    requires { ⌜ OnGround c k kinds numbers sizes firsts seats parents count values × Tables k (now intervals) (now starts) (now rows) ⌝ }
     requires { ⌜ Trailing (now values) (now trail) 0 ⌝ }
     ensures { λ r. ⌜ Closes (tableBy c k (old kinds) (old numbers) (old sizes) (old firsts) count) values trail 0 r ⌝ }
 {
-    let r = search_sweeps::sweep(values, trail, 0, kinds, numbers, sizes, firsts, count, c, k);
+    let r = search_sweeps::sweep(
+        values,
+        trail,
+        0,
+        kinds,
+        numbers,
+        sizes,
+        firsts,
+        rows,
+        count,
+        c,
+        k,
+    );
     if r.clash {
         return r;
     }
@@ -108,6 +123,7 @@ pub fn start<'a>(
         parents,
         intervals,
         starts,
+        rows,
         count,
         c,
         k,

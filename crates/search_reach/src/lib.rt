@@ -26,6 +26,7 @@ fn reach_row<'a>(
     parents: &[u8; MAX_NODES],
     intervals: &[u16],
     starts: &[u32],
+    rows: &[u32],
     count: usize,
     c: u32,
     k: u32,
@@ -33,19 +34,43 @@ fn reach_row<'a>(
     u: u32,
 ) -> Closed
     requires { ⌜ OnGround c k kinds numbers sizes firsts seats parents count values × Trailing (now values) (now trail) top ⌝ }
-    requires { ⌜ Tables k (now intervals) (now starts) × (all ≡ countOf k) × (k * c < u) × (u ≤ length (now values)) ⌝ }
+    requires { ⌜ Tables k (now intervals) (now starts) (now rows) × (all ≡ countOf k) × (k * c < u) × (u ≤ length (now values)) ⌝ }
     ensures { λ r. ⌜ Reaches (tableBy c k (old kinds) (old numbers) (old sizes) (old firsts) count) u values trail top r ⌝ }
 {
     let z = search_decode::last_from(firsts, count, u);
-    let block = search_letters::block_of(kinds, numbers, sizes, firsts, seats, k, z);
-    let r = search_own::reach(values, trail, top, intervals, starts, c, k, all, block, u);
+    let block = search_letters::block_of(kinds, numbers, sizes, firsts, seats, k, all, z);
+    let r = search_own::reach(
+        values,
+        trail,
+        top,
+        intervals,
+        starts,
+        rows,
+        c,
+        k,
+        all,
+        block,
+        u,
+    );
     if r.clash {
         return r;
     }
     if z != 0 {
         let y = parents[z] as usize;
-        let up = search_letters::block_of(kinds, numbers, sizes, firsts, seats, k, y);
-        return search_parts::reach(values, trail, r.top, intervals, c, k, all, up, u);
+        let up = search_letters::block_of(kinds, numbers, sizes, firsts, seats, k, all, y);
+        return search_parts::reach(
+            values,
+            trail,
+            r.top,
+            intervals,
+            starts,
+            rows,
+            c,
+            k,
+            all,
+            up,
+            u,
+        );
     }
     let root = seats[0] + k;
     if u != root {
@@ -67,6 +92,7 @@ pub fn reach<'a>(
     parents: &[u8; MAX_NODES],
     intervals: &[u16],
     starts: &[u32],
+    rows: &[u32],
     count: usize,
     c: u32,
     k: u32,
@@ -74,7 +100,7 @@ pub fn reach<'a>(
     u: u32,
 ) -> Closed
     requires { ⌜ OnGround c k kinds numbers sizes firsts seats parents count values × Trailing (now values) (now trail) top ⌝ }
-    requires { ⌜ Tables k (now intervals) (now starts) × (all ≡ countOf k) × Variable (length (now values)) u ⌝ }
+    requires { ⌜ Tables k (now intervals) (now starts) (now rows) × (all ≡ countOf k) × Variable (length (now values)) u ⌝ }
     ensures { λ r. ⌜ Reaches (tableBy c k (old kinds) (old numbers) (old sizes) (old firsts) count) u values trail top r ⌝ }
 {
     if u <= k * c {
@@ -91,6 +117,7 @@ pub fn reach<'a>(
             count,
             c,
             k,
+            all,
             u,
         );
     }
@@ -106,6 +133,7 @@ pub fn reach<'a>(
         parents,
         intervals,
         starts,
+        rows,
         count,
         c,
         k,

@@ -6,6 +6,7 @@ ghost use Prim.Native.Nat.{_+_, _≤_, _<_};
 ghost use lib.ListN.{length};
 ghost use Rattle.interval.specs.Limits.{maxCount};
 ghost use Rattle.interval.specs.Places.{countOf};
+ghost use Rattle.interval.specs.Rows.{RowsOf};
 ghost use Rattle.table_blocks.specs.Blocks.{isChop, definedBy, Bounded};
 ghost use Rattle.paper_clauses.specs.Clauses.{clausesBy};
 ghost use Rattle.table_nodes.specs.Nodes.{choppedBy, nodeBy, Fine};
@@ -18,18 +19,27 @@ fn sweep_block(
     values: &mut [u8],
     trail: &mut [u32],
     top: usize,
+    rows: &[u32],
     c: u32,
     k: u32,
     block: Block,
 ) -> Closed
-    requires { ⌜ (Bounded c k block × (block .points ≤ maxCount)) × Trailing (now values) (now trail) top ⌝ }
+    requires { ⌜ (Bounded c k block × (block .points ≤ maxCount)) × Trailing (now values) (now trail) top × RowsOf k (now rows) ⌝ }
     requires { ⌜ AllMentioned (length (now values)) (definedBy c k block) ⌝ }
     ensures { λ r. ⌜ Visits (clausesBy (definedBy c k block)) values trail top r ⌝ }
 {
-    let mut cursor = Cursor::start(k, block);
+    let mut cursor = Cursor::start(rows, k, block);
     let mut t = top;
     while cursor.place < cursor.end {
-        let gate = table_blocks::gate_at(c, k, cursor.all, block, cursor.place, cursor.position);
+        let gate = table_blocks::gate_at(
+            c,
+            rows,
+            k,
+            cursor.all,
+            block,
+            cursor.place,
+            cursor.position,
+        );
         let r = search_gate::visit(values, trail, t, block.first + cursor.place, gate);
         if r.clash {
             return r;
@@ -48,22 +58,23 @@ fn sweep_chop(
     values: &mut [u8],
     trail: &mut [u32],
     top: usize,
+    rows: &[u32],
     c: u32,
     k: u32,
     block: Block,
 ) -> Closed
-    requires { ⌜ Fine c k block × Trailing (now values) (now trail) top ⌝ }
+    requires { ⌜ Fine c k block × Trailing (now values) (now trail) top × RowsOf k (now rows) ⌝ }
     requires { ⌜ AllMentioned (length (now values)) (choppedBy c k (block .first + countOf k) block) ⌝ }
     ensures { λ r. ⌜ Visits (clausesBy (choppedBy c k (block .first + countOf k) block)) values trail top r ⌝ }
 {
-    let w = table_nodes::beyond(block.first, k);
+    let w = table_nodes::beyond(block.first, rows, k);
     let triples = table_nodes::triples_of(w, block);
     let intervals = table_nodes::intervals_of(w, block);
-    let r = sweep_block(values, trail, top, c, k, triples);
+    let r = sweep_block(values, trail, top, rows, c, k, triples);
     if r.clash {
         return r;
     }
-    sweep_block(values, trail, r.top, c, k, intervals)
+    sweep_block(values, trail, r.top, rows, c, k, intervals)
 }
 
 // A node's own definitions.
@@ -71,17 +82,18 @@ pub fn sweep_node(
     values: &mut [u8],
     trail: &mut [u32],
     top: usize,
+    rows: &[u32],
     c: u32,
     k: u32,
     block: Block,
 ) -> Closed
-    requires { ⌜ Fine c k block × Trailing (now values) (now trail) top ⌝ }
+    requires { ⌜ Fine c k block × Trailing (now values) (now trail) top × RowsOf k (now rows) ⌝ }
     requires { ⌜ AllMentioned (length (now values)) (nodeBy c k block (isChop (block .rule))) ⌝ }
     ensures { λ r. ⌜ Visits (clausesBy (nodeBy c k block (isChop (block .rule)))) values trail top r ⌝ }
 {
     let rule = block.rule;
     if table_blocks::is_chop(rule) {
-        return sweep_chop(values, trail, top, c, k, block);
+        return sweep_chop(values, trail, top, rows, c, k, block);
     }
-    sweep_block(values, trail, top, c, k, block)
+    sweep_block(values, trail, top, rows, c, k, block)
 }

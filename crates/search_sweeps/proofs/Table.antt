@@ -4,17 +4,16 @@ use mathlib.Core.Path.{_≡_, ap}
 use mathlib.Core.Bool.{true, false}
 use mathlib.Core.List.{List}
 use Prim.Native.Nat.{ℕ, _+_}
-use Rattle.lists.specs.Listing.{rows}
 use Rattle.paper_circuit.specs.declared.Gate.the-variants.{Constant}
 use Rattle.paper_clauses.specs.Clauses.{clausesOf}
 use Rattle.search_closing.specs.declared.Closed.{Closed as Ended}
 use Rattle.table_layout.specs.Rows.{seatBy}
 use Rattle.search_visits.specs.Visits.{Visited}
 use Rattle.search_visits.proofs.Parts.{visited-named, visited-stop, visited-then}
-use Rattle.search_clauses.specs.Clauses.{rowClauses, tableBy}
+use Rattle.search_clauses.specs.Clauses.{nodesBy, tableBy}
 
 module _ (C k : ℕ) (kinds numbers sizes firsts : List ℕ) (n : ℕ) {v₀ t₀ v₁ t₁ : List ℕ} {top₀ : ℕ} {r : Ended}
-    (w : Visited (rows n (rowClauses C k kinds numbers sizes firsts)) v₀ t₀ top₀ v₁ t₁ r) where
+    (w : Visited (nodesBy C k kinds numbers sizes firsts n) v₀ t₀ top₀ v₁ t₁ r) where
   pub nodes-clash : r .clash ≡ true → Visited (tableBy C k kinds numbers sizes firsts n) v₀ t₀ top₀ v₁ t₁ r
   unfolding tableBy
   nodes-clash e = visited-stop w (clausesOf (seatBy kinds numbers firsts k 0 + k) (Constant true)) e

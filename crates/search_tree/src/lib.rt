@@ -18,11 +18,12 @@ pub fn start(
     parents: &[u8; MAX_NODES],
     intervals: &[u16],
     starts: &[u32],
+    rows: &[u32],
     c: u32,
     k: u32,
     limit: u32,
 ) -> Below
-    requires { ⌜ GroundOf c k table firsts seats parents values × Tables k (now intervals) (now starts) ⌝ }
+    requires { ⌜ GroundOf c k table firsts seats parents values × Tables k (now intervals) (now starts) (now rows) ⌝ }
     requires { ⌜ (length (now values) ≤ length (now trail)) × (length (now values) < 2 ^ 32) ⌝ }
     ensures { λ r. ⌜ Started (tableClauses c k table (old firsts)) (length (old values)) (k * c) limit (new values) r ⌝ }
 {
@@ -38,6 +39,7 @@ pub fn start(
         parents,
         intervals,
         starts,
+        rows,
         table.count,
         c,
         k,
@@ -52,6 +54,7 @@ pub fn start(
         parents,
         intervals,
         starts,
+        rows,
         c,
         k,
         limit,

@@ -36,11 +36,12 @@ pub fn descend(
     parents: &[u8; MAX_NODES],
     intervals: &[u16],
     starts: &[u32],
+    rows: &[u32],
     c: u32,
     k: u32,
     limit: u32,
 ) -> Below
-    requires { ⌜ GroundOf c k table firsts seats parents values × Tables k (now intervals) (now starts) ⌝ }
+    requires { ⌜ GroundOf c k table firsts seats parents values × Tables k (now intervals) (now starts) (now rows) ⌝ }
     requires { ⌜ Holding (tableClauses c k table (now firsts)) nothing (now values) (now trail) closed ⌝ }
     ensures { λ r. ⌜ Started (tableClauses c k table (old firsts)) (length (old values)) (k * c) limit (new values) r ⌝ }
 {
@@ -71,6 +72,7 @@ pub fn descend(
                 parents,
                 intervals,
                 starts,
+                rows,
                 table.count,
                 c,
                 k,
@@ -99,6 +101,7 @@ pub fn descend(
             parents,
             intervals,
             starts,
+            rows,
             table.count,
             c,
             k,

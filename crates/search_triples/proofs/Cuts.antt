@@ -3,6 +3,7 @@
 use mathlib.Core.Path.{_≡_, sym, ap, ap₂, _∙_, subst}
 use mathlib.Core.List.{List}
 use Prim.Native.Nat.{ℕ, suc, _+_, _-_, _^_, _≤_, _<_}
+use native.Mathlib.Nat.{zero-add}
 use native.Mathlib.Omega.{arith}
 use lib.ListN.{length}
 use Rattle.lists.specs.Listing.{sum}
@@ -81,7 +82,7 @@ pub record Firsts (k : ℕ) (b : Block) (i m x y v e : ℕ) : Type 0 where
 
 pub first-begun : {k : ℕ} {b : Block} {i m p y v : ℕ} → b .rule ≡ Cut → i ≤ m → m ≤ k →
     p ≡ placeOf k (record { i = i; j = i + (m - i) }) → y ≡ placeOf k (record { i = m; j = m + 0 })
-    → v ≡ triplePlaceOf k (record { i = i; m = m; j = m }) → Firsts k b i m (b .left + p) y (b .first + v) 0
+    → v ≡ triplePlaceOf k (record { i = i; m = i + (m - i); j = i + (m - i) }) → Firsts k b i m (b .left + p) y (b .first + v) 0
 first-begun {k} {b} {i} {m} c o h e f g =
     let a : i + (m - i) ≡ m = omega arith in
     let z : m + 0 ≡ m = omega arith in
@@ -91,7 +92,7 @@ first-begun {k} {b} {i} {m} c o h e f g =
       ends = h;
       left = ap (λ (p : ℕ). b .left + p) (e ∙ ap (λ (j : ℕ). placeOf k (record { i = i; j = j })) a);
       right = f ∙ ap (λ (j : ℕ). placeOf k (record { i = m; j = j })) z;
-      here = λ _. ap (λ (p : ℕ). b .first + p) (g ∙ ap (λ (j : ℕ). triplePlaceOf k (record { i = i; m = m; j = j })) (sym z));
+      here = λ _. ap (λ (p : ℕ). b .first + p) (g ∙ ap₂ (λ (m j : ℕ). triplePlaceOf k (record { i = i; m = m; j = j })) a (a ∙ sym z));
     }
 
 module _ {k : ℕ} {b : Block} {i m x y v e : ℕ} (f : Firsts k b i m x y v e) (h : e < k - m + 1) where
@@ -172,7 +173,7 @@ pub record Seconds (k : ℕ) (b : Block) (m j y x v row i : ℕ) : Type 0 where
   pub here : i ≤ m → v ≡ b .first + triplePlaceOf k (record { i = i; m = m; j = j })
 
 pub second-begun : {k : ℕ} {b : Block} {m j y v row : ℕ} → b .rule ≡ Cut → m ≤ j → j ≤ k → y ≡ placeOf k (record { i = m; j = m + (j - m) }) → row ≡ countOf k
-    → v ≡ triplePlaceOf k (record { i = 0; m = m; j = j }) → Seconds k b m j y (b .left + m) (b .first + v) row 0
+    → v ≡ triplePlaceOf k (record { i = 0; m = 0 + m; j = 0 + j }) → Seconds k b m j y (b .left + m) (b .first + v) row 0
 unfolding sum
 second-begun {k} {b} {m} {j} c o h e f g =
     let a : m + (j - m) ≡ j = omega arith in
@@ -184,7 +185,7 @@ second-begun {k} {b} {m} {j} c o h e f g =
       right = e ∙ ap (λ (j : ℕ). placeOf k (record { i = m; j = j })) a;
       many = f ∙ sym (triangle-count k) ∙ ap (sum suc) z;
       left = λ _. omega (arith, interval-place k (record { i = 0; j = m }) (record { starts = omega arith; ends = omega arith }));
-      here = λ _. ap (λ (p : ℕ). b .first + p) g;
+      here = λ _. ap (λ (p : ℕ). b .first + p) (g ∙ ap₂ (λ (m j : ℕ). triplePlaceOf k (record { i = 0; m = m; j = j })) (zero-add m) (zero-add j));
     }
 
 module _ {k : ℕ} {b : Block} {m j y x v row i : ℕ} (f : Seconds k b m j y x v row i) (h : i < m + 1) where

@@ -1,4 +1,5 @@
 // One gate of a block, visited in its place: a chop's, a triple's, or that of a block of one line.
+use interval::Interval;
 use search_closing::Closed;
 use table_blocks::Block;
 use table_blocks::Position;
@@ -6,6 +7,7 @@ use table_blocks::Rule;
 ghost use mathlib.Core.Path.{_≡_};
 ghost use Prim.Native.Nat.{_^_, _<_};
 ghost use Rattle.interval.specs.Places.{countOf};
+ghost use Rattle.interval.specs.Rows.{RowsOf};
 ghost use Rattle.table_blocks.specs.Blocks.{formOf, definedBy, Placed, Before, Bounded};
 ghost use Rattle.table_blocks.specs.declared.Form.the-variants.{Line};
 ghost use Rattle.table_blocks.specs.declared.Rule.the-variants.{Chop, Cut};
@@ -19,6 +21,7 @@ pub fn visit_at(
     values: &mut [u8],
     trail: &mut [u32],
     top: usize,
+    rows: &[u32],
     c: u32,
     k: u32,
     all: u32,
@@ -26,12 +29,12 @@ pub fn visit_at(
     x: u32,
     p: Position,
 ) -> Closed
-    requires { ⌜ Standing c k block (now values) (now trail) top × (all ≡ countOf k) ⌝ }
+    requires { ⌜ Standing c k block (now values) (now trail) top × (all ≡ countOf k) × RowsOf k (now rows) ⌝ }
     requires { ⌜ Placed (block .points) k (block .rule) x (p .row) (p .line) (p .cell) × (block .rule ≡ Chop → Before (block .points) k Chop p) ⌝ }
     ensures { λ r. ⌜ Visits (clausesAt (definedBy c k block) x) values trail top r ⌝ }
 {
     let first = block.first;
-    let gate = table_blocks::gate_at(c, k, all, block, x, p);
+    let gate = table_blocks::gate_at(c, rows, k, all, block, x, p);
     search_gate::visit(values, trail, top, first + x, gate)
 }
 
@@ -40,22 +43,22 @@ pub fn visit_cut(
     values: &mut [u8],
     trail: &mut [u32],
     top: usize,
+    rows: &[u32],
     c: u32,
     k: u32,
-    all: u32,
     block: Block,
     x: u32,
     i: u32,
     d: u32,
     e: u32,
 ) -> Closed
-    requires { ⌜ Standing c k block (now values) (now trail) top × (all ≡ countOf k) × (block .rule ≡ Cut) ⌝ }
+    requires { ⌜ Standing c k block (now values) (now trail) top × RowsOf k (now rows) × (block .rule ≡ Cut) ⌝ }
     requires { ⌜ Placed (block .points) k (block .rule) x i d e ⌝ }
     ensures { λ r. ⌜ Visits (clausesAt (definedBy c k block) x) values trail top r ⌝ }
 {
     let v = block.first + x;
-    let first = block.left + table_blocks::place(i, e, k, all);
-    let second = block.right + table_blocks::place(i + e, d - e, k, all);
+    let first = block.left + Interval::place(rows, k, i, e);
+    let second = block.right + Interval::place(rows, k, i + e, d - e);
     search_patterns::settle_both(values, trail, top, v, first, second)
 }
 

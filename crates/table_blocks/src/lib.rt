@@ -3,7 +3,8 @@ use interval::Interval;
 use paper_circuit::Gate;
 ghost use mathlib.Core.Path.{_≡_};
 ghost use Prim.Native.Nat.{_+_, _-_, _^_, _≤_, _<_};
-ghost use Rattle.interval.specs.Places.{countOf, placeOf};
+ghost use Rattle.interval.specs.Places.{countOf};
+ghost use Rattle.interval.specs.Rows.{RowsOf};
 ghost use Rattle.interval.specs.Limits.{maxSteps};
 ghost use Rattle.paper_circuit.specs.Circuit.{channelOf};
 ghost use Rattle.table_blocks.specs.declared.Rule.the-variants.{Chop};
@@ -165,14 +166,6 @@ pub fn next(rule: Rule, points: u32, k: u32, p: Position) -> Position
     }
 }
 
-// The place of the interval of so many steps from i on, k steps having I intervals in all.
-pub fn place(i: u32, steps: u32, k: u32, all: u32) -> u32
-    requires { ⌜ (i + steps ≤ k) × (k ≤ maxSteps) × (all ≡ countOf k) ⌝ }
-    ensures { λ r. ⌜ (r ≡ placeOf k (record { i = i; j = i + steps })) × (r < bound) ⌝ }
-{
-    Interval::place_from(i, steps, k, all)
-}
-
 // Level a of a duration on the interval of d steps from i on, in place x of its block from b on, the state assertion from s on.
 fn level_gate(k: u32, all: u32, b: u32, s: u32, x: u32, a: u32, i: u32, d: u32) -> Gate
     requires { ⌜ (k ≤ maxSteps) × (all ≡ countOf k) × (b < bound) × (s < bound) × (x < 2 ^ 24) × (i + d ≤ k) × ((1 ≤ a) → (1 ≤ d) → 1 + countOf k ≤ x) ⌝ }
@@ -203,11 +196,15 @@ fn throughout_gate(v: u32, s: u32, i: u32, d: u32) -> Gate
 }
 
 // The triple that starts at a, of i steps, chopped after d.
-fn triple_gate(k: u32, all: u32, l: u32, r: u32, a: u32, i: u32, d: u32) -> Gate
-    requires { ⌜ (k ≤ maxSteps) × (all ≡ countOf k) × (l < bound) × (r < bound) × (d ≤ i) × (a + i ≤ k) ⌝ }
+fn triple_gate(rows: &[u32], k: u32, l: u32, r: u32, a: u32, i: u32, d: u32) -> Gate
+    requires { ⌜ (k ≤ maxSteps) × (l < bound) × (r < bound) × (d ≤ i) × (a + i ≤ k) ⌝ }
+    requires { ⌜ RowsOf k (now rows) ⌝ }
     ensures { λ z. ⌜ z ≡ tripleBy k l r a i d ⌝ }
 {
-    Gate::Both(l + place(a, d, k, all), r + place(a + d, i - d, k, all))
+    Gate::Both(
+        l + Interval::place(rows, k, a, d),
+        r + Interval::place(rows, k, a + d, i - d),
+    )
 }
 
 // The variable of a channel at instant t.
@@ -218,9 +215,9 @@ fn channel_variable(c: u32, t: u32, channel: u32) -> u32
     1 + t * c + channel
 }
 
-// The gate in place x of a block, at position p; k steps have I intervals in all.
-pub fn gate_at(c: u32, k: u32, all: u32, block: Block, x: u32, p: Position) -> Gate
-    requires { ⌜ Bounded c k block × (x < 2 ^ 24) × (all ≡ countOf k) ⌝ }
+// The gate in place x of a block, at position p; k steps have the rows of intervals lent, and I intervals in all.
+pub fn gate_at(c: u32, rows: &[u32], k: u32, all: u32, block: Block, x: u32, p: Position) -> Gate
+    requires { ⌜ Bounded c k block × (x < 2 ^ 24) × (all ≡ countOf k) × RowsOf k (now rows) ⌝ }
     requires { ⌜ Placed (block .points) k (block .rule) x (p .row) (p .line) (p .cell) × (block .rule ≡ Chop → Before (block .points) k (block .rule) p) ⌝ }
     ensures { λ r. ⌜ r ≡ gateOf c k block x (p .row) (p .line) (p .cell) ⌝ }
 {
@@ -237,6 +234,6 @@ pub fn gate_at(c: u32, k: u32, all: u32, block: Block, x: u32, p: Position) -> G
         Rule::Chop => Gate::AnyOf(left + p.before, p.cell + 1),
         Rule::Duration(_) => level_gate(k, all, first, left, x, p.row, p.line, p.cell),
         Rule::Throughout => throughout_gate(first + x, left, p.line, p.cell),
-        Rule::Cut => triple_gate(k, all, left, right, p.row, p.line, p.cell),
+        Rule::Cut => triple_gate(rows, k, left, right, p.row, p.line, p.cell),
     }
 }

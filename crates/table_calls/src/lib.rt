@@ -1,4 +1,5 @@
 // The clause table of a formula, written to lent arrays block by block.
+use interval::Interval;
 use node_rows::NodeTable;
 use paper_grammar::MAX_NODES;
 use refusal::Reply;
@@ -10,6 +11,7 @@ ghost use lib.ListN.{length};
 ghost use Rattle.moments.specs.Moments.{old, new, over};
 ghost use Rattle.paper_grammar.specs.Limits.{maxNodes, maxChannels};
 ghost use Rattle.interval.specs.Limits.{maxSteps};
+ghost use Rattle.interval.specs.Rows.{RowsOf};
 ghost use Rattle.paper_grammar.specs.Trees.{Tree};
 ghost use Rattle.paper_grammar.specs.declared.Sort.the-variants.{Formula};
 ghost use Rattle.table_literals.specs.Written.{Room};
@@ -27,10 +29,11 @@ fn put_nodes(
     table: NodeTable,
     firsts: &[u32; MAX_NODES],
     c: u32,
+    rows: &[u32],
     k: u32,
 ) -> usize
     requires { ⌜ Room (now variables) (now marks) 0 (nodesPlaces c k table (now firsts)) ⌝ }
-    requires { ⌜ (c ≤ maxChannels) × (k ≤ maxSteps) × (table .count ≤ maxNodes) × Low (now firsts) ⌝ }
+    requires { ⌜ (c ≤ maxChannels) × (k ≤ maxSteps) × (table .count ≤ maxNodes) × Low (now firsts) × RowsOf k (now rows) ⌝ }
     ensures { λ r. ⌜ Writes variables marks 0 (nodesPlaces c k table (old firsts)) r ⌝ }
 {
     let mut at = 0;
@@ -43,7 +46,7 @@ fn put_nodes(
             k,
             x,
         );
-        at = table_nodes::put_node(variables, marks, at, c, k, block);
+        at = table_nodes::put_node(variables, marks, at, c, rows, k, block);
     }
     at
 }
@@ -61,7 +64,9 @@ fn put_table(
     requires { ⌜ (c ≤ maxChannels) × (k ≤ maxSteps) × (table .count ≤ maxNodes) × Low (now firsts) ⌝ }
     ensures { λ r. ⌜ Writes variables marks 0 (tablePlaces c k table (old firsts)) r ⌝ }
 {
-    let at = put_nodes(variables, marks, table, firsts, c, k);
+    let mut rows = [0; Interval::MAX_ROWS];
+    Interval::put_rows(&mut rows, k);
+    let at = put_nodes(variables, marks, table, firsts, c, &rows, k);
     let root = table_layout::seat(&table.kinds, &table.numbers, firsts, k, 0) + k;
     table_literals::put_run(variables, marks, at, root, 1, paper_clauses::LAST_PLAIN)
 }

@@ -88,7 +88,7 @@ pub fn block_at<'a>(
     let right = seat(kinds, numbers, firsts, k, node_calls::second(sizes, x));
     Block {
         rule: table_blocks::rule_of(kind, node_rows::byte_at(numbers, x)),
-        points: table_sizes::points_of(kind, k),
+        points: table_sizes::points_of(kind, k, Interval::count(k as usize) as u32),
         first: number_at(firsts, x),
         left,
         right,

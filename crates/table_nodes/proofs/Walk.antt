@@ -10,6 +10,7 @@ use lib.ListN.{length}
 use Rattle.lists.specs.Listing.{rows}
 use Rattle.interval.specs.Limits.{maxSteps, maxCount}
 use Rattle.interval.specs.Places.{countOf, tripleCountOf}
+use Rattle.interval.specs.Rows.{RowsOf}
 use Rattle.interval.specs.declared.Triple.{Triple}
 use Rattle.interval.proofs.Shape.{place, getD-per}
 use Rattle.interval.proofs.Counts.{triple-count-le}
@@ -141,10 +142,10 @@ module _ (C k : ℕ) (block : Block) {x a i d : ℕ} (p : Placed (block .points)
 
 -- the gate at the cursor
 module _ {C k : ℕ} {block : Block} (b : Bounded C k block) {c : Cursor} (w : Walks k block c) (h : c .place < c .end) where
-  pub gate-asked : (Bounded C k block × (c .place < 2 ^ 24) × (c .all ≡ countOf k))
+  pub gate-asked : {starts : List ℕ} → RowsOf k starts → (Bounded C k block × (c .place < 2 ^ 24) × (c .all ≡ countOf k) × RowsOf k starts)
       × (Placed (block .points) k (block .rule) (c .place) (c .position .row) (c .position .line) (c .position .cell) ×
       (block .rule ≡ Chop → Before (block .points) k (block .rule) (c .position)))
-  gate-asked = ((b, omega (arith, w .few), w .intervals), (w .here h, λ _. w .before))
+  gate-asked o = ((b, omega (arith, w .few), w .intervals, o), (w .here h, λ _. w .before))
 
   pub gate-defined : {gate : Gate} → gate ≡ gateOf C k block (c .place) (c .position .row) (c .position .line) (c .position .cell) → DefinedAt C k block (c .place) gate
   gate-defined g = defined-at C k block (w .here h) g b

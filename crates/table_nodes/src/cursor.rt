@@ -5,6 +5,7 @@ use table_blocks::Block;
 use table_blocks::Position;
 ghost use mathlib.Core.Path.{_≡_};
 ghost use Prim.Native.Nat.{_+_, _<_};
+ghost use Rattle.interval.specs.Rows.{RowsOf};
 ghost use Rattle.table_nodes.specs.Walk.{Walkable, Walks};
 
 // Where a walk stands: at a place, past the last one at `end`, and at that place's position; k steps have I intervals in `all`.
@@ -17,15 +18,15 @@ pub struct Cursor {
 
 impl Cursor {
     // At the first gate.
-    pub fn start(k: u32, block: Block) -> Cursor
-        requires { ⌜ Walkable k block ⌝ }
+    pub fn start(rows: &[u32], k: u32, block: Block) -> Cursor
+        requires { ⌜ Walkable k block × RowsOf k (now rows) ⌝ }
         ensures { λ r. ⌜ Walks k block r × (r .place ≡ 0) ⌝ }
     {
         let rule = block.rule;
         Cursor {
             place: 0,
             end: table_sizes::weigh(table_sizes::variables(), k, block.points, rule),
-            all: Interval::count(k as usize) as u32,
+            all: Interval::all(rows, k),
             position: Position {
                 row: 0,
                 line: 0,

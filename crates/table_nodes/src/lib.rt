@@ -9,6 +9,7 @@ ghost use mathlib.Core.Path.{_≡_};
 ghost use Prim.Native.Nat.{_+_, _≤_};
 ghost use Rattle.interval.specs.Places.{countOf};
 ghost use Rattle.interval.specs.Limits.{maxSteps, maxCount};
+ghost use Rattle.interval.specs.Rows.{RowsOf};
 ghost use Rattle.table_blocks.specs.Blocks.{definedBy, Bounded};
 ghost use Rattle.table_sizes.specs.Weights.{maxSum};
 ghost use Rattle.paper_clauses.specs.Clauses.{clausesBy};
@@ -23,17 +24,26 @@ fn walk_block(
     marks: &mut [u8],
     at: usize,
     c: u32,
+    rows: &[u32],
     k: u32,
     block: Block,
 ) -> usize
     requires { ⌜ Room (now variables) (now marks) at (flat (clausesBy (definedBy c k block))) ⌝ }
-    requires { ⌜ Bounded c k block × (block .points ≤ maxCount) ⌝ }
+    requires { ⌜ Bounded c k block × (block .points ≤ maxCount) × RowsOf k (now rows) ⌝ }
     ensures { λ r. ⌜ Writes variables marks at (flat (clausesBy (definedBy c k block))) r ⌝ }
 {
-    let mut cursor = Cursor::start(k, block);
+    let mut cursor = Cursor::start(rows, k, block);
     let mut b = at;
     while cursor.place < cursor.end {
-        let gate = table_blocks::gate_at(c, k, cursor.all, block, cursor.place, cursor.position);
+        let gate = table_blocks::gate_at(
+            c,
+            rows,
+            k,
+            cursor.all,
+            block,
+            cursor.place,
+            cursor.position,
+        );
         b = table_gates::put_gate(variables, marks, b, block.first + cursor.place, gate);
         cursor = cursor.next(k, block);
     }
@@ -46,11 +56,12 @@ fn put_block(
     marks: &mut [u8],
     at: usize,
     c: u32,
+    rows: &[u32],
     k: u32,
     block: Block,
 ) -> usize
     requires { ⌜ Room (now variables) (now marks) at (flat (clausesBy (definedBy c k block))) ⌝ }
-    requires { ⌜ Bounded c k block × (block .points ≤ maxCount) ⌝ }
+    requires { ⌜ Bounded c k block × (block .points ≤ maxCount) × RowsOf k (now rows) ⌝ }
     ensures { λ r. ⌜ Writes variables marks at (flat (clausesBy (definedBy c k block))) r ⌝ }
 {
     let rule = block.rule;
@@ -64,15 +75,15 @@ fn put_block(
             table_literals::closing(up),
         );
     }
-    walk_block(variables, marks, at, c, k, block)
+    walk_block(variables, marks, at, c, rows, k, block)
 }
 
 // Where a chop's triples begin: after its intervals.
-pub fn beyond(first: u32, k: u32) -> u32
-    requires { ⌜ (first ≤ maxSum) × (k ≤ maxSteps) ⌝ }
+pub fn beyond(first: u32, rows: &[u32], k: u32) -> u32
+    requires { ⌜ (first ≤ maxSum) × (k ≤ maxSteps) × RowsOf k (now rows) ⌝ }
     ensures { λ r. ⌜ r ≡ first + countOf k ⌝ }
 {
-    first + Interval::count(k as usize) as u32
+    first + Interval::all(rows, k)
 }
 
 // A chop's triples, from w on.
@@ -107,18 +118,19 @@ fn put_chop(
     marks: &mut [u8],
     at: usize,
     c: u32,
+    rows: &[u32],
     k: u32,
     block: Block,
 ) -> usize
     requires { ⌜ Room (now variables) (now marks) at (flat (clausesBy (choppedBy c k (block .first + countOf k) block))) ⌝ }
-    requires { ⌜ Fine c k block ⌝ }
+    requires { ⌜ Fine c k block × RowsOf k (now rows) ⌝ }
     ensures { λ r. ⌜ Writes variables marks at (flat (clausesBy (choppedBy c k (block .first + countOf k) block))) r ⌝ }
 {
-    let w = beyond(block.first, k);
+    let w = beyond(block.first, rows, k);
     let triples = triples_of(w, block);
     let intervals = intervals_of(w, block);
-    let b = put_block(variables, marks, at, c, k, triples);
-    put_block(variables, marks, b, c, k, intervals)
+    let b = put_block(variables, marks, at, c, rows, k, triples);
+    put_block(variables, marks, b, c, rows, k, intervals)
 }
 
 // The clauses of a node's own definitions.
@@ -127,16 +139,17 @@ pub fn put_node(
     marks: &mut [u8],
     at: usize,
     c: u32,
+    rows: &[u32],
     k: u32,
     block: Block,
 ) -> usize
     requires { ⌜ Room (now variables) (now marks) at (nodePlaces c k block) ⌝ }
-    requires { ⌜ Fine c k block ⌝ }
+    requires { ⌜ Fine c k block × RowsOf k (now rows) ⌝ }
     ensures { λ r. ⌜ Writes variables marks at (nodePlaces c k block) r ⌝ }
 {
     let rule = block.rule;
     if table_blocks::is_chop(rule) {
-        return put_chop(variables, marks, at, c, k, block);
+        return put_chop(variables, marks, at, c, rows, k, block);
     }
-    put_block(variables, marks, at, c, k, block)
+    put_block(variables, marks, at, c, rows, k, block)
 }

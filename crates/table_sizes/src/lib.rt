@@ -8,6 +8,7 @@ ghost use Prim.Native.Nat.{_≤_, _*_, _^_};
 ghost use lib.ListN.{length};
 ghost use Rattle.moments.specs.Moments.{old, new};
 ghost use Rattle.interval.specs.Limits.{maxSteps, maxCount};
+ghost use Rattle.interval.specs.Places.{countOf};
 ghost use Rattle.paper_grammar.specs.Limits.{maxNodes};
 ghost use Rattle.table_sizes.specs.Weights.{variableWeight, clauseWeight, literalWeight, longerBy, weightBy, maxWeight, Light, Small, pointsBy};
 ghost use Rattle.table_sizes.specs.Weights.{rowWeight, Summed};
@@ -81,16 +82,12 @@ pub fn weigh(w: Weight, k: u32, points: u32, rule: Rule) -> u32
     }
 }
 
-// How many instants or intervals a node of this kind is judged on.
-pub fn points_of(kind: u8, k: u32) -> u32
-    requires { ⌜ k ≤ maxSteps ⌝ }
+// How many instants or intervals a node of this kind is judged on; k steps have I intervals in all.
+pub fn points_of(kind: u8, k: u32, all: u32) -> u32
+    requires { ⌜ (k ≤ maxSteps) × (all ≡ countOf k) ⌝ }
     ensures { λ r. ⌜ (r ≡ pointsBy k kind) × (r ≤ maxCount) ⌝ }
 {
-    if kind < node_rows::FORMULA {
-        k
-    } else {
-        Interval::count(k as usize) as u32
-    }
+    if kind < node_rows::FORMULA { k } else { all }
 }
 
 // The weight of a node's gates, by its kind and number in the node table.
@@ -98,7 +95,7 @@ fn row_weight(kind: u8, number: u8, k: u32, w: Weight) -> u32
     requires { ⌜ Small w k ⌝ }
     ensures { λ r. ⌜ (r ≡ rowWeight w k kind number) × (r ≤ 2 * maxWeight) ⌝ }
 {
-    let points = points_of(kind, k);
+    let points = points_of(kind, k, Interval::count(k as usize) as u32);
     let rule = table_blocks::rule_of(kind, number);
     let own = weigh(w, k, points, rule);
     if table_blocks::is_chop(rule) {

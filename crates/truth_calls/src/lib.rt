@@ -27,8 +27,18 @@ fn holds_on(table: NodeTable, recording: &[u8], v: Interval) -> bool
     requires { ⌜ (length (now recording) ≤ maxSteps) × IntervalOf (length (now recording)) v ⌝ }
     ensures { λ r. ⌜ AtRow (old recording) (table .kinds) (table .numbers) (table .sizes) Formula 0 (λ f. r ≡ f v) ⌝ }
 {
-    let t = truth_rows::table_at(&table.kinds, &table.numbers, &table.sizes, recording, 0);
-    t[v.place(recording.len())] == 1
+    let k = recording.len() as u32;
+    let mut rows = [0; Interval::MAX_ROWS];
+    Interval::put_rows(&mut rows, k);
+    let t = truth_rows::table_at(
+        &table.kinds,
+        &table.numbers,
+        &table.sizes,
+        recording,
+        &rows,
+        0,
+    );
+    t[Interval::place(&rows, k, v.i as u32, (v.j - v.i) as u32) as usize] == 1
 }
 
 // What an accepted formula and an interval answer: questions 10 and 11, then the truth. Only a recording of k bytes is asked the last.

@@ -11,11 +11,12 @@ use lib.ListN.{length, getD}
 use borrow.Author.Tests.{ltb-true, ltb-false}
 use borrow.Rule.Slice.PartMut.{midOf, putMid, mid-len}
 use Rattle.interval.specs.Places.{countOf}
+use Rattle.interval.specs.Rows.{startOf}
 use Rattle.interval.specs.declared.Interval.{Interval}
 use Rattle.lists.proofs.Tests.{both}
 use Rattle.paper_meaning.specs.Meaning.{bit, any, chops}
 use Rattle.paper_meaning.proofs.Laws.{some-one}
-use Rattle.truth_table.specs.Table.{TableOf, RowOf, startOf}
+use Rattle.truth_table.specs.Table.{TableOf, RowOf}
 use Rattle.truth_skips.specs.Rows.{NextRows, Within}
 use Rattle.truth_table.proofs.Rows.{row-ends, row-entry, put-length, put-before, put-within, part-entry}
 

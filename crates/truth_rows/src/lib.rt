@@ -9,6 +9,7 @@ ghost use Prim.Native.Nat.{_≤_};
 ghost use lib.ListN.{length};
 ghost use Rattle.moments.specs.Moments.{old};
 ghost use Rattle.interval.specs.Limits.{maxSteps};
+ghost use Rattle.interval.specs.Rows.{RowsOf};
 ghost use Rattle.paper_grammar.specs.declared.Sort.the-variants.{State, Formula};
 ghost use Rattle.paper_meaning.specs.Words.{WordOf};
 ghost use Rattle.truth_table.specs.Table.{TableOf};
@@ -50,9 +51,10 @@ pub fn table_at<'a>(
     numbers: &'a [u8; MAX_NODES],
     sizes: &'a [u8; MAX_NODES],
     recording: &[u8],
+    rows: &[u32],
     x: usize,
 ) -> [u8; Interval::MAX_COUNT]
-    requires { ⌜ length (now recording) ≤ maxSteps ⌝ }
+    requires { ⌜ (length (now recording) ≤ maxSteps) × RowsOf (length (now recording)) (now rows) ⌝ }
     ensures { λ r. ⌜ AtRow (old recording) (old kinds) (old numbers) (old sizes) Formula x (λ f. TableOf (length (old recording)) f r) ⌝ }
 {
     let k = recording.len();
@@ -69,17 +71,17 @@ pub fn table_at<'a>(
             return truth_table::measured_table(Measure::Throughout, word, k);
         }
         node_rows::NOT => {
-            let mut p = table_at(kinds, numbers, sizes, recording, x + 1);
-            truth_table::inverse(&mut p, k);
+            let mut p = table_at(kinds, numbers, sizes, recording, rows, x + 1);
+            truth_table::inverse(&mut p, rows, k);
             return p;
         }
         _ => {
-            let mut p = table_at(kinds, numbers, sizes, recording, x + 1);
-            let q = table_at(kinds, numbers, sizes, recording, second(sizes, x));
+            let mut p = table_at(kinds, numbers, sizes, recording, rows, x + 1);
+            let q = table_at(kinds, numbers, sizes, recording, rows, second(sizes, x));
             if kind == node_rows::CHOP {
-                return truth_chop::chop_table(&p, &q, k);
+                return truth_chop::chop_table(&p, &q, rows, k);
             }
-            truth_table::join(kind == node_rows::AND, &mut p, &q, k);
+            truth_table::join(kind == node_rows::AND, &mut p, &q, rows, k);
             return p;
         }
     }

@@ -16,11 +16,13 @@ use borrow.Rule.Slice.PartMut.{mid-len}
 use borrow.Author.Tests.{eqb-true, ltb-true, ltb-false}
 use Rattle.interval.specs.Limits.{maxSteps}
 use Rattle.interval.specs.Places.{countOf}
+use Rattle.interval.specs.Rows.{startOf}
 use Rattle.interval.specs.declared.Interval.{Interval}
+use Rattle.interval.proofs.Rows.{row-next}
 use Rattle.paper_meaning.specs.Meaning.{bit}
-use Rattle.truth_table.specs.Table.{TableOf, startOf}
+use Rattle.truth_table.specs.Table.{TableOf}
 use Rattle.truth_skips.specs.Rows.{NextRows, Within}
-use Rattle.truth_table.proofs.Rows.{row-next, row-ends, row-entry, part-entry}
+use Rattle.truth_table.proofs.Rows.{row-ends, row-entry, part-entry}
 
 -- nothing has been found beyond, up to d
 pub record NoneBeyond (row other : List ℕ) (d more : ℕ) : Type 0 where

@@ -9,6 +9,7 @@ ghost use lib.ListN.{length, getD};
 ghost use Rattle.moments.specs.Moments.{old};
 ghost use Rattle.interval.specs.Limits.{maxSteps};
 ghost use Rattle.interval.specs.Places.{countOf};
+ghost use Rattle.interval.specs.Rows.{RowsOf};
 ghost use Rattle.interval.specs.declared.Interval.{Interval};
 ghost use Rattle.truth_table.specs.Table.{TableOf};
 ghost use Rattle.truth_skips.specs.Rows.{NextRows, Within};
@@ -33,13 +34,13 @@ fn next_row(more: u8, m: usize, later: usize) -> usize
 }
 
 // For each row of Q's table a later one, such that those between are within it: k + 1 where all that follow are.
-pub fn next_rows(q: &[u8], k: usize) -> [usize; Interval::MAX_ENDS]
-    requires { ⌜ (k ≤ maxSteps) × (countOf k ≤ length (now q)) ⌝ }
+pub fn next_rows(q: &[u8], rows: &[u32], k: usize) -> [usize; Interval::MAX_ENDS]
+    requires { ⌜ (k ≤ maxSteps) × (countOf k ≤ length (now q)) × RowsOf k (now rows) ⌝ }
     ensures { λ r. ⌜ NextRows k r × ((g : Interval → Bool) → TableOf k g (old q) → Within k g r) ⌝ }
 {
     let mut nexts = [k + 1; Interval::MAX_ENDS];
     let mut m = k;
-    let mut at = Interval { i: k, j: k }.place(k);
+    let mut at = Interval::place(rows, k as u32, k as u32, 0) as usize;
     while m > 0 {
         let l = m - 1;
         let before = at - (k - l);

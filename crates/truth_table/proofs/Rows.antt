@@ -7,7 +7,6 @@ use Prim.Native.Nat.{ℕ, suc, _+_, _-_, _≤_, _<_}
 use native.Mathlib.Omega.{arith}
 use native.Mathlib.Nat.{eq-or-lt-of-le}
 use mathlib.Core.Logic.{⊎-elim}
-use native.Mathlib.Numerals.{add-one}
 use lib.Dec.{ltb}
 use lib.ListN.{length, getD, take, drop, replicate, length-append, length-take, length-drop, length-replicate, List·getD-append}
 use lib.Seq.{length-take-le, getD-take, getD-drop, getD-append-add}
@@ -16,37 +15,32 @@ use borrow.Rule.Slice.PartMut.{midOf, putMid, mid-len}
 use Rattle.lists.specs.Listing.{sum}
 use Rattle.interval.specs.Limits.{IntervalOf}
 use Rattle.interval.specs.Places.{countOf, placeOf}
+use Rattle.interval.specs.Rows.{startOf}
 use Rattle.interval.specs.declared.Interval.{Interval}
 use Rattle.lists.proofs.Listing.{sum-lt}
-use Rattle.interval.proofs.Counts.{intervals-count, interval-place}
+use Rattle.interval.proofs.Counts.{intervals-count}
+use Rattle.interval.proofs.Rows.{place-in-row, row-next}
 use Rattle.lists.proofs.Fill.{zeros}
 use Rattle.paper_meaning.specs.Meaning.{bit}
-use Rattle.truth_table.specs.Table.{TableOf, RowOf, startOf}
+use Rattle.truth_table.specs.Table.{TableOf, RowOf}
 
 module _ (k : ℕ) where
-  pub row-next : (i : ℕ) → startOf k (i + 1) ≡ startOf k i + (suc k - i)
-  unfolding sum
-  row-next i = ap (startOf k) (add-one i)
-
   pub row-ends : (i : ℕ) → i ≤ suc k → startOf k i + (suc k - i) ≤ countOf k
   row-ends i h = ⊎-elim (λ (e : i ≡ suc k). omega (arith, ap (startOf k) e, intervals-count k))
       (λ (l : i < suc k). omega (arith, sum-lt (λ a. suc k - a) (suc k) i (k - i) l (omega arith), intervals-count k))
       (eq-or-lt-of-le h)
 
-  pub place-in-row : (v : Interval) → IntervalOf k v → placeOf k v ≡ startOf k (v .i) + (v .j - v .i)
-  place-in-row v o = interval-place k v (omega arith)
-
   -- where the interval without instants at m stands, row m starts
-  pub row-starts : (m at : ℕ) → m ≤ k → at ≡ placeOf k (record { i = m; j = m }) → (at ≡ startOf k m) × (at + (suc k - m) ≤ countOf k)
+  pub row-starts : (m at : ℕ) → m ≤ k → at ≡ placeOf k (record { i = m; j = m + 0 }) → (at ≡ startOf k m) × (at + (suc k - m) ≤ countOf k)
   row-starts m at h e =
-      let s : at ≡ startOf k m = omega (arith, e, place-in-row (record { i = m; j = m }) (record { starts = omega arith; ends = h })) in
+      let s : at ≡ startOf k m = omega (arith, e, place-in-row k (record { i = m; j = m + 0 }) (omega arith)) in
       (s, omega (arith, s, row-ends m (omega arith)))
 
   pub row-entry : (f : Interval → Bool) (t : List ℕ) → TableOf k f t → (i d : ℕ) → i + d ≤ k → getD t (startOf k i + d) 0 ≡ bit (f (record { i = i; j = i + d }))
   row-entry f t T i d h =
       let o : IntervalOf k (record { i = i; j = i + d }) = record { starts = omega arith; ends = h } in
       let e : i + d - i ≡ d = omega arith in
-      ap (λ (p : ℕ). getD t p 0) (sym (place-in-row (record { i = i; j = i + d }) o ∙ ap (λ (x : ℕ). startOf k i + x) e)) ∙ T .at _ o
+      ap (λ (p : ℕ). getD t p 0) (sym (place-in-row k (record { i = i; j = i + d }) o ∙ ap (λ (x : ℕ). startOf k i + x) e)) ∙ T .at _ o
 
 -- a part put back in its place: what stands before it and after it is as it was
 module _ (a n : ℕ) (xs ys : List ℕ) (h : a + n ≤ length xs) (g : length ys ≡ n) where
@@ -84,7 +78,7 @@ pub record Filled (N k i start : ℕ) (t : List ℕ) : Type 0 where
   pub rest : (y : ℕ) → start ≤ y → getD t y 0 ≡ 0
 
 -- by f
-pub record RowsOf (k : ℕ) (f : Interval → Bool) (i : ℕ) (t : List ℕ) : Type 0 where
+pub record RowsTo (k : ℕ) (f : Interval → Bool) (i : ℕ) (t : List ℕ) : Type 0 where
   pub at : (v : Interval) → IntervalOf k v → v .i < i → getD t (placeOf k v) 0 ≡ bit (f v)
 
 -- the row that is next, before it is filled
@@ -125,7 +119,7 @@ module _ (N k i start end : ℕ) (t row : List ℕ) (h : i ≤ k) (w : Filled N 
         rest = λ y g. put-after start (end - start) t row fits n y (omega arith) ∙ w .rest y (omega arith);
       }
 
-  pub rows-turn : (f : Interval → Bool) → RowOf i f row → RowsOf k f i t → RowsOf k f (i + 1) after
+  pub rows-turn : (f : Interval → Bool) → RowOf i f row → RowsTo k f i t → RowsTo k f (i + 1) after
   rows-turn f r u = record { at = λ v o g. go v o g (ltb (v .i) i) refl }
     where
       go : (v : Interval) → IntervalOf k v → v .i < i + 1 → (c : Bool) → ltb (v .i) i ≡ c → getD after (placeOf k v) 0 ≡ bit (f v)
@@ -140,5 +134,5 @@ module _ (N k i start end : ℕ) (t row : List ℕ) (h : i ≤ k) (w : Filled N 
           ap (λ (a : ℕ). getD after a 0) p ∙ put-within start (end - start) t row fits n (v .j - v .i) d ∙ r .at (v .j - v .i) (omega arith)
           ∙ ap₂ (λ (a b : ℕ). bit (f (record { i = a; j = b }))) (sym m) j
 
-pub rows-done : (k i : ℕ) (f : Interval → Bool) (t : List ℕ) → suc k ≤ i → RowsOf k f i t → TableOf k f t
+pub rows-done : (k i : ℕ) (f : Interval → Bool) (t : List ℕ) → suc k ≤ i → RowsTo k f i t → TableOf k f t
 rows-done k i f t h w = record { at = λ v o. w .at v o (omega (arith, o .starts, o .ends)) }

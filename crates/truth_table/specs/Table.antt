@@ -3,11 +3,10 @@
 use mathlib.Core.Path.{_≡_}
 use mathlib.Core.Bool.{Bool, cond}
 use mathlib.Core.List.{List}
-use Prim.Native.Nat.{ℕ, suc, _+_, _-_, _<_, max}
+use Prim.Native.Nat.{ℕ, _+_, _-_, _<_, max}
 use lib.Bits.{bitAnd, bitOr}
 use lib.Dec.{eqb}
 use lib.ListN.{length, getD}
-use Rattle.lists.specs.Listing.{sum}
 use Rattle.interval.specs.Limits.{IntervalOf}
 use Rattle.interval.specs.Places.{placeOf}
 use Rattle.interval.specs.declared.Interval.{Interval}
@@ -30,10 +29,6 @@ pub record TableOf (k : ℕ) (f : Interval → Bool) (t : List ℕ) : Type 0 whe
 -- a row of a table: the intervals that start at i, by length
 pub record RowOf (i : ℕ) (f : Interval → Bool) (row : List ℕ) : Type 0 where
   pub at : (d : ℕ) → d < length row → getD row d 0 ≡ bit (f (record { i = i; j = i + d }))
-
--- where row i starts: after as many rows, of k + 1, k, .. places
-abbrev pub startOf : ℕ → ℕ → ℕ
-startOf k i = sum (λ a. suc k - a) i
 
 -- what `&`, where `both`, or `|` makes of bytes, 1 for true, as `joined` makes of truths
 abbrev pub joinedByte : Bool → ℕ → ℕ → ℕ

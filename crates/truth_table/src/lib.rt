@@ -7,6 +7,7 @@ ghost use lib.ListN.{length, replicate};
 ghost use Rattle.moments.specs.Moments.{old, new};
 ghost use Rattle.interval.specs.Limits.{maxSteps, maxCount};
 ghost use Rattle.interval.specs.Places.{countOf};
+ghost use Rattle.interval.specs.Rows.{RowsOf};
 ghost use Rattle.interval.specs.declared.Interval.{Interval};
 ghost use Rattle.paper_meaning.specs.Meaning.{bit, bitAt};
 ghost use Rattle.truth_word.specs.Word.{Lows, joined};
@@ -102,11 +103,11 @@ pub fn measured_table(measure: Measure, word: u32, k: usize) -> [u8; Interval::M
 }
 
 // The table of `!`, in the place of its part's.
-pub fn inverse(p: &mut [u8], k: usize)
-    requires { ⌜ (k ≤ maxSteps) × (countOf k ≤ length (now p)) ⌝ }
+pub fn inverse(p: &mut [u8], rows: &[u32], k: usize)
+    requires { ⌜ (k ≤ maxSteps) × (countOf k ≤ length (now p)) × RowsOf k (now rows) ⌝ }
     ensures { λ r. ⌜ ((f : Interval → Bool) → TableOf k f (old p) → TableOf k (λ v. not (f v)) (new p)) ⌝ }
 {
-    for x in 0..Interval::count(k) {
+    for x in 0..Interval::all(rows, k as u32) as usize {
         p[x] ^= 1;
     }
 }
@@ -119,11 +120,11 @@ pub fn joined_byte(both: bool, a: u8, b: u8) -> u8
 }
 
 // The table of `&`, where `both`, or of `|`, from those of its parts, in the place of the first.
-pub fn join(both: bool, p: &mut [u8], q: &[u8], k: usize)
-    requires { ⌜ (k ≤ maxSteps) × (countOf k ≤ length (now p)) × (countOf k ≤ length (now q)) ⌝ }
+pub fn join(both: bool, p: &mut [u8], q: &[u8], rows: &[u32], k: usize)
+    requires { ⌜ (k ≤ maxSteps) × (countOf k ≤ length (now p)) × (countOf k ≤ length (now q)) × RowsOf k (now rows) ⌝ }
     ensures { λ r. ⌜ ((f g : Interval → Bool) → TableOf k f (old p) → TableOf k g (old q) → TableOf k (λ v. joined both (f v) (g v)) (new p)) ⌝ }
 {
-    for x in 0..Interval::count(k) {
+    for x in 0..Interval::all(rows, k as u32) as usize {
         p[x] = joined_byte(both, p[x], q[x]);
     }
 }

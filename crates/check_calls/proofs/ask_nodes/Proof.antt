@@ -16,15 +16,15 @@ use Rattle.check_calls.proofs.ask_nodes.Statement.{statement}
 use Rattle.check_calls.proofs.ask_nodes.Tie as tie
 
 abbrev Inv-loop : tie.InvT-loop
-Inv-loop assignment firsts numbered c k table x₀ x-end x =
+Inv-loop assignment firsts numbered c row-starts k table x₀ x-end x =
     (x ≤ table .count) × (Yes ≡ askClauses (valueIn assignment) 0 (clausesBy (rows x (rowDefinitions c k (table .kinds) (table .numbers) (table .sizes) firsts))))
 
 abbrev μ-loop : tie.MeasureT-loop
-μ-loop assignment firsts numbered c k table x₀ x-end x = table .count - x
+μ-loop assignment firsts numbered c row-starts k table x₀ x-end x = table .count - x
 
 -- the places that the needs speak of
 abbrev start : tie.In-loop Inv-loop μ-loop → tie.Start Inv-loop μ-loop
-start c = c .before .before .before
+start c = c .before .before .before .before
 
 abbrev inside : tie.After-block-at-arg3 Inv-loop μ-loop → tie.In-loop Inv-loop μ-loop
 inside c = c .before .before .before .before
@@ -41,7 +41,7 @@ block-at-requires c κs = let i = inside c in let p = start i .pre .0 in (p .1, 
 ask-node-requires : tie.Need-ask-node-requires Inv-loop μ-loop
 ask-node-requires c κs =
     let s = start (inside-2 (c .before)) in let e = c .before .block-at .ensures in
-    ((e .1 (s .args .c) (s .pre .0 .0), s .pre .0 .4 _), block-mentioned _ _ (e .0) _ (row-mentioned _ (search needs) (s .pre .1 .1)))
+    ((e .1 (s .args .c) (s .pre .0 .0), s .pre .0 .4 _, s .pre .0 .5), block-mentioned _ _ (e .0) _ (row-mentioned _ (search needs) (s .pre .1 .1)))
 
 returns : tie.Need-returns Inv-loop μ-loop
 returns c =

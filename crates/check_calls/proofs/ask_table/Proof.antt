@@ -18,7 +18,7 @@ abbrev start : tie.After-clauses → tie.Start
 start c = c .before .before .before .before .before
 
 abbrev start-2 : tie.After-seat-arg2 → tie.Start
-start-2 c = start (c .before .before .before .before .before .before .before .before .before)
+start-2 c = start (c .before .before .before .before .before .before .before .before .before .before .before .before .before)
 
 abbrev after-enum-told : tie.After-seat → tie.After-enum-told
 after-enum-told c = c .before .before .before .before
@@ -32,9 +32,9 @@ sums-requires c κs =
 
 ask-nodes-requires : tie.Need-ask-nodes-requires
 ask-nodes-requires c κs =
-    let clauses = c .before .before .before in let s = start clauses in let a = s .args in let p = s .pre .0 in
-    let sums = c .before .sums .ensures in (
-      (p .0, p .1, p .2, p .3, all-low sums zeros-low),
+    let clauses = c .before .before .before .before .before .before .before in let s = start clauses in let a = s .args in let p = s .pre .0 in
+    let sums = c .before .before .before .before .before .sums .ensures in (
+      (p .0, p .1, p .2, p .3, all-low sums zeros-low, c .before .before .before .put-rows .ensures),
       (λ x h. sums .below x h ∙ ap (λ (w : Weight). 0 + weightTo w (a .k) (a .t2 .kinds) (a .t2 .numbers) x) (clauses .clauses .ensures), s .pre .1 .0),
     )
 
@@ -58,7 +58,7 @@ returns-2 c =
 
 returns-3 : tie.Need-returns-3
 returns-3 c =
-    let s = c .before .before in let e = after-enum-told s in let an = e .before .before in let sums = an .before .before in
+    let s = c .before .before in let e = after-enum-told s in let an = e .before .before in let sums = an .before .before .before .before .before .before in
     let a = start-3 s .args in
     let last = sums .sums .ensures .total ∙ ap (λ (w : Weight). 0 + weightTo w (a .k) (a .t2 .kinds) (a .t2 .numbers) (a .t2 .count)) (sums .before .before .clauses .ensures) in
     root-unmet _ _ _ (an .ask-nodes .ensures) (e .enum-told .given .1)
@@ -71,6 +71,9 @@ ask-table-spec =
     (tie.spec
     (λ c κs. search needs)
     sums-requires
+    (λ c. search needs)
+    (λ c κs. search needs)
+    (λ c. search needs)
     ask-nodes-requires
     (λ c. search needs)
     returns

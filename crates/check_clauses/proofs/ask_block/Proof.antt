@@ -12,14 +12,14 @@ use Rattle.check_clauses.proofs.ask_block.Statement.{statement}
 use Rattle.check_clauses.proofs.ask_block.Tie as tie
 
 abbrev Inv-loop : tie.InvT-loop
-Inv-loop assignment c k block n cursor₀ m₀ cursor m = Walks k block cursor × Met (valueIn assignment) n (definedBy c k block) m (cursor .place)
+Inv-loop assignment c rows k block n cursor₀ m₀ cursor m = Walks k block cursor × Met (valueIn assignment) n (definedBy c k block) m (cursor .place)
 
 abbrev μ-loop : tie.MeasureT-loop
-μ-loop assignment c k block n cursor₀ m₀ cursor m = cursor .end - cursor .place
+μ-loop assignment c rows k block n cursor₀ m₀ cursor m = cursor .end - cursor .place
 
 -- the places that the needs speak of
 abbrev start : tie.At-loop Inv-loop μ-loop → tie.Start Inv-loop μ-loop
-start c = c .before .before .before
+start c = c .before .before .before .before
 
 abbrev turn : tie.Then1 Inv-loop μ-loop → tie.At-loop Inv-loop μ-loop
 turn c = c .before .before
@@ -34,13 +34,13 @@ abbrev then1 : tie.After-clause-count Inv-loop μ-loop → tie.Then1 Inv-loop μ
 then1 c = after-gate-at-2 (c .before) .before
 
 start-requires : tie.Need-start-requires Inv-loop μ-loop
-start-requires c κs = let s = c .before .pre .0 .0 in walkable (s .0) (s .1)
+start-requires c κs = let s = c .before .before .pre .0 in (walkable (s .0 .0) (s .0 .1), s .2)
 
 loop-holds : tie.Need-loop-holds Inv-loop μ-loop
 loop-holds c = let e = c .start .ensures in (e .0, met-begun (e .1))
 
 gate-at-requires : tie.Need-gate-at-requires Inv-loop μ-loop
-gate-at-requires c κs = let l = turn c in gate-asked (start l .pre .0 .0 .0) (l .loop .inv .0) (c .if1 .taken)
+gate-at-requires c κs = let l = turn c in gate-asked (start l .pre .0 .0 .0) (l .loop .inv .0) (c .if1 .taken) (start l .pre .0 .2)
 
 add-ask-gate : tie.Need-add-ask-gate Inv-loop μ-loop
 add-ask-gate c =

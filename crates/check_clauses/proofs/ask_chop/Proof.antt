@@ -11,7 +11,7 @@ use Rattle.check_clauses.proofs.ask_chop.Tie as tie
 
 -- the places that the needs speak of
 abbrev start : tie.After-intervals-of → tie.Start
-start c = c .before .before .before .before
+start c = c .before .before .before .before .before
 
 abbrev after-intervals-of : tie.After-clauses → tie.After-intervals-of
 after-intervals-of c = c .before .before .before .before
@@ -19,7 +19,7 @@ after-intervals-of c = c .before .before .before .before
 ask-block-requires : tie.Need-ask-block-requires
 ask-block-requires c κs =
     let h = halves (start c .args .block) (c .before .before .beyond .ensures) (c .before .triples-of .ensures) (c .intervals-of .ensures) in let s = start c .pre in
-    ((triples-bounded _ h (s .0 .0), omega (arith, s .0 .1)), triples-mentioned _ h (s .1))
+    ((triples-bounded _ h (s .0 .0), omega (arith, s .0 .1), s .0 .2), triples-mentioned _ h (s .1))
 
 returns : tie.Need-returns
 returns c =
@@ -36,7 +36,7 @@ ask-block-requires-2 : tie.Need-ask-block-requires-2
 ask-block-requires-2 c κs =
     let i = after-intervals-of (c .before) in let t = i .before in
     let h = halves (start i .args .block) (t .before .beyond .ensures) (t .triples-of .ensures) (i .intervals-of .ensures) in let s = start i .pre in
-    ((intervals-bounded _ h (s .0 .0), omega (arith, s .0 .1, c .weigh .ensures .1)), intervals-mentioned _ h (s .1))
+    ((intervals-bounded _ h (s .0 .0), omega (arith, s .0 .1, c .weigh .ensures .1), s .0 .2), intervals-mentioned _ h (s .1))
 
 returns-2 : tie.Need-returns-2
 returns-2 c =

@@ -11,7 +11,7 @@ use Rattle.check_clauses.proofs.ask_node.Tie as tie
 
 -- the places that the needs speak of
 abbrev start : tie.After-is-chop → tie.Start
-start c = c .before .before
+start c = c .before .before .before
 
 ask-chop-requires : tie.Need-ask-chop-requires
 ask-chop-requires c κs =
@@ -36,7 +36,7 @@ ask-block-requires : tie.Need-ask-block-requires
 ask-block-requires c κs =
     let i = c .before .before in
     let s = start i .pre in (
-      ((s .0 .0 .bounded, s .0 .0 .points), omega (arith, s .0 .1)),
+      ((s .0 .0 .bounded, s .0 .0 .points), omega (arith, s .0 .1), s .0 .2),
       subst (AllMentioned _) (sym (node-known _ _ (start i .args .block) (i .is-chop .ensures) (c .before .if1 .left))) (s .1),
     )
 

@@ -24,12 +24,12 @@ slice-aggregate-put-table c = sym (length-take-le _ _ (omega arith))
 
 put-table-requires : tie.Need-put-table-requires
 put-table-requires c κs =
-    let count = c .before .before .before in omega (arith, length-take-le (count .count .result) (count .before .before .args .out .now) (omega arith))
+    let all = c .before .before .before in omega (arith, length-take-le (all .all .result) (all .before .before .before .args .out .now) (omega arith))
 
 returns : tie.Need-returns
 returns c =
-    let p = c .before .before in let pt = p .before .before .before .before in let ct = pt .before .before in let count = ct .before .before in
-    let start₀ = count .before .before in let a = start₀ .args in let s = start₀ .pre in let n = count .count in
+    let p = c .before .before in let pt = p .before .before .before .before in let ct = pt .before .before in let all = ct .before .before in
+    let start₀ = all .before .before .before in let a = start₀ .args in let s = start₀ .pre in let n = all .all in
     let w : length (take (n .result) (a .out .now)) ≡ countOf (a .k) = length-take-le (n .result) (a .out .now) (omega arith) ∙ n .ensures .0 in
     let T = ct .chop-table .ensures _ _ (bits-table (s .2)) (bits-table (s .3)) in let t = pt .put-table in
     let e = t .ensures ∙ table-values (a .k) _ w T in
@@ -39,7 +39,9 @@ pub put-chop-spec : {M : Type 1} → statement M
 put-chop-spec =
     tie.close
     (tie.spec
+    (λ c. search needs)
     (λ c κs. search needs)
+    (λ c. search needs)
     (λ c. search needs)
     slice-aggregate-put-table
     (λ c κs. search needs)

@@ -21,8 +21,8 @@ fits : (s : tie.Start) {q : Rule} → s .args .rule ≡ q → Fits (s .args .k) 
 fits s e = subst (Fits (s .args .k) (length (s .args .out .now))) e (s .pre .1)
 
 -- the places that the needs speak of
-abbrev start : tie.After-shared-slice-known → tie.Start
-start c = c .before .before
+abbrev start : tie.After-shared-slice-known2 → tie.Start
+start c = c .before .before .before
 
 abbrev start-2 : tie.After-rule → tie.Start
 start-2 c = start (c .before .before)
@@ -58,7 +58,7 @@ put-joined-requires-2 : tie.Need-put-joined-requires-2
 put-joined-requires-2 c κs = let s = start (c .before .before .before) in (fits s (c .before .enum-told3 .given .1), s .pre .2, s .pre .3)
 
 put-chop-requires : tie.Need-put-chop-requires
-put-chop-requires c κs = let s = start (c .before .before .before) in let p = s .pre in (p .0, fits s (c .before .enum-told4 .given .1), p .2, p .3)
+put-chop-requires c κs = let s = start (c .before .before .before) in let p = s .pre in (p .0, fits s (c .before .enum-told4 .given .1), p .2, p .3, p .4)
 
 put-levels-requires : tie.Need-put-levels-requires
 put-levels-requires c κs =

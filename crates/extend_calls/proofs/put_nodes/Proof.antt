@@ -7,14 +7,14 @@ use Rattle.extend_calls.proofs.put_nodes.Statement.{statement}
 use Rattle.extend_calls.proofs.put_nodes.Tie as tie
 
 abbrev Inv-loop : tie.InvT-loop
-Inv-loop assignment₀ firsts k last recording table x₀ end₀ assignment x end = Extending k recording table firsts last assignment₀ assignment x end
+Inv-loop assignment₀ firsts rows k last recording table x₀ end₀ assignment x end = Extending k recording table firsts last assignment₀ assignment x end
 
 abbrev μ-loop : tie.MeasureT-loop
-μ-loop assignment₀ firsts k last recording table x₀ end₀ assignment x end = x
+μ-loop assignment₀ firsts rows k last recording table x₀ end₀ assignment x end = x
 
 -- the places that the needs speak of
 abbrev start : tie.At-loop Inv-loop μ-loop → tie.Start Inv-loop μ-loop
-start c = c .before .before .before
+start c = c .before .before .before .before
 
 abbrev turn : tie.After-block-at Inv-loop μ-loop → tie.At-loop Inv-loop μ-loop
 turn c = c .before .before .before .before .before .before
@@ -26,7 +26,7 @@ abbrev after-block-at : tie.After-struct-known Inv-loop μ-loop → tie.After-bl
 after-block-at c = after-put-node c .before .before
 
 loop-holds : tie.Need-loop-holds Inv-loop μ-loop
-loop-holds c = extending-begun (c .before .before .pre .0 .2)
+loop-holds c = extending-begun (c .before .before .before .pre .0 .2)
 
 block-at-requires : tie.Need-block-at-requires Inv-loop μ-loop
 block-at-requires c κs =
@@ -37,7 +37,7 @@ put-node-requires : tie.Need-put-node-requires Inv-loop μ-loop
 put-node-requires c κs =
     let l = turn (c .before) in let p = start l .pre in let e = c .before .block-at .ensures in
     let f = block-fits (l .loop .inv) (search needs) (e .0) (p .1 .0) (p .1 .1) (e .1 0 (omega arith)) in
-    (p .0 .0, f)
+    (p .0 .0, f, p .0 .4)
 
 sub-end : tie.Need-sub-end Inv-loop μ-loop
 sub-end c =

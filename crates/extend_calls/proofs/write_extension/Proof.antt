@@ -21,7 +21,7 @@ abbrev after-ask : tie.After-enum-told → tie.After-ask
 after-ask c = c .before .before
 
 abbrev after-put-channels : tie.After-struct-known2 → tie.After-put-channels
-after-put-channels c = c .before .before .before .before .before .before
+after-put-channels c = c .before .before .before .before .before .before .before .before .before .before
 
 layout-of-requires : tie.Need-layout-of-requires
 layout-of-requires c κs = let p = c .before .before .pre in (p .0, p .1, p .2)
@@ -54,7 +54,7 @@ put-nodes-requires c κs =
     let enough = places-enough (l .layout-of .result .sizes .variables) (length (s .args .assignment .now)) (sym (a .ask .ensures) ∙ e .enum-told .given .1) in
     let fit = channels-fit w (s .args .assignment .now) (sym (a .ask .ensures) ∙ e .enum-told .given .1) in
     let back = channels-back (s .args .c) (s .args .k) (s .args .recording .now) (s .args .assignment .now) (p .put-channels .ensures) (s .pre .3) fit in
-    ((s .pre .1, s .pre .2, omega (arith, enough, back), w .low), (s .args .c, seated w))
+    ((s .pre .1, s .pre .2, omega (arith, enough, back), w .low, c .before .before .before .before .before .before .put-rows .ensures), (s .args .c, seated w))
 
 returns-2 : tie.Need-returns-2
 returns-2 c =
@@ -78,6 +78,9 @@ write-extension-spec =
     slice-relend-prefix-put-channels
     slice-aggregate-put-channels
     put-channels-requires
+    (λ c. search needs)
+    (λ c κs. search needs)
+    (λ c. search needs)
     (λ c. search needs)
     put-nodes-requires
     (λ c. search needs)

@@ -15,13 +15,13 @@ use Rattle.extend_triples.proofs.put_cuts.Statement.{statement}
 use Rattle.extend_triples.proofs.put_cuts.Tie as tie
 
 abbrev Inv-loop : tie.InvT-loop
-Inv-loop out₀ p q k i steps first at₀ e₀ e-end out at e =
+Inv-loop out₀ p q rows k i steps first at₀ e₀ e-end out at e =
     (e-end ≡ suc steps) × Filled (λ e. bit
     (cuts (onPlaces k (highAt p)) (onPlaces k (highAt q)) (record { i = i; m = i + e; j = i + steps }))) (suc steps) e out ×
     Cutting k i steps e at
 
 abbrev μ-loop : tie.MeasureT-loop
-μ-loop out₀ p q k i steps first at₀ e₀ e-end out at e = suc steps - e
+μ-loop out₀ p q rows k i steps first at₀ e₀ e-end out at e = suc steps - e
 
 loop-holds : tie.Need-loop-holds Inv-loop μ-loop
 loop-holds c = (omega arith, begun (omega arith), first-cut (c .place2 .ensures .0))
@@ -40,7 +40,7 @@ add-at-2 c =
 
 loop-again : tie.Need-loop-again Inv-loop μ-loop
 loop-again c =
-    let u = c .before .before .before .before in let p = u .before .before in let s = p .before .before in let l = u .loop in
+    let u = c .before .before .before .before in let p = u .before .before in let s = p .before .before .before in let l = u .loop in
     let b = cut-byte (omega arith) (l .inv .2) (p .place .ensures .0) (omega arith) (s .pre .3) (s .pre .4) in (
       l .inv .0,
       turn (l .inv .1) (omega arith) b,
@@ -57,9 +57,15 @@ put-cuts-spec =
     Inv-loop
     μ-loop
     (λ c. search needs)
-    (λ c κs. search needs)
+    (λ c. search needs)
     (λ c. search needs)
     (λ c κs. search needs)
+    (λ c. search needs)
+    (λ c. search needs)
+    (λ c. search needs)
+    (λ c. search needs)
+    (λ c κs. search needs)
+    (λ c. search needs)
     loop-holds
     (λ c. search needs)
     element-copy-out-out

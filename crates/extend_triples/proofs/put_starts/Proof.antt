@@ -12,14 +12,14 @@ use Rattle.extend_triples.proofs.put_starts.Statement.{statement}
 use Rattle.extend_triples.proofs.put_starts.Tie as tie
 
 abbrev Inv-loop : tie.InvT-loop
-Inv-loop out₀ p q k i at₀ d₀ d-end out at d = (d-end ≡ suc k - i) × Parts (cutsFrom k (highAt p) (highAt q) i) suc (suc k - i) out₀ at out d
+Inv-loop out₀ p q rows k i at₀ d₀ d-end out at d = (d-end ≡ suc k - i) × Parts (cutsFrom k (highAt p) (highAt q) i) suc (suc k - i) out₀ at out d
 
 abbrev μ-loop : tie.MeasureT-loop
-μ-loop out₀ p q k i at₀ d₀ d-end out at d = suc k - i - d
+μ-loop out₀ p q rows k i at₀ d₀ d-end out at d = suc k - i - d
 
 loop-holds : tie.Need-loop-holds Inv-loop μ-loop
 loop-holds c =
-    let s = c .before in let a = s .args in let f = highAt (a .p .now) in let g = highAt (a .q .now) in
+    let s = c .before .before in let a = s .args in let f = highAt (a .p .now) in let g = highAt (a .q .now) in
     (omega arith, begun (λ d h. cut-count (a .k) f g (a .i) d) (s .pre .2 ∙ sym (starts-count (a .k) f g (a .i) (s .pre .1))))
 
 add-end-2 : tie.Need-add-end-2 Inv-loop μ-loop
@@ -30,13 +30,13 @@ part-put-cuts-end c = omega (arith, room (c .before .loop .inv .1) (omega arith)
 
 put-cuts-requires : tie.Need-put-cuts-requires Inv-loop μ-loop
 put-cuts-requires c κs =
-    let w = c .before .before in let s = w .before .before in let l = w .loop in
+    let w = c .before .before in let s = w .before .before .before in let l = w .loop in
     let n = part-length (l .inv .1) (omega arith) (l .at + (l .d + 1)) (omega arith) in
-    (s .pre .0, omega (arith, n), omega (arith, n), s .pre .3, s .pre .4)
+    (s .pre .0, omega (arith, n), omega (arith, n), s .pre .3, s .pre .4, s .pre .5)
 
 loop-again : tie.Need-loop-again Inv-loop μ-loop
 loop-again c =
-    let p = c .before .before in let w = p .before .before .before in let a = w .before .before .args in let l = w .loop in
+    let p = c .before .before in let w = p .before .before .before in let a = w .before .before .before .args in let l = w .loop in
     let n = part-length (l .inv .1) (omega arith) (l .at + (l .d + 1)) (omega arith) in
     (l .inv .0, turn (l .inv .1) (omega arith) _ (omega arith) (p .put-cuts .ensures ∙ ap (cutsFrom (a .k) (highAt (a .p .now)) (highAt (a .q .now)) (a .i)) (omega (arith, n))))
 

@@ -12,7 +12,7 @@ after-undo c = c .before .before .before .before .before
 
 try-literal-requires : tie.Need-try-literal-requires
 try-literal-requires c κs =
-    let undo = after-undo c in let p = undo .before .before .before .before .before .before .before .pre in let u = undo .undo in
+    let undo = after-undo c in let p = undo .before .before .before .before .before .before .before .before .pre in let u = undo .undo in
     ((ground-still (u .kept .0) (p .0 .0), p .0 .1), undone-ready (u .ensures) (p .1))
 
 returns : tie.Need-returns

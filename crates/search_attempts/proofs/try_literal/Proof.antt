@@ -10,7 +10,7 @@ use Rattle.search_attempts.proofs.try_literal.Tie as tie
 
 -- the places that the needs speak of
 abbrev start : tie.After-add-arg2 → tie.Start
-start c = c .before .before .before .before .before .before
+start c = c .before .before .before .before .before .before .before
 
 abbrev after-add : tie.After-close-arg2 → tie.After-add
 after-add c = c .before .before .before .before .before .before

@@ -9,7 +9,7 @@ use Rattle.search_draw.proofs.draw.Tie as tie
 
 -- the places that the needs speak of
 abbrev start : tie.After-start-arg2 → tie.Start
-start c = c .before .before .before .before .before .before .before
+start c = c .before .before .before .before .before .before .before .before
 
 abbrev start-2 : tie.After-start → tie.Start
 start-2 c = start (c .before)

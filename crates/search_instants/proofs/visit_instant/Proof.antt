@@ -15,12 +15,12 @@ use Rattle.search_instants.proofs.visit_instant.Statement.{statement}
 use Rattle.search_instants.proofs.visit_instant.Tie as tie
 
 abbrev Inv-loop : tie.InvT-loop
-Inv-loop values₀ trail₀ top c k all block a n t end₀ i₀ i-end values trail end i =
+Inv-loop values₀ trail₀ top row-starts c k all block a n t end₀ i₀ i-end values trail end i =
     (length values ≡ length values₀) × (length trail ≡ length trail₀) × (i ≤ t + 1)
     × Visited (rows i (riseClauses c k block a n t)) values₀ trail₀ top values trail (record { clash = false; top = end })
 
 abbrev μ-loop : tie.MeasureT-loop
-μ-loop values₀ trail₀ top c k all block a n t end₀ i₀ i-end values trail end i = t + 1 - i
+μ-loop values₀ trail₀ top row-starts c k all block a n t end₀ i₀ i-end values trail end i = t + 1 - i
 
 -- the places that the needs speak of
 abbrev start : tie.After-slice-known2 Inv-loop μ-loop → tie.Start Inv-loop μ-loop
@@ -36,15 +36,15 @@ abbrev after-visit-rise-2 : tie.Else1 Inv-loop μ-loop → tie.After-visit-rise 
 after-visit-rise-2 c = after-visit-rise (c .before)
 
 add-i-end : tie.Need-add-i-end Inv-loop μ-loop
-add-i-end c = let s = start c .pre in omega (arith, s, s .0 .bounded .steps)
+add-i-end c = let s = start (c .before) .pre in omega (arith, s, s .0 .bounded .steps)
 
 loop-holds : tie.Need-loop-holds Inv-loop μ-loop
-loop-holds c = (refl, refl, omega arith, loop-begun _ (start c .pre .0 .trailing))
+loop-holds c = (refl, refl, omega arith, loop-begun _ (start (c .before) .pre .0 .trailing))
 
 visit-rise-requires : tie.Need-visit-rise-requires Inv-loop μ-loop
 visit-rise-requires c κs =
-    let il = c .before .before in let l = il .before in let s = start (l .before) .pre in let i = l .loop .inv in
-    (stands (s .0) (i .0) (i .3 .grown .trailing), s .1, s .2, omega (arith, il .loop-test .taken), s .3)
+    let il = c .before .before in let l = il .before in let s = start (l .before .before) .pre in let i = l .loop .inv in
+    (stands (s .0) (i .0) (i .3 .grown .trailing), s .1, s .2, omega (arith, il .loop-test .taken), s .3, s .4)
 
 returns : tie.Need-returns Inv-loop μ-loop
 returns c =
@@ -53,7 +53,7 @@ returns c =
 
 add-i : tie.Need-add-i Inv-loop μ-loop
 add-i c =
-    let i = inside (after-visit-rise-2 c) in let s = start (i .before .before) .pre in omega (arith, s .3, s .0 .bounded .steps, i .loop-test .taken)
+    let i = inside (after-visit-rise-2 c) in let s = start (i .before .before .before) .pre in omega (arith, s .3, s .0 .bounded .steps, i .loop-test .taken)
 
 loop-again : tie.Need-loop-again Inv-loop μ-loop
 loop-again c =

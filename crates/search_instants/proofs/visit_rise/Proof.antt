@@ -21,16 +21,16 @@ use Rattle.search_instants.proofs.visit_rise.Statement.{statement}
 use Rattle.search_instants.proofs.visit_rise.Tie as tie
 
 abbrev Inv-loop : tie.InvT-loop
-Inv-loop values₀ trail₀ top c k all block a n t i first v₀ end₀ e₀ values trail v end e =
+Inv-loop values₀ trail₀ top row-starts c k all block a n t i first v₀ end₀ e₀ values trail v end e =
     (length values ≡ length values₀) × (length trail ≡ length trail₀) × (e ≤ n) × Rises k block a n t i v e
     × Visited (rows e (λ e. clausesAt (definedBy c k block) (instantPlace k a t i e))) values₀ trail₀ top values trail (record { clash = false; top = end })
 
 abbrev μ-loop : tie.MeasureT-loop
-μ-loop values₀ trail₀ top c k all block a n t i first v₀ end₀ e₀ values trail v end e = n - e
+μ-loop values₀ trail₀ top row-starts c k all block a n t i first v₀ end₀ e₀ values trail v end e = n - e
 
 -- the places that the needs speak of
 abbrev start : tie.After-place Inv-loop μ-loop → tie.Start Inv-loop μ-loop
-start c = c .before .before .before
+start c = c .before .before .before .before
 
 abbrev after-place : tie.Then1 Inv-loop μ-loop → tie.After-place Inv-loop μ-loop
 after-place c = c .before .before
@@ -54,10 +54,10 @@ abbrev after-settle-step-2 : tie.Else3 Inv-loop μ-loop → tie.After-settle-ste
 after-settle-step-2 c = after-settle-step (c .before)
 
 add-place : tie.Need-add-place Inv-loop μ-loop
-add-place c = let s = c .before .before .pre in omega (arith, s, s .0 .bounded .steps)
+add-place c = let s = c .before .before .before .pre in omega (arith, s, s .0 .bounded .steps)
 
 place-requires : tie.Need-place-requires Inv-loop μ-loop
-place-requires c κs = let s = c .before .before .pre in omega (arith, s, s .0 .bounded .steps)
+place-requires c κs = let s = c .before .before .before .pre in (omega (arith, s, s .0 .bounded .steps), s .0 .bounded .steps, s .5)
 
 add-first : tie.Need-add-first Inv-loop μ-loop
 add-first c = omega (arith, c .before .place .ensures .1, start (c .before) .pre .0 .bounded .first)

@@ -16,12 +16,12 @@ use Rattle.search_letters.proofs.reach_letters.Statement.{statement}
 use Rattle.search_letters.proofs.reach_letters.Tie as tie
 
 abbrev Inv-loop : tie.InvT-loop
-Inv-loop values₀ trail₀ top kinds numbers sizes firsts seats parents count c k t e last₀ x₀ values trail last x =
+Inv-loop values₀ trail₀ top kinds numbers sizes firsts seats parents count c k all t e last₀ x₀ values trail last x =
     (length values ≡ length values₀) × (length trail ≡ length trail₀) × (x ≤ count)
     × Visited (rows x (letterAt c k kinds numbers sizes firsts t e)) values₀ trail₀ top values trail (record { clash = false; top = last })
 
 abbrev μ-loop : tie.MeasureT-loop
-μ-loop values₀ trail₀ top kinds numbers sizes firsts seats parents count c k t e last₀ x₀ values trail last x = count - x
+μ-loop values₀ trail₀ top kinds numbers sizes firsts seats parents count c k all t e last₀ x₀ values trail last x = count - x
 
 -- the places that the needs speak of
 abbrev start : tie.At-loop Inv-loop μ-loop → tie.Start Inv-loop μ-loop
@@ -39,7 +39,7 @@ loop-holds c = (refl, refl, omega arith, loop-begun _ (c .before .before .pre .0
 reach-letter-requires : tie.Need-reach-letter-requires Inv-loop μ-loop
 reach-letter-requires c κs =
     let il = c .before .before in let l = il .before in
-    let p = start l .pre in let i = l .loop .inv in ((ground-still (i .0) (p .0 .0), i .3 .grown .trailing), (il .loop-test .taken, p .1))
+    let p = start l .pre in let i = l .loop .inv in ((ground-still (i .0) (p .0 .0), i .3 .grown .trailing), (il .loop-test .taken, p .1 .0, p .1 .1))
 
 returns : tie.Need-returns Inv-loop μ-loop
 returns c =

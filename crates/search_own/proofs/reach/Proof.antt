@@ -13,7 +13,7 @@ use Rattle.search_own.proofs.reach.Tie as tie
 
 -- the places that the needs speak of
 abbrev start : tie.After-is-chop → tie.Start
-start c = c .before .before .before .before .before .before
+start c = c .before .before .before .before .before .before .before
 
 abbrev start-2 : tie.After-form-of → tie.Start
 start-2 c = start (c .before .before)

@@ -11,7 +11,7 @@ use Rattle.search_own_chop.proofs.reach_chop.Tie as tie
 
 returns-2 : tie.Need-returns-2
 returns-2 c =
-    let r = c .before .before .before .before in let e1 = r .before .before .before in let s = e1 .before .before .before .before .before in
+    let r = c .before .before .before .before in let e1 = r .before .before .before in let s = e1 .before .before .before .before .before .before in
     let a = s .args in
     let e : a .block .first + countOf (a .k) + (a .x - a .all) ≡ a .block .first + a .x = omega (arith, e1 .if1 .left, s .pre .1) in reached-there e (r .reach-triple .ensures)
 

@@ -17,7 +17,7 @@ use Rattle.search_own_chop.proofs.reach_triple.Tie as tie
 
 -- the places that the needs speak of
 abbrev start : tie.After-triple-at → tie.Start
-start c = c .before .before .before .before .before
+start c = c .before .before .before .before .before .before
 
 abbrev after-triple-at : tie.After-beyond → tie.After-triple-at
 after-triple-at c = c .before .before .before .before
@@ -48,7 +48,7 @@ visit-cut-requires c κs =
     let triples = c .before .before in let beyond = triples .before in let ta = after-triple-at beyond in let p = start ta .pre in
     let b = start ta .args .block in
     let h = halves b (beyond .beyond .ensures) (triples .triples-of .ensures) refl in (
-      (triples-stand (p .0) (p .2) h, p .1, ap (λ (t : Block). t .rule) (triples .triples-of .ensures)),
+      (triples-stand (p .0) (p .2) h, p .3 .rows-of, ap (λ (t : Block). t .rule) (triples .triples-of .ensures)),
       triple-here (start ta .args .k) b (beyond .beyond .result) (start ta .args .x) (triples .triples-of .ensures) (ta .triple-at .result) (ta .triple-at .ensures),
     )
 
@@ -63,7 +63,7 @@ returns c =
 place-requires : tie.Need-place-requires
 place-requires c κs =
     let t = after-triple-at-2 c in
-    let o = t .triple-at .ensures .0 in (omega (arith, o .starts, o .cut, o .ends), start t .pre .0 .fine .bounded .steps, start t .pre .1)
+    let o = t .triple-at .ensures .0 in (omega (arith, o .starts, o .cut, o .ends), start t .pre .0 .fine .bounded .steps, start t .pre .3 .rows-of)
 
 add-v : tie.Need-add-v
 add-v c = omega (arith, start (after-triple-at-2 (c .before .before)) .pre .0 .fine .bounded .first, c .before .place .ensures .1)

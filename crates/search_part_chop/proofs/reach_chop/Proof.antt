@@ -15,7 +15,7 @@ use Rattle.search_part_chop.proofs.reach_chop.Tie as tie
 
 -- the places that the needs speak of
 abbrev start : tie.After-triples-of → tie.Start
-start c = c .before .before .before .before .before
+start c = c .before .before .before .before .before .before .before
 
 abbrev after-interval-at : tie.After-struct-known2 → tie.After-interval-at
 after-interval-at c = c .before .before .before .before
@@ -31,17 +31,18 @@ sub-interval-at c = omega (arith, c .before .among .ensures .here (c .if1 .taken
 
 interval-at-requires : tie.Need-interval-at-requires
 interval-at-requires c κs =
-    let p = start (c .before .before) .pre in (omega (arith, c .before .among .ensures .here (c .if1 .taken), p .0 .1), p .1 .0, p .1 .1)
+    let p = start (c .before .before) .pre in (omega (arith, c .before .among .ensures .here (c .if1 .taken), p .0 .1), p .1 .room, p .1 .intervals-to)
 
 visit-first-requires : tie.Need-visit-first-requires
 visit-first-requires c κs =
     let i = after-interval-at c in let t = i .before .before .before in let p = start t .pre in
     let o = i .interval-at .ensures .0 in (
       triples-stand (p .0 .0) (p .0 .2) (halves (start t .args .block) (t .before .beyond .ensures) (t .triples-of .ensures) refl),
-      p .0 .1,
+      p .1 .rows-of,
       cut-rule (t .before .beyond .result) (start t .args .block) (t .triples-of .ensures),
       o .starts,
       o .ends,
+      p .1 .starts-of,
     )
 
 returns : tie.Need-returns
@@ -58,7 +59,7 @@ sub-interval-at-2 c = omega (arith, c .before .among2 .ensures .here (c .if2 .ta
 
 interval-at-requires-2 : tie.Need-interval-at-requires-2
 interval-at-requires-2 c κs =
-    let p = start (after-triples-of c) .pre in (omega (arith, c .before .among2 .ensures .here (c .if2 .taken), p .0 .1), p .1 .0, p .1 .1)
+    let p = start (after-triples-of c) .pre in (omega (arith, c .before .among2 .ensures .here (c .if2 .taken), p .0 .1), p .1 .room, p .1 .intervals-to)
 
 visit-second-requires : tie.Need-visit-second-requires
 visit-second-requires c κs =
@@ -69,6 +70,8 @@ visit-second-requires c κs =
       cut-rule (t .before .beyond .result) (start t .args .block) (t .triples-of .ensures),
       o .starts,
       o .ends,
+      p .1 .rows-of,
+      p .1 .starts-of,
     )
 
 returns-2 : tie.Need-returns-2

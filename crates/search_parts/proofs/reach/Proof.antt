@@ -9,7 +9,7 @@ use Rattle.search_parts.proofs.reach.Tie as tie
 
 -- the places that the needs speak of
 abbrev start : tie.After-is-chop → tie.Start
-start c = c .before .before .before .before
+start c = c .before .before .before .before .before .before
 
 reach-chop-requires : tie.Need-reach-chop-requires
 reach-chop-requires c κs =
@@ -19,7 +19,7 @@ reach-chop-requires c κs =
 reach-instant-requires : tie.Need-reach-instant-requires
 reach-instant-requires c κs =
     let e = c .before .before in let f = e .before .before in let e1 = f .before in let i = e1 .before in
-    let p = start i .pre in (p .0, (sym (f .form-of .ensures) ∙ e .enum-told2 .given .1, sym (i .is-chop .ensures) ∙ e1 .if1 .left))
+    let p = start i .pre in (p .0, (sym (f .form-of .ensures) ∙ e .enum-told2 .given .1, sym (i .is-chop .ensures) ∙ e1 .if1 .left, p .1 .rows-of))
 
 returns-4 : tie.Need-returns-4
 returns-4 c =

@@ -15,7 +15,7 @@ use Rattle.search_parts.proofs.reach_instant.Tie as tie
 
 -- the places that the needs speak of
 abbrev start : tie.After-among → tie.Start
-start c = c .before .before .before
+start c = c .before .before .before .before
 
 abbrev after-rise-of : tie.After-visit-instant-arg2 → tie.After-rise-of
 after-rise-of c = c .before .before
@@ -33,7 +33,7 @@ visit-instant-requires : tie.Need-visit-instant-requires
 visit-instant-requires c κs =
     let r = after-rise-of c in let e1 = r .before in let a = e1 .before in let p = start a .pre in
     let f = a .among .ensures .here (not-false _ (e1 .if1 .left)) in
-    (whole-stands (p .0 .0) (p .1 .1), p .0 .1, rising-known (start a .args .block .rule) (p .1 .0) (p .1 .1) (r .rise-of .ensures), omega (arith, f))
+    (whole-stands (p .0 .0) (p .1 .1), p .0 .1, rising-known (start a .args .block .rule) (p .1 .0) (p .1 .1) (r .rise-of .ensures), omega (arith, f), p .1 .2)
 
 returns-2 : tie.Need-returns-2
 returns-2 c =

@@ -17,20 +17,20 @@ use Rattle.search_queue.proofs.close.Statement.{statement}
 use Rattle.search_queue.proofs.close.Tie as tie
 
 abbrev Inv-loop : tie.InvT-loop
-Inv-loop values₀ trail₀ head top kinds numbers sizes firsts seats parents intervals starts count c k all t₀ h₀ values trail t h =
+Inv-loop values₀ trail₀ head top kinds numbers sizes firsts seats parents intervals starts rows count c k all t₀ h₀ values trail t h =
     (length values ≡ length values₀) × (length trail ≡ length trail₀) × Grown values₀ trail₀ top values trail t
     × (closure (tableBy c k kinds numbers sizes firsts count) (heldIn values) ≡ closure (tableBy c k kinds numbers sizes firsts count) (heldIn values₀))
     × Pending (tableBy c k kinds numbers sizes firsts count) values trail h t × (all ≡ countOf k)
 
 abbrev μ-loop : tie.MeasureT-loop
-μ-loop values₀ trail₀ head top kinds numbers sizes firsts seats parents intervals starts count c k all t₀ h₀ values trail t h = length values₀ - h
+μ-loop values₀ trail₀ head top kinds numbers sizes firsts seats parents intervals starts rows count c k all t₀ h₀ values trail t h = length values₀ - h
 
 -- the places that the needs speak of
 abbrev start : tie.After-shared-slice-known2 Inv-loop μ-loop → tie.Start Inv-loop μ-loop
 start c = c .before .before .before .before
 
-abbrev start-2 : tie.After-count Inv-loop μ-loop → tie.Start Inv-loop μ-loop
-start-2 c = start (c .before)
+abbrev start-2 : tie.After-all Inv-loop μ-loop → tie.Start Inv-loop μ-loop
+start-2 c = start (c .before .before)
 
 abbrev after-reach : tie.After-slice-known5 Inv-loop μ-loop → tie.After-reach Inv-loop μ-loop
 after-reach c = c .before .before .before .before
@@ -41,11 +41,11 @@ inside c = after-reach c .before .before .before .before
 abbrev inside-2 : tie.Else1 Inv-loop μ-loop → tie.In-loop Inv-loop μ-loop
 inside-2 c = inside (c .before)
 
-count-requires : tie.Need-count-requires Inv-loop μ-loop
-count-requires c κs = start c .pre .0 .0 .steps
+all-requires : tie.Need-all-requires Inv-loop μ-loop
+all-requires c κs = let p = start (c .before) .pre .0 in (p .0 .steps, p .1 .rows-of)
 
 loop-holds : tie.Need-loop-holds Inv-loop μ-loop
-loop-holds c = let p = start-2 c .pre .1 in (refl, refl, grown-none (p .since .trailing), refl, p, c .count .ensures .0)
+loop-holds c = let p = start-2 c .pre .1 in (refl, refl, grown-none (p .since .trailing), refl, p, c .all .ensures .0)
 
 mul-u : tie.Need-mul-u Inv-loop μ-loop
 mul-u c =
@@ -90,8 +90,7 @@ close-spec =
     (tie.spec
     Inv-loop
     μ-loop
-    count-requires
-    (λ c. search needs)
+    all-requires
     loop-holds
     mul-u
     slice-read-u

@@ -8,7 +8,7 @@ use Rattle.search_queue.proofs.start.Tie as tie
 
 -- the places that the needs speak of
 abbrev start : tie.After-sweep-arg2 → tie.Start
-start c = c .before .before .before .before .before .before
+start c = c .before .before .before .before .before .before .before
 
 abbrev after-sweep : tie.After-slice-known4 → tie.After-sweep
 after-sweep c = c .before .before .before .before
@@ -17,7 +17,7 @@ abbrev after-sweep-2 : tie.Else1 → tie.After-sweep
 after-sweep-2 c = after-sweep (c .before)
 
 sweep-requires : tie.Need-sweep-requires
-sweep-requires c κs = let g = start c .pre .0 .0 in ((g .channels, g .steps, g .few, g .low, start c .pre .1), (g .root, g .mentioned))
+sweep-requires c κs = let g = start c .pre .0 .0 in ((g .channels, g .steps, g .few, g .low, start c .pre .1, start c .pre .0 .1 .rows-of), (g .root, g .mentioned))
 
 returns : tie.Need-returns
 returns c = swept-clash (after-sweep (c .before) .sweep .ensures) (c .if1 .taken)

@@ -17,7 +17,7 @@ use Rattle.search_reach.proofs.reach_row.Tie as tie
 
 -- the places that the needs speak of
 abbrev start : tie.After-last-from → tie.Start
-start c = c .before .before .before .before .before .before
+start c = c .before .before .before .before .before .before .before
 
 abbrev after-block-of : tie.After-reach → tie.After-block-of
 after-block-of c = c .before .before .before
@@ -39,11 +39,12 @@ after-reach-2 c = after-reach (c .before .before)
 
 last-from-requires : tie.Need-last-from-requires
 last-from-requires c κs =
-    let s = c .before .before .before .before .before in
+    let s = c .before .before .before .before .before .before in
     let e : length (s .args .firsts .now) ≡ maxNodes = search needs in let g = s .pre .0 .0 in (g .some, omega (arith, e, g .few), first-le g (s .pre .1 .2))
 
 block-of-requires : tie.Need-block-of-requires
-block-of-requires c κs = let g = start c .pre .0 .0 in (g .steps, omega (arith, (c .last-from .ensures) .below, g .few), g .low, g .seated)
+block-of-requires c κs =
+    let p = start c .pre in let g = p .0 .0 in (g .steps, omega (arith, (c .last-from .ensures) .below, g .few), g .low, g .seated, p .1 .1)
 
 reach-requires : tie.Need-reach-requires
 reach-requires c κs =
@@ -72,7 +73,7 @@ cast-y c =
 block-of-requires-2 : tie.Need-block-of-requires-2
 block-of-requires-2 c κs =
     let l = after-last-from-2 c in
-    let g = start l .pre .0 .0 in (g .steps, omega (arith, g .few, g .grid .upward (l .last-from .result) (l .last-from .ensures .below)), g .low, g .seated)
+    let g = start l .pre .0 .0 in (g .steps, omega (arith, g .few, g .grid .upward (l .last-from .result) (l .last-from .ensures .below)), g .low, g .seated, start l .pre .1 .1)
 
 reach-requires-2 : tie.Need-reach-requires-2
 reach-requires-2 c κs =
@@ -86,7 +87,7 @@ reach-requires-2 c κs =
         not-own (g .grid) _ l (after-last-from t2 .last-from .result) (start-2 r .args .u) (z .below) i (other-row g (z .below) (t2 .if2 .taken)) (b .0),
         p .1 .2,
       ),
-      (p .1 .0 .room, p .1 .0 .intervals-to),
+      p .1 .0,
     )
 
 returns-2 : tie.Need-returns-2

@@ -19,16 +19,16 @@ use Rattle.search_sweep_node.proofs.sweep_block.Statement.{statement}
 use Rattle.search_sweep_node.proofs.sweep_block.Tie as tie
 
 abbrev Inv-loop : tie.InvT-loop
-Inv-loop values₀ trail₀ top c k block cursor₀ t₀ values trail cursor t =
+Inv-loop values₀ trail₀ top row-starts c k block cursor₀ t₀ values trail cursor t =
     (length values ≡ length values₀) × (length trail ≡ length trail₀) × (cursor .place ≤ cursor .end) × Walks k block cursor
     × Visited (rows (cursor .place) (clausesAt (definedBy c k block))) values₀ trail₀ top values trail (record { clash = false; top = t })
 
 abbrev μ-loop : tie.MeasureT-loop
-μ-loop values₀ trail₀ top c k block cursor₀ t₀ values trail cursor t = cursor .end - cursor .place
+μ-loop values₀ trail₀ top row-starts c k block cursor₀ t₀ values trail cursor t = cursor .end - cursor .place
 
 -- the places that the needs speak of
 abbrev start : tie.At-loop Inv-loop μ-loop → tie.Start Inv-loop μ-loop
-start c = c .before .before .before .before
+start c = c .before .before .before .before .before
 
 abbrev turn : tie.Then1 Inv-loop μ-loop → tie.At-loop Inv-loop μ-loop
 turn c = c .before .before
@@ -43,11 +43,11 @@ abbrev then1 : tie.Else2 Inv-loop μ-loop → tie.Then1 Inv-loop μ-loop
 then1 c = after-gate-at (after-visit (c .before) .before) .before
 
 start-requires : tie.Need-start-requires Inv-loop μ-loop
-start-requires c κs = let s = c .before .before .pre .0 .0 in walkable (s .0) (s .1)
+start-requires c κs = let s = c .before .before .before .pre .0 in (walkable (s .0 .0) (s .0 .1), s .2)
 
 loop-holds : tie.Need-loop-holds Inv-loop μ-loop
 loop-holds c =
-    let s = c .before .before .before in
+    let s = c .before .before .before .before in
     let e = c .start .ensures in (
       refl,
       refl,
@@ -58,7 +58,7 @@ loop-holds c =
     )
 
 gate-at-requires : tie.Need-gate-at-requires Inv-loop μ-loop
-gate-at-requires c κs = let l = turn c in gate-asked (start l .pre .0 .0 .0) (l .loop .inv .3) (c .if1 .taken)
+gate-at-requires c κs = let l = turn c in gate-asked (start l .pre .0 .0 .0) (l .loop .inv .3) (c .if1 .taken) (start l .pre .0 .2)
 
 add-visit : tie.Need-add-visit Inv-loop μ-loop
 add-visit c = let t1 = after-gate-at c .before in let l = turn t1 in omega (arith, l .loop .inv .3 .few, t1 .if1 .taken, start l .pre .0 .0 .0 .first)

@@ -11,7 +11,7 @@ use Rattle.search_sweep_node.proofs.sweep_chop.Tie as tie
 
 -- the places that the needs speak of
 abbrev start : tie.After-beyond → tie.Start
-start c = c .before .before .before
+start c = c .before .before .before .before
 
 abbrev after-intervals-of : tie.After-sweep-block → tie.After-intervals-of
 after-intervals-of c = c .before .before .before
@@ -23,7 +23,7 @@ sweep-block-requires : tie.Need-sweep-block-requires
 sweep-block-requires c κs =
     let i = c .before .before in let t = i .before in let b = t .before in let s = start b in
     let h = halves (s .args .block) (b .beyond .ensures) (t .triples-of .ensures) (i .intervals-of .ensures) in
-    ((triples-bounded _ h (s .pre .0 .0), s .pre .0 .1), triples-mentioned _ h (s .pre .1))
+    ((triples-bounded _ h (s .pre .0 .0), s .pre .0 .1, s .pre .0 .2), triples-mentioned _ h (s .pre .1))
 
 returns : tie.Need-returns
 returns c =
@@ -36,7 +36,7 @@ sweep-block-requires-2 c κs =
     let sb = after-sweep-block (c .before .before .before) in let i = after-intervals-of sb in let t = i .before in let b = t .before in
     let s = start b in
     let h = halves (s .args .block) (b .beyond .ensures) (t .triples-of .ensures) (i .intervals-of .ensures) in let r = sb .sweep-block in (
-      (intervals-bounded _ h (s .pre .0 .0), r .ensures .grown .trailing),
+      (intervals-bounded _ h (s .pre .0 .0), r .ensures .grown .trailing, s .pre .0 .2),
       still (definedBy (s .args .c) (s .args .k) (i .intervals-of .result)) (r .kept .0) (intervals-mentioned _ h (s .pre .1)),
     )
 

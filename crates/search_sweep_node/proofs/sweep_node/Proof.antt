@@ -8,7 +8,7 @@ use Rattle.search_sweep_node.proofs.sweep_node.Tie as tie
 
 -- the places that the needs speak of
 abbrev start : tie.After-is-chop → tie.Start
-start c = c .before .before .before
+start c = c .before .before .before .before
 
 sweep-chop-requires : tie.Need-sweep-chop-requires
 sweep-chop-requires c κs =
@@ -23,7 +23,7 @@ returns c =
 sweep-block-requires : tie.Need-sweep-block-requires
 sweep-block-requires c κs =
     let e1 = c .before .before in let i = e1 .before in let s = start i in
-    (((s .pre .0 .0 .bounded, s .pre .0 .0 .points), s .pre .0 .1), node-mentioned (s .args .c) (s .args .k) (s .args .block) (i .is-chop .ensures) (e1 .if1 .left) (s .pre .1))
+    (((s .pre .0 .0 .bounded, s .pre .0 .0 .points), s .pre .0 .1, s .pre .0 .2), node-mentioned (s .args .c) (s .args .k) (s .args .block) (i .is-chop .ensures) (e1 .if1 .left) (s .pre .1))
 
 returns-2 : tie.Need-returns-2
 returns-2 c =

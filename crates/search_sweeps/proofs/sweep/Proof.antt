@@ -9,7 +9,7 @@ use Rattle.search_sweeps.proofs.sweep.Tie as tie
 
 -- the places that the needs speak of
 abbrev start : tie.After-sweep-nodes-arg2 → tie.Start
-start c = c .before .before .before .before
+start c = c .before .before .before .before .before
 
 abbrev after-sweep-nodes : tie.After-slice-known4 → tie.After-sweep-nodes
 after-sweep-nodes c = c .before .before .before .before

@@ -6,25 +6,24 @@ use Prim.Native.Nat.{_-_, _≤_}
 use native.Mathlib.Omega.{arith}
 use borrow.Author.Needs.{needs}
 use lib.ListN.{length}
-use Rattle.lists.specs.Listing.{rows}
 use Rattle.search_visits.specs.Visits.{Visited}
 use Rattle.search_visits.proofs.Loops.{loop-begun, loop-turn, loop-stop, loop-done}
-use Rattle.search_clauses.specs.Clauses.{rowClauses}
+use Rattle.search_clauses.specs.Clauses.{nodesBy}
 use Rattle.search_clauses.proofs.Walk.{row-mentioned, row-clauses}
 use Rattle.search_sweeps.proofs.sweep_nodes.Statement.{statement}
 use Rattle.search_sweeps.proofs.sweep_nodes.Tie as tie
 
 abbrev Inv-loop : tie.InvT-loop
-Inv-loop values₀ trail₀ top kinds numbers sizes firsts count c k t₀ x₀ values trail t x =
+Inv-loop values₀ trail₀ top kinds numbers sizes firsts rows count c k t₀ x₀ values trail t x =
     (length values ≡ length values₀) × (length trail ≡ length trail₀) × (x ≤ count)
-    × Visited (rows x (rowClauses c k kinds numbers sizes firsts)) values₀ trail₀ top values trail (record { clash = false; top = t })
+    × Visited (nodesBy c k kinds numbers sizes firsts x) values₀ trail₀ top values trail (record { clash = false; top = t })
 
 abbrev μ-loop : tie.MeasureT-loop
-μ-loop values₀ trail₀ top kinds numbers sizes firsts count c k t₀ x₀ values trail t x = count - x
+μ-loop values₀ trail₀ top kinds numbers sizes firsts rows count c k t₀ x₀ values trail t x = count - x
 
 -- the places that the needs speak of
 abbrev start : tie.In-loop Inv-loop μ-loop → tie.Start Inv-loop μ-loop
-start c = c .before .before .before .before
+start c = c .before .before .before .before .before
 
 abbrev after-block-at : tie.After-sweep-node Inv-loop μ-loop → tie.After-block-at Inv-loop μ-loop
 after-block-at c = c .before .before .before
@@ -33,7 +32,7 @@ abbrev after-sweep-node : tie.After-slice-known4 Inv-loop μ-loop → tie.After-
 after-sweep-node c = c .before .before .before .before
 
 loop-holds : tie.Need-loop-holds Inv-loop μ-loop
-loop-holds c = (refl, refl, omega arith, loop-begun _ (c .before .before .pre .0 .4))
+loop-holds c = (refl, refl, omega arith, loop-begun _ (c .before .before .before .pre .0 .4))
 
 block-at-requires : tie.Need-block-at-requires Inv-loop μ-loop
 block-at-requires c κs = let s = start c .pre .0 in (s .1, omega (arith, s .2, c .loop-test .taken), s .3)
@@ -42,7 +41,7 @@ sweep-node-requires : tie.Need-sweep-node-requires Inv-loop μ-loop
 sweep-node-requires c κs =
     let ba = c .before .before in let il = ba .before in
     let s = start il .pre in let i = il .before .loop .inv in let b = ba .block-at .ensures in (
-      (b .1 _ (s .0 .0), i .3 .grown .trailing),
+      (b .1 _ (s .0 .0), i .3 .grown .trailing, s .0 .5),
       row-mentioned (start il .args .c) (start il .args .k) _ _ _ _ _ (ba .block-at .result) (b .0) (i .0)
           (s .1 _ (il .loop-test .taken)),
     )

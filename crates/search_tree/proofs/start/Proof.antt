@@ -11,7 +11,7 @@ use Rattle.search_tree.proofs.start.Tie as tie
 
 -- the places that the needs speak of
 abbrev start : tie.After-clear → tie.Start
-start c = c .before .before .before .before .before .before
+start c = c .before .before .before .before .before .before .before
 
 abbrev after-clear : tie.After-start-arg5 → tie.After-clear
 after-clear c = c .before .before .before .before .before .before .before .before

@@ -15,18 +15,18 @@ use Rattle.search_tries.proofs.descend.Statement.{statement}
 use Rattle.search_tries.proofs.descend.Tie as tie
 
 abbrev Inv-loop : tie.InvT-loop
-Inv-loop values₀ trail₀ firsts seats parents intervals starts c k limit table channels levels₀ last₀ depth₀ n₀ values trail levels last depth n =
+Inv-loop values₀ trail₀ firsts seats parents intervals starts rows c k limit table channels levels₀ last₀ depth₀ n₀ values trail levels last depth n =
     (length trail ≡ length trail₀) × (length levels ≡ maxSteps * maxChannels) × Standing (tableClauses c k table firsts) channels (length values₀) limit values trail levels last depth n
 
 abbrev μ-loop : tie.MeasureT-loop
-μ-loop values₀ trail₀ firsts seats parents intervals starts c k limit table channels levels₀ last₀ depth₀ n₀ values trail levels last depth n = limit - n
+μ-loop values₀ trail₀ firsts seats parents intervals starts rows c k limit table channels levels₀ last₀ depth₀ n₀ values trail levels last depth n = limit - n
 
 -- the places that the needs speak of
 abbrev start : tie.After-shared-slice-known2 Inv-loop μ-loop → tie.Start Inv-loop μ-loop
 start c = c .before .before .before .before
 
 abbrev start-2 : tie.At-loop Inv-loop μ-loop → tie.Start Inv-loop μ-loop
-start-2 c = start (c .before)
+start-2 c = start (c .before .before)
 
 abbrev else3 : tie.After-try-high-arg5 Inv-loop μ-loop → tie.Else3 Inv-loop μ-loop
 else3 c = c .before .before .before .before .before .before
@@ -44,10 +44,10 @@ abbrev else5-2 : tie.After-slice-known6 Inv-loop μ-loop → tie.Else5 Inv-loop 
 else5-2 c = else5 (after-try-literal c .before)
 
 mul-channels : tie.Need-mul-channels Inv-loop μ-loop
-mul-channels c = few-channels (start c .pre .0 .0)
+mul-channels c = few-channels (start (c .before) .pre .0 .0)
 
 loop-holds : tie.Need-loop-holds Inv-loop μ-loop
-loop-holds c = let p = start c .pre in (refl, refl, standing _ _ _ _ (p .1) refl (omega (arith, p .0 .0 .total)) _)
+loop-holds c = let p = start (c .before) .pre in (refl, refl, standing _ _ _ _ (p .1) refl (omega (arith, p .0 .0 .total)) _)
 
 returns : tie.Need-returns Inv-loop μ-loop
 returns c = high-dead _ _ _ _ (c .before .before .loop .inv .2) (c .before .if1 .taken) (c .if2 .taken)

@@ -8,6 +8,7 @@ use borrow.Author.Needs.{needs}
 use lib.ListN.{length}
 use Rattle.lists.specs.Listing.{rows}
 use Rattle.interval.specs.Places.{triplePlaceOf}
+use Rattle.interval.proofs.Laws.{counts-at-32}
 use Rattle.table_blocks.specs.Blocks.{definedBy}
 use Rattle.search_clauses.specs.Clauses.{clausesAt}
 use Rattle.search_visits.specs.Visits.{Visited}
@@ -19,16 +20,16 @@ use Rattle.search_triples.proofs.visit_first.Statement.{statement}
 use Rattle.search_triples.proofs.visit_first.Tie as tie
 
 abbrev Inv-loop : tie.InvT-loop
-Inv-loop values₀ trail₀ top c k all block i m x start v₀ t₀ e₀ e-end values trail v t e =
+Inv-loop values₀ trail₀ top triple-starts row-starts c k block i m x start v₀ t₀ e₀ e-end values trail v t e =
     (length values ≡ length values₀) × (length trail ≡ length trail₀) × (e ≤ k - m + 1) × Firsts k block i m x start v e
     × Visited (rows e (λ e. clausesAt (definedBy c k block) (triplePlaceOf k (record { i = i; m = m; j = m + e })))) values₀ trail₀ top values trail (record { clash = false; top = t })
 
 abbrev μ-loop : tie.MeasureT-loop
-μ-loop values₀ trail₀ top c k all block i m x start v₀ t₀ e₀ e-end values trail v t e = k - m + 1 - e
+μ-loop values₀ trail₀ top triple-starts row-starts c k block i m x start v₀ t₀ e₀ e-end values trail v t e = k - m + 1 - e
 
 -- the places that the needs speak of
 abbrev at-start : tie.After-struct-known Inv-loop μ-loop → tie.Start Inv-loop μ-loop
-at-start c = c .before .before .before .before
+at-start c = c .before .before .before .before .before .before
 
 abbrev at-start-2 : tie.After-struct-known2 Inv-loop μ-loop → tie.Start Inv-loop μ-loop
 at-start-2 c = at-start (c .before .before .before)
@@ -46,19 +47,19 @@ abbrev inside-2 : tie.Else1 Inv-loop μ-loop → tie.In-loop Inv-loop μ-loop
 inside-2 c = inside (after-settle-both (c .before) .before)
 
 place-requires : tie.Need-place-requires Inv-loop μ-loop
-place-requires c κs = let s = c .before .before .pre in omega (arith, s, s .0 .bounded .steps)
+place-requires c κs = let s = c .before .before .before .before .pre in (omega (arith, s), s .0 .bounded .steps, s .1)
 
 add-x : tie.Need-add-x Inv-loop μ-loop
 add-x c = omega (arith, c .before .place .ensures .1, at-start c .pre .0 .bounded .left)
 
 place-requires-2 : tie.Need-place-requires-2 Inv-loop μ-loop
-place-requires-2 c κs = let s = at-start c .pre in omega (arith, s, s .0 .bounded .steps)
+place-requires-2 c κs = let s = at-start c .pre in (omega (arith, s), s .0 .bounded .steps, s .1)
 
-triple-place-requires : tie.Need-triple-place-requires Inv-loop μ-loop
-triple-place-requires c κs = let s = at-start (c .before) .pre in omega (arith, s, s .0 .bounded .steps)
+place-requires-3 : tie.Need-place-requires-3 Inv-loop μ-loop
+place-requires-3 c κs = let s = at-start (c .before) .pre in (omega arith, omega (arith, s), s .0 .bounded .steps, s .1, s .5)
 
 add-v : tie.Need-add-v Inv-loop μ-loop
-add-v c = omega (arith, c .before .triple-place .ensures .1, at-start-2 c .pre .0 .bounded .first)
+add-v c = omega (arith, c .before .place3 .ensures .1, at-start-2 c .pre .0 .bounded .first, counts-at-32 (at-start-2 c .args .k) (at-start-2 c .pre .0 .bounded .steps))
 
 add-e-end : tie.Need-add-e-end Inv-loop μ-loop
 add-e-end c = omega (arith, at-start-2 c .pre .0 .bounded .steps)
@@ -70,7 +71,7 @@ loop-holds c =
       refl,
       refl,
       omega arith,
-      first-begun (s .2) (s .3) (s .4) (p .before .before .place .ensures .0) (p .place2 .ensures .0) (c .before .triple-place .ensures .0),
+      first-begun (s .2) (s .3) (s .4) (p .before .before .place .ensures .0) (p .place2 .ensures .0) (c .before .place3 .ensures .0),
       loop-begun _ (s .0 .trailing),
     )
 
@@ -135,7 +136,9 @@ visit-first-spec =
     place-requires
     add-x
     place-requires-2
-    triple-place-requires
+    (λ c. search needs)
+    (λ c. search needs)
+    place-requires-3
     add-v
     (λ c. search needs)
     add-e-end

@@ -8,6 +8,7 @@ use borrow.Author.Needs.{needs}
 use lib.ListN.{length}
 use Rattle.lists.specs.Listing.{rows}
 use Rattle.interval.specs.Places.{triplePlaceOf}
+use Rattle.interval.proofs.Laws.{counts-at-32}
 use Rattle.table_blocks.specs.Blocks.{definedBy}
 use Rattle.search_clauses.specs.Clauses.{clausesAt}
 use Rattle.search_visits.specs.Visits.{Visited}
@@ -19,16 +20,16 @@ use Rattle.search_triples.proofs.visit_second.Statement.{statement}
 use Rattle.search_triples.proofs.visit_second.Tie as tie
 
 abbrev Inv-loop : tie.InvT-loop
-Inv-loop values₀ trail₀ top c k all block m j start x₀ v₀ row₀ t₀ i₀ i-end values trail x v row t i =
+Inv-loop values₀ trail₀ top triple-starts row-starts c k all block m j start x₀ v₀ row₀ t₀ i₀ i-end values trail x v row t i =
     (length values ≡ length values₀) × (length trail ≡ length trail₀) × (i ≤ m + 1) × Seconds k block m j start x v row i
     × Visited (rows i (λ i. clausesAt (definedBy c k block) (triplePlaceOf k (record { i = i; m = m; j = j })))) values₀ trail₀ top values trail (record { clash = false; top = t })
 
 abbrev μ-loop : tie.MeasureT-loop
-μ-loop values₀ trail₀ top c k all block m j start x₀ v₀ row₀ t₀ i₀ i-end values trail x v row t i = m + 1 - i
+μ-loop values₀ trail₀ top triple-starts row-starts c k all block m j start x₀ v₀ row₀ t₀ i₀ i-end values trail x v row t i = m + 1 - i
 
 -- the places that the needs speak of
 abbrev at-start : tie.After-struct-known Inv-loop μ-loop → tie.Start Inv-loop μ-loop
-at-start c = c .before .before .before .before
+at-start c = c .before .before .before .before .before .before
 
 abbrev at-start-2 : tie.After-struct-known2 Inv-loop μ-loop → tie.Start Inv-loop μ-loop
 at-start-2 c = at-start (c .before .before)
@@ -49,16 +50,16 @@ abbrev at-start-4 : tie.Else1 Inv-loop μ-loop → tie.Start Inv-loop μ-loop
 at-start-4 c = at-start-3 (inside-2 c .before)
 
 place-requires : tie.Need-place-requires Inv-loop μ-loop
-place-requires c κs = let s = c .before .before .pre in omega (arith, s, s .0 .bounded .steps)
+place-requires c κs = let s = c .before .before .before .before .pre in (omega (arith, s), s .0 .bounded .steps, s .5)
 
 add-x : tie.Need-add-x Inv-loop μ-loop
 add-x c = let s = at-start c .pre in omega (arith, s, s .0 .bounded .steps, s .0 .bounded .left)
 
-triple-place-requires : tie.Need-triple-place-requires Inv-loop μ-loop
-triple-place-requires c κs = let s = at-start c .pre in omega (arith, s, s .0 .bounded .steps)
+place-requires-2 : tie.Need-place-requires-2 Inv-loop μ-loop
+place-requires-2 c κs = let s = at-start c .pre in (omega (arith, s), omega (arith, s), s .0 .bounded .steps, s .5, s .6)
 
 add-v : tie.Need-add-v Inv-loop μ-loop
-add-v c = omega (arith, c .before .triple-place .ensures .1, at-start-2 c .pre .0 .bounded .first)
+add-v c = omega (arith, c .before .place2 .ensures .1, at-start-2 c .pre .0 .bounded .first, counts-at-32 (at-start-2 c .args .k) (at-start-2 c .pre .0 .bounded .steps))
 
 add-i-end : tie.Need-add-i-end Inv-loop μ-loop
 add-i-end c = let s = at-start-2 c .pre in omega (arith, s, s .0 .bounded .steps)
@@ -69,7 +70,7 @@ loop-holds c =
       refl,
       refl,
       omega arith,
-      second-begun (s .2) (s .3) (s .4) (c .before .before .before .place .ensures .0) (s .1) (c .before .triple-place .ensures .0),
+      second-begun (s .2) (s .3) (s .4) (c .before .before .before .place .ensures .0) (s .1) (c .before .place2 .ensures .0),
       loop-begun _ (s .0 .trailing),
     )
 
@@ -152,7 +153,7 @@ visit-second-spec =
     (λ c. search needs)
     place-requires
     add-x
-    triple-place-requires
+    place-requires-2
     add-v
     add-i-end
     loop-holds

@@ -10,15 +10,15 @@ use Rattle.search_walks.proofs.visit_at.Tie as tie
 
 -- the places that the needs speak of
 abbrev start : tie.After-gate-at → tie.Start
-start c = c .before .before .before
+start c = c .before .before .before .before
 
 abbrev after-gate-at : tie.After-visit-arg2 → tie.After-gate-at
 after-gate-at c = c .before .before
 
 gate-at-requires : tie.Need-gate-at-requires
 gate-at-requires c κs =
-    let start₀ = c .before .before in let s = start₀ .pre in
-    ((s .0 .0 .bounded, omega (arith, place-small (s .0 .0) (s .1 .0)), s .0 .1), (s .1 .0, before-there _ _ (start₀ .args .p) (s .1 .1)))
+    let start₀ = c .before .before .before in let s = start₀ .pre in
+    ((s .0 .0 .bounded, omega (arith, place-small (s .0 .0) (s .1 .0)), s .0 .1, s .0 .2), (s .1 .0, before-there _ _ (start₀ .args .p) (s .1 .1)))
 
 add-visit : tie.Need-add-visit
 add-visit c = let p = start (after-gate-at c) .pre in omega (arith, place-small (p .0 .0) (p .1 .0), p .0 .0 .bounded .first)

@@ -13,7 +13,7 @@ use Rattle.search_walks.proofs.visit_cut.Tie as tie
 
 -- the places that the needs speak of
 abbrev start : tie.After-struct-known → tie.Start
-start c = c .before .before .before
+start c = c .before .before .before .before
 
 abbrev start-2 : tie.After-struct-known2 → tie.Start
 start-2 c = start (c .before .before)

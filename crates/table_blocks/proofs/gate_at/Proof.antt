@@ -10,30 +10,31 @@ use Rattle.table_blocks.proofs.gate_at.Tie as tie
 
 -- the places that the needs speak of
 abbrev start : tie.After-enum-told4 → tie.Start
-start c = c .before .before
+start c = c .before .before .before
 
 channel-variable-requires : tie.Need-channel-variable-requires
 channel-variable-requires c κs =
-    let s = c .before .before .before in omega (arith, letter-fits (c .before .rule2 .given .1) (s .pre .0 .0 .number), s .pre .0 .0 .channels, s .pre .0 .1)
+    let s = c .before .before .before .before in omega (arith, letter-fits (c .before .rule2 .given .1) (s .pre .0 .0 .number), s .pre .0 .0 .channels, s .pre .0 .1)
 
-add-t20 : tie.Need-add-t20
-add-t20 c =
+add-t21 : tie.Need-add-t21
+add-t21 c =
     let e = c .before in let s = start e in
     omega (arith, chop-before (s .args .p) (s .pre .1 .0) (s .pre .1 .1 (e .enum-told4 .given .1)) (e .enum-told4 .given .1) (s .pre .0 .0 .steps), s .pre .0 .0 .left)
 
-add-t21 : tie.Need-add-t21
-add-t21 c = let e = c .before .before in let s = start e in omega (arith, chop-position (s .pre .1 .0) (e .enum-told4 .given .1), s .pre .0 .0 .steps)
+add-t22 : tie.Need-add-t22
+add-t22 c = let e = c .before .before in let s = start e in omega (arith, chop-position (s .pre .1 .0) (e .enum-told4 .given .1), s .pre .0 .0 .steps)
 
 level-gate-requires : tie.Need-level-gate-requires
 level-gate-requires c κs =
-    let s = c .before .before in let p = level-position (s .pre .1 .0) (c .enum-told5 .given .1) in
+    let s = c .before .before .before in let p = level-position (s .pre .1 .0) (c .enum-told5 .given .1) in
     (s .pre .0 .0 .steps, s .pre .0 .2, s .pre .0 .0 .first, s .pre .0 .0 .left, omega arith, p .0, p .1)
 
 throughout-gate-requires : tie.Need-throughout-gate-requires
-throughout-gate-requires c κs = omega (arith, throughout-position (c .before .before .pre .1 .0) (c .enum-told6 .given .1))
+throughout-gate-requires c κs = omega (arith, throughout-position (c .before .before .before .pre .1 .0) (c .enum-told6 .given .1))
 
 triple-gate-requires : tie.Need-triple-gate-requires
-triple-gate-requires c κs = omega (arith, triple-position (c .before .before .pre .1 .0) (c .enum-told7 .given .1))
+triple-gate-requires c κs =
+    let s = c .before .before .before in (omega (arith, triple-position (s .pre .1 .0) (c .enum-told7 .given .1)), s .pre .0 .3)
 
 returns : tie.Need-returns
 returns c = gate-by _ _ _ _ _ _ _ (c .before .rule .given .1)
@@ -80,8 +81,8 @@ gate-at-spec =
     (λ c. search needs)
     (λ c. search needs)
     (λ c. search needs)
-    add-t20
     add-t21
+    add-t22
     (λ c. search needs)
     level-gate-requires
     (λ c. search needs)

@@ -11,7 +11,7 @@ use Rattle.table_blocks.proofs.triple_gate.Tie as tie
 
 returns : tie.Need-returns
 returns c =
-    let start₀ = c .before .before in let s = start₀ .args in
+    let start₀ = c .before .before .before in let s = start₀ .args in
     let j : s .a + s .d + (s .i - s .d) ≡ s .a + s .i = omega (arith, start₀ .pre) in
     ap₂ Both (omega (arith, c .before .place .ensures)) (omega (arith, c .place2 .ensures, ap (λ (j : ℕ). placeOf (s .k) (record { i = s .a + s .d; j = j })) j))
 

@@ -12,15 +12,15 @@ use Rattle.table_calls.proofs.put_nodes.Statement.{statement}
 use Rattle.table_calls.proofs.put_nodes.Tie as tie
 
 abbrev Inv-loop : tie.InvT-loop
-Inv-loop variables₀ marks₀ firsts c k table at₀ x₀ x-end variables marks at x =
+Inv-loop variables₀ marks₀ firsts c rows k table at₀ x₀ x-end variables marks at x =
     Sofar variables₀ marks₀ 0 (rowPlaces c k (table .kinds) (table .numbers) (table .sizes) firsts) (table .count) variables marks at x
 
 abbrev μ-loop : tie.MeasureT-loop
-μ-loop variables₀ marks₀ firsts c k table at₀ x₀ x-end variables marks at x = table .count - x
+μ-loop variables₀ marks₀ firsts c rows k table at₀ x₀ x-end variables marks at x = table .count - x
 
 -- the places that the needs speak of
 abbrev start : tie.At-loop Inv-loop μ-loop → tie.Start Inv-loop μ-loop
-start c = c .before .before .before
+start c = c .before .before .before .before
 
 abbrev inside : tie.After-block-at-arg3 Inv-loop μ-loop → tie.In-loop Inv-loop μ-loop
 inside c = c .before .before .before .before
@@ -37,7 +37,7 @@ block-at-requires c κs = let i = inside c in let p = start (i .before) .pre .1 
 put-node-requires : tie.Need-put-node-requires Inv-loop μ-loop
 put-node-requires c κs =
     let b = c .before .before in let l = at-turn b in let e = b .block-at .ensures in
-    (room (l .loop .inv) (search needs) (ap (nodePlaces _ _) (sym (e .0))) (start l .pre .0), e .1 _ (start l .pre .1 .0))
+    (room (l .loop .inv) (search needs) (ap (nodePlaces _ _) (sym (e .0))) (start l .pre .0), (e .1 _ (start l .pre .1 .0), start l .pre .1 .4))
 
 loop-again : tie.Need-loop-again Inv-loop μ-loop
 loop-again c =

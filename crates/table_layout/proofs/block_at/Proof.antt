@@ -7,7 +7,7 @@ use Rattle.table_layout.proofs.block_at.Tie as tie
 
 returns : tie.Need-returns
 returns c =
-    let p = c .before .before in let r = p .before in let b = r .before in let s = b .before .before in let second = s .before in
+    let p = c .before .before in let r = p .before .before in let b = r .before in let s = b .before .before in let second = s .before in
     let seat = second .before in let ba = seat .before in let start₀ = ba .before .before in
     let a = start₀ .args in (
       block-read _ _ _ _ _ _ _ (r .rule-of .ensures) (c .number-at .ensures) (ba .byte-at .ensures) (b .byte-at2 .ensures) (second .second .ensures .0)
@@ -27,6 +27,8 @@ block-at-spec =
     (λ c κs. search needs)
     (λ c κs. search needs)
     (λ c κs. search needs)
+    (λ c κs. search needs)
+    (λ c. search needs)
     (λ c κs. search needs)
     (λ c κs. search needs)
     returns)

@@ -15,7 +15,7 @@ after-rule c = c .before .before .before .before
 
 put-run-requires : tie.Need-put-run-requires
 put-run-requires c κs =
-    let r = after-rule c in let p = r .before .before .before .before .pre in
+    let r = after-rule c in let p = r .before .before .before .before .before .pre in
     (subst (Room _ _ _) (sym (constant-known _ _ _ (r .rule .given .1) (c .closing .ensures))) (p .0), omega (arith, p .1 .0 .first, p .1 .1))
 
 returns : tie.Need-returns

@@ -7,7 +7,7 @@ use Rattle.table_nodes.proofs.put_chop.Tie as tie
 
 -- the places that the needs speak of
 abbrev start : tie.After-beyond → tie.Start
-start c = c .before .before .before
+start c = c .before .before .before .before
 
 abbrev after-intervals-of : tie.After-put-block → tie.After-intervals-of
 after-intervals-of c = c .before .before .before
@@ -19,13 +19,13 @@ put-block-requires : tie.Need-put-block-requires
 put-block-requires c κs =
     let i = c .before .before in let t = i .before in let b = t .before in
     let h = halves (start b .args .block) (b .beyond .ensures) (t .triples-of .ensures) (i .intervals-of .ensures) in
-    (room-triples _ h (start b .pre .0), triples-bounded _ h (start b .pre .1))
+    let f = triples-bounded _ h (start b .pre .1 .0) in (room-triples _ h (start b .pre .0), (f .0, f .1, start b .pre .1 .1))
 
 put-block-requires-2 : tie.Need-put-block-requires-2
 put-block-requires-2 c κs =
     let p = after-put-block c in let i = after-intervals-of p in let t = i .before in let b = t .before in
     let h = halves (start b .args .block) (b .beyond .ensures) (t .triples-of .ensures) (i .intervals-of .ensures) in
-    (room-intervals _ h (start b .pre .0) (p .put-block .ensures), intervals-bounded _ h (start b .pre .1))
+    let f = intervals-bounded _ h (start b .pre .1 .0) in (room-intervals _ h (start b .pre .0) (p .put-block .ensures), (f .0, f .1, start b .pre .1 .1))
 
 returns : tie.Need-returns
 returns c =

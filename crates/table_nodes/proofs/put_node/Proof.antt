@@ -10,7 +10,7 @@ use Rattle.table_nodes.proofs.put_node.Tie as tie
 
 -- the places that the needs speak of
 abbrev start : tie.After-is-chop → tie.Start
-start c = c .before .before .before
+start c = c .before .before .before .before
 
 put-chop-requires : tie.Need-put-chop-requires
 put-chop-requires c κs =
@@ -25,7 +25,7 @@ returns c =
 put-block-requires : tie.Need-put-block-requires
 put-block-requires c κs =
     let e1 = c .before .before in let i = e1 .before in
-    (subst (Room _ _ _) (sym (places-known _ _ _ (i .is-chop .ensures) (e1 .if1 .left))) (start i .pre .0), (start i .pre .1 .bounded, start i .pre .1 .points))
+    (subst (Room _ _ _) (sym (places-known _ _ _ (i .is-chop .ensures) (e1 .if1 .left))) (start i .pre .0), (start i .pre .1 .0 .bounded, start i .pre .1 .0 .points, start i .pre .1 .1))
 
 returns-2 : tie.Need-returns-2
 returns-2 c =

@@ -8,14 +8,14 @@ use Rattle.table_nodes.proofs.walk_block.Statement.{statement}
 use Rattle.table_nodes.proofs.walk_block.Tie as tie
 
 abbrev Inv-loop : tie.InvT-loop
-Inv-loop variables₀ marks₀ at c k block cursor₀ b₀ variables marks cursor b = Walked c k block variables₀ marks₀ at variables marks cursor b
+Inv-loop variables₀ marks₀ at c rows k block cursor₀ b₀ variables marks cursor b = Walked c k block variables₀ marks₀ at variables marks cursor b
 
 abbrev μ-loop : tie.MeasureT-loop
-μ-loop variables₀ marks₀ at c k block cursor₀ b₀ variables marks cursor b = cursor .end - cursor .place
+μ-loop variables₀ marks₀ at c rows k block cursor₀ b₀ variables marks cursor b = cursor .end - cursor .place
 
 -- the places that the needs speak of
 abbrev start : tie.At-loop Inv-loop μ-loop → tie.Start Inv-loop μ-loop
-start c = c .before .before .before .before
+start c = c .before .before .before .before .before
 
 abbrev turn : tie.Then1 Inv-loop μ-loop → tie.At-loop Inv-loop μ-loop
 turn c = c .before .before
@@ -27,13 +27,13 @@ abbrev then1 : tie.After-slice-known4 Inv-loop μ-loop → tie.Then1 Inv-loop μ
 then1 c = after-gate-at (c .before .before .before .before .before) .before
 
 start-requires : tie.Need-start-requires Inv-loop μ-loop
-start-requires c κs = let p = c .before .before .pre .1 in walkable (p .0) (p .1)
+start-requires c κs = let p = c .before .before .before .pre .1 in (walkable (p .0) (p .1), p .2)
 
 loop-holds : tie.Need-loop-holds Inv-loop μ-loop
 loop-holds c = walk-begun _ _ _ (c .start .ensures .0) (c .start .ensures .1)
 
 gate-at-requires : tie.Need-gate-at-requires Inv-loop μ-loop
-gate-at-requires c κs = let l = turn c in gate-asked (start l .pre .1 .0) (l .loop .inv .walks) (c .if1 .taken)
+gate-at-requires c κs = let l = turn c in gate-asked (start l .pre .1 .0) (l .loop .inv .walks) (c .if1 .taken) (start l .pre .1 .2)
 
 add-put-gate : tie.Need-add-put-gate Inv-loop μ-loop
 add-put-gate c =

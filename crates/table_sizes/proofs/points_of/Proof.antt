@@ -2,6 +2,7 @@
 -- the test is the definition's.
 use native.Mathlib.Omega.{arith}
 use borrow.Author.Needs.{needs}
+use Rattle.interval.proofs.Counts.{few-intervals}
 use Rattle.table_sizes.proofs.Rows.{points-state, points-formula}
 use mathlib.Core.Path.{_∙_}
 use Rattle.table_sizes.proofs.points_of.Statement.{statement}
@@ -11,7 +12,11 @@ returns : tie.Need-returns
 returns c = (points-state _ _ (search needs), omega arith)
 
 returns-2 : tie.Need-returns-2
-returns-2 c = (c .count .ensures .0 ∙ points-formula _ _ (search needs), search needs)
+returns-2 c =
+    let s = c .before in let e = s .pre in
+    (e .1 ∙ points-formula _ _ (search needs), omega (arith, e, few-intervals (s .args .k) (e .0)))
 
 pub points-of-spec : {M : Type 1} → statement M
-points-of-spec = tie.close (tie.spec (λ c κs. search needs) (λ c. search needs) returns returns-2)
+points-of-spec = tie.close (tie.spec
+    returns
+    returns-2)

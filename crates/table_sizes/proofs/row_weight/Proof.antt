@@ -30,6 +30,8 @@ row-weight-spec =
     tie.close
     (tie.spec
     (λ c κs. search needs)
+    (λ c. search needs)
+    (λ c κs. search needs)
     (λ c κs. search needs)
     weigh-requires
     (λ c κs. search needs)

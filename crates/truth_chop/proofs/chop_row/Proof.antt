@@ -5,7 +5,7 @@ use lib.ListN.{length}
 use borrow.Rule.Slice.PartMut.{mid-len}
 use Prim.Native.Nat.{_≤_, suc, _+_, _-_}
 use Rattle.interval.specs.Places.{countOf}
-use Rattle.truth_table.specs.Table.{startOf}
+use Rattle.interval.specs.Rows.{startOf}
 use Rattle.truth_table.proofs.Rows.{row-starts}
 use borrow.Author.Needs.{needs}
 use native.Mathlib.Omega.{arith}
@@ -14,14 +14,14 @@ use Rattle.truth_chop.proofs.chop_row.Statement.{statement}
 use Rattle.truth_chop.proofs.chop_row.Tie as tie
 
 abbrev Inv-loop : tie.InvT-loop
-Inv-loop row₀ p q nexts k i start d₀ row d = Chopping k i start p q nexts d row
+Inv-loop row₀ p q nexts rows k i start d₀ row d = Chopping k i start p q nexts d row
 
 abbrev μ-loop : tie.MeasureT-loop
-μ-loop row₀ p q nexts k i start d₀ row d = suc k - i - d
+μ-loop row₀ p q nexts rows k i start d₀ row d = suc k - i - d
 
 -- the places that the needs speak of
 abbrev at-start : tie.At-loop Inv-loop μ-loop → tie.Start Inv-loop μ-loop
-at-start c = c .before .before .before .before
+at-start c = c .before .before .before .before .before
 
 abbrev turn : tie.After-or-onto-arg Inv-loop μ-loop → tie.At-loop Inv-loop μ-loop
 turn c = c .before .before .before .before .before
@@ -30,13 +30,13 @@ abbrev turn-2 : tie.After-d Inv-loop μ-loop → tie.At-loop Inv-loop μ-loop
 turn-2 c = turn (c .before .before .before .before .before)
 
 -- row m of Q's table
-row : (c : tie.After-place Inv-loop μ-loop) → let a = c .before .before .before .before .before .before .before .before .args in let l = c .before .before .before .before .loop in
+row : (c : tie.After-place Inv-loop μ-loop) → let a = c .before .before .before .before .before .before .before .before .before .args in let l = c .before .before .before .before .loop in
     (c .place .result ≡ startOf (a .k) (a .i + l .d)) × (c .place .result + (suc (a .k) - (a .i + l .d)) ≤ countOf (a .k))
 row c = row-starts _ _ _ (omega arith) (c .place .ensures .0)
 
 loop-holds : tie.Need-loop-holds Inv-loop μ-loop
 loop-holds c =
-    let o = c .before .before .before .pre .0 in
+    let o = c .before .before .before .before .pre .0 in
     begun _ _ _ _ _ _ _ (o .1) (o .2) (o .3) (o .4)
 
 loop-less : tie.Need-loop-less Inv-loop μ-loop
@@ -48,7 +48,7 @@ loop-again c =
     turn-no _ _ _ _ _ _ _ _ (l .inv) (omega arith) (c .if1 .taken)
 
 place-requires : tie.Need-place-requires Inv-loop μ-loop
-place-requires c κs = (at-start (c .before .before .before) .pre .0 .0, record { starts = omega arith; ends = omega arith })
+place-requires c κs = let s = at-start (c .before .before .before) in (omega arith, s .pre .0 .0, s .pre .1 .3)
 
 add-end-2 : tie.Need-add-end-2 Inv-loop μ-loop
 add-end-2 c = omega (arith, row c)
@@ -95,7 +95,10 @@ chop-row-spec =
     (λ c. search needs)
     loop-less
     loop-again
+    (λ c. search needs)
+    (λ c. search needs)
     place-requires
+    (λ c. search needs)
     (λ c. search needs)
     (λ c. search needs)
     add-end-2

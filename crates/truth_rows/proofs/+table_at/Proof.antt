@@ -33,15 +33,15 @@ use Rattle.truth_table.proofs.measured_table.Reads as measured-table-reads
 use Rattle.truth_rows.proofs.+table_at.{statement}
 use Rattle.truth_rows.proofs.+table_at.Tie.{close}
 
-abbrev μ-table-at : Measures 2 table-at-kinds.ps ℕ
-μ-table-at κs a = maxNodes - a .1 .1 .1 .1 .0
+abbrev μ-table-at : Measures 3 table-at-kinds.ps ℕ
+μ-table-at κs a = maxNodes - a .1 .1 .1 .1 .1 .0
 
-abbrev table-at-at : ℕ → In 2 table-at-kinds.ps
-table-at-at t = and 2 table-at-kinds.ps (is 2 table-at-kinds.ps μ-table-at t) table-at.Pre
+abbrev table-at-at : ℕ → In 3 table-at-kinds.ps
+table-at-at t = and 3 table-at-kinds.ps (is 3 table-at-kinds.ps μ-table-at t) table-at.Pre
 
-abbrev table-at-below : ℕ → In 2 table-at-kinds.ps
+abbrev table-at-below : ℕ → In 3 table-at-kinds.ps
 table-at-below t =
-    and 2 table-at-kinds.ps (falls 2 table-at-kinds.ps _<_ μ-table-at t) table-at.Pre
+    and 3 table-at-kinds.ps (falls 3 table-at-kinds.ps _<_ μ-table-at t) table-at.Pre
 
 abbrev calls : ℕ → table-at-lts.Claims
 calls t = (
@@ -67,7 +67,7 @@ calls t = (
 
 -- the call's beginning, from where the row's kind is read
 abbrev start : (t : ℕ) → table-at-lts.After-byte-at (calls t) (table-at-at t) table-at.Post → table-at-lts.Start (calls t) (table-at-at t) table-at.Post
-start t c = c .before .before .before
+start t c = c .before .before .before .before
 
 -- a node with parts stands in the table
 here : (t : ℕ) (c : table-at-lts.After-byte-at (calls t) (table-at-at t) table-at.Post) → 0 < c .byte-at .result % 16 → start t c .args .x < maxNodes
@@ -95,7 +95,7 @@ table-at-returns : (t : ℕ) → table-at-lts.Need-returns (calls t) (table-at-a
 table-at-returns t c =
     let b = c .before .before in let s = start t b in let a = s .args in
     constant-step (a .recording .now) (a .kinds .now) (a .numbers .now) (a .sizes .now) Formula (a .x) _ (kind t b)
-    (λ f. TableOf (length (a .recording .now)) f (c .constant-table .result)) false (c .before .match .keys1) (c .constant-table .ensures _ (s .pre .1))
+    (λ f. TableOf (length (a .recording .now)) f (c .constant-table .result)) false (c .before .match .keys1) (c .constant-table .ensures _ (s .pre .1 .0))
 
 table-at-constant-table-requires-2 : (t : ℕ) → table-at-lts.Need-constant-table-requires-2 (calls t) (table-at-at t) table-at.Post
 table-at-constant-table-requires-2 t c κs = search needs
@@ -104,19 +104,19 @@ table-at-returns-2 : (t : ℕ) → table-at-lts.Need-returns-2 (calls t) (table-
 table-at-returns-2 t c =
     let b = c .before .before in let s = start t b in let a = s .args in
     constant-step (a .recording .now) (a .kinds .now) (a .numbers .now) (a .sizes .now) Formula (a .x) _ (kind t b)
-    (λ f. TableOf (length (a .recording .now)) f (c .constant-table2 .result)) true (c .before .match .keys2) (c .constant-table2 .ensures _ (s .pre .1))
+    (λ f. TableOf (length (a .recording .now)) f (c .constant-table2 .result)) true (c .before .match .keys2) (c .constant-table2 .ensures _ (s .pre .1 .0))
 
 table-at-add-word-at : (t : ℕ) → table-at-lts.Need-add-word-at (calls t) (table-at-at t) table-at.Post
 table-at-add-word-at t c = omega (arith, here t (c .before) (omega (arith, c .match .keys3)))
 
 table-at-word-at-requires : (t : ℕ) → table-at-lts.Need-word-at-requires (calls t) (table-at-at t) table-at.Post
-table-at-word-at-requires t c κs = start t (c .before) .pre .1
+table-at-word-at-requires t c κs = start t (c .before) .pre .1 .0
 
 table-at-byte-at-requires-2 : (t : ℕ) → table-at-lts.Need-byte-at-requires-2 (calls t) (table-at-at t) table-at.Post
 table-at-byte-at-requires-2 t c κs = search needs
 
 table-at-measured-table-requires : (t : ℕ) → table-at-lts.Need-measured-table-requires (calls t) (table-at-at t) table-at.Post
-table-at-measured-table-requires t c κs = c .before .before .before .before .before .before .before .pre .1
+table-at-measured-table-requires t c κs = c .before .before .before .before .before .before .before .before .pre .1 .0
 
 table-at-returns-3 : (t : ℕ) → table-at-lts.Need-returns-3 (calls t) (table-at-at t) table-at.Post
 table-at-returns-3 t c =
@@ -130,10 +130,10 @@ table-at-add-word-at-2 : (t : ℕ) → table-at-lts.Need-add-word-at-2 (calls t)
 table-at-add-word-at-2 t c = omega (arith, here t (c .before) (omega (arith, c .match .keys4)))
 
 table-at-word-at-requires-2 : (t : ℕ) → table-at-lts.Need-word-at-requires-2 (calls t) (table-at-at t) table-at.Post
-table-at-word-at-requires-2 t c κs = start t (c .before) .pre .1
+table-at-word-at-requires-2 t c κs = start t (c .before) .pre .1 .0
 
 table-at-measured-table-requires-2 : (t : ℕ) → table-at-lts.Need-measured-table-requires-2 (calls t) (table-at-at t) table-at.Post
-table-at-measured-table-requires-2 t c κs = c .before .before .before .before .before .pre .1
+table-at-measured-table-requires-2 t c κs = c .before .before .before .before .before .before .pre .1 .0
 
 table-at-returns-4 : (t : ℕ) → table-at-lts.Need-returns-4 (calls t) (table-at-at t) table-at.Post
 table-at-returns-4 t c =
@@ -156,9 +156,9 @@ table-at-slice-aggregate-inverse t c = search needs
 table-at-inverse-requires : (t : ℕ) → table-at-lts.Need-inverse-requires (calls t) (table-at-at t) table-at.Post
 unfolding countOf
 table-at-inverse-requires t c κs =
-    let p = c .before .before .before .before .before .before .pre in
+    let p = c .before .before .before .before .before .before .before .pre .1 in
     let e : length (c .before .table-at .result) ≡ maxCount = search needs in
-    (p .1, omega (arith, count-le maxSteps _ (p .1)))
+    (p .0, omega (arith, count-le maxSteps _ (p .0)), p .1)
 
 table-at-returns-5 : (t : ℕ) → table-at-lts.Need-returns-5 (calls t) (table-at-at t) table-at.Post
 table-at-returns-5 t c =
@@ -183,7 +183,7 @@ table-at-table-at-requires-3 t c κs =
     (omega (arith, here t w (omega (arith, joins t u .0)), c .second .ensures, p .0), p .1)
 
 table-at-chop-table-requires : (t : ℕ) → table-at-lts.Need-chop-table-requires (calls t) (table-at-at t) table-at.Post
-table-at-chop-table-requires t c κs = c .before .before .before .before .before .before .before .before .before .before .pre .1
+table-at-chop-table-requires t c κs = c .before .before .before .before .before .before .before .before .before .before .before .pre .1
 
 table-at-returns-6 : (t : ℕ) → table-at-lts.Need-returns-6 (calls t) (table-at-at t) table-at.Post
 table-at-returns-6 t c =
@@ -204,8 +204,8 @@ table-at-join-requires : (t : ℕ) → table-at-lts.Need-join-requires (calls t)
 unfolding countOf
 table-at-join-requires t c κs =
     let t = c .before .before .before in let ta = t .before .before in let e : length (ta .table-at2 .result) ≡ maxCount = search needs in
-    let f : length (t .table-at3 .result) ≡ maxCount = search needs in let k = ta .before .before .before .before .before .pre .1 in
-    (k, omega (arith, count-le maxSteps _ k), omega (arith, count-le maxSteps _ k))
+    let f : length (t .table-at3 .result) ≡ maxCount = search needs in let p = ta .before .before .before .before .before .before .pre .1 in
+    (p .0, omega (arith, count-le maxSteps _ (p .0)), omega (arith, count-le maxSteps _ (p .0)), p .1)
 
 table-at-returns-7 : (t : ℕ) → table-at-lts.Need-returns-7 (calls t) (table-at-at t) table-at.Post
 table-at-returns-7 t c =

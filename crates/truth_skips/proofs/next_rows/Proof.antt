@@ -12,14 +12,14 @@ use Rattle.truth_skips.proofs.next_rows.Statement.{statement}
 use Rattle.truth_skips.proofs.next_rows.Tie as tie
 
 abbrev Inv-loop : tie.InvT-loop
-Inv-loop q k nexts₀ m₀ at₀ nexts m at = Skipping k q m at nexts
+Inv-loop q rows k nexts₀ m₀ at₀ nexts m at = Skipping k q m at nexts
 
 abbrev μ-loop : tie.MeasureT-loop
-μ-loop q k nexts₀ m₀ at₀ nexts m at = m
+μ-loop q rows k nexts₀ m₀ at₀ nexts m at = m
 
 -- the places that the needs speak of
 abbrev start : tie.At-loop Inv-loop μ-loop → tie.Start Inv-loop μ-loop
-start c = c .before .before .before
+start c = c .before .before .before .before
 
 abbrev start-2 : tie.In-loop Inv-loop μ-loop → tie.Start Inv-loop μ-loop
 start-2 c = start (c .before)
@@ -28,15 +28,15 @@ abbrev turn : tie.After-beyond-arg Inv-loop μ-loop → tie.At-loop Inv-loop μ-
 turn c = c .before .before
 
 -- a row but the first has a row before it
-room : (c : tie.In-loop Inv-loop μ-loop) → c .before .before .before .before .args .k - (c .before .loop .m - 1) < c .before .loop .at
+room : (c : tie.In-loop Inv-loop μ-loop) → c .before .before .before .before .before .args .k - (c .before .loop .m - 1) < c .before .loop .at
 room c = row-before _ _ _ _ _ (c .before .loop .inv) (omega arith)
 
 place-requires : tie.Need-place-requires Inv-loop μ-loop
-place-requires c κs = (c .before .pre .0, record { starts = omega arith; ends = omega arith })
+place-requires c κs = let s = c .before .before in (omega arith, s .pre .0, s .pre .2)
 
 loop-holds : tie.Need-loop-holds Inv-loop μ-loop
 loop-holds c =
-    let s = c .before .before in let k = s .args .k in
+    let s = c .before .before .before in let k = s .args .k in
     skip-begun k _ (s .args .q .now) _ (s .pre .0) (row-starts k k _ (omega arith) (c .place .ensures .0) .0) refl
 
 sub-before : tie.Need-sub-before Inv-loop μ-loop
@@ -95,7 +95,10 @@ next-rows-spec =
     Inv-loop
     μ-loop
     (λ c. search needs)
+    (λ c. search needs)
+    (λ c. search needs)
     place-requires
+    (λ c. search needs)
     loop-holds
     (λ c. search needs)
     sub-before

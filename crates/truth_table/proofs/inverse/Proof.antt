@@ -13,13 +13,13 @@ use Rattle.truth_table.proofs.inverse.Statement.{statement}
 use Rattle.truth_table.proofs.inverse.Tie as tie
 
 abbrev Inv-loop : tie.InvT-loop
-Inv-loop p₀ k x₀ x-end p x = (x-end ≡ countOf k) × (x ≤ countOf k) × (countOf k ≤ length p₀) × Upto (length p₀) (λ y. bitXor (getD p₀ y 0) 1) (λ y. getD p₀ y 0) x p
+Inv-loop p₀ rows k x₀ x-end p x = (x-end ≡ countOf k) × (x ≤ countOf k) × (countOf k ≤ length p₀) × Upto (length p₀) (λ y. bitXor (getD p₀ y 0) 1) (λ y. getD p₀ y 0) x p
 
 abbrev μ-loop : tie.MeasureT-loop
-μ-loop p₀ k x₀ x-end p x = countOf k - x
+μ-loop p₀ rows k x₀ x-end p x = countOf k - x
 
 loop-holds : tie.Need-loop-holds Inv-loop μ-loop
-loop-holds c = (c .count .ensures .0, omega arith, c .before .before .pre .1, begun _ _ _ _ refl (λ y. refl))
+loop-holds c = (c .all .ensures .0, omega arith, c .before .before .before .pre .1, begun _ _ _ _ refl (λ y. refl))
 
 loop-again : tie.Need-loop-again Inv-loop μ-loop
 loop-again c =
@@ -35,7 +35,9 @@ inverse-spec =
     (tie.spec
     Inv-loop
     μ-loop
+    (λ c. search needs)
     (λ c κs. search needs)
+    (λ c. search needs)
     loop-holds
     (λ c. search needs)
     (λ c. search needs)

@@ -13,19 +13,19 @@ use Rattle.truth_table.proofs.join.Statement.{statement}
 use Rattle.truth_table.proofs.join.Tie as tie
 
 abbrev Inv-loop : tie.InvT-loop
-Inv-loop both p₀ q k x₀ x-end p x =
+Inv-loop both p₀ q rows k x₀ x-end p x =
     (x-end ≡ countOf k) × (x ≤ countOf k) × (countOf k ≤ length p₀) ×
     Upto (length p₀) (λ y. joinedByte both (getD p₀ y 0) (getD q y 0)) (λ y. getD p₀ y 0) x p
 
 abbrev μ-loop : tie.MeasureT-loop
-μ-loop both p₀ q k x₀ x-end p x = countOf k - x
+μ-loop both p₀ q rows k x₀ x-end p x = countOf k - x
 
 -- the places that the needs speak of
-abbrev start : tie.After-count Inv-loop μ-loop → tie.Start Inv-loop μ-loop
-start c = c .before .before .before
+abbrev start : tie.After-all Inv-loop μ-loop → tie.Start Inv-loop μ-loop
+start c = c .before .before .before .before
 
 loop-holds : tie.Need-loop-holds Inv-loop μ-loop
-loop-holds c = (c .count .ensures .0, omega arith, start c .pre .1, begun _ _ _ _ refl (λ y. refl))
+loop-holds c = (c .all .ensures .0, omega arith, start c .pre .1, begun _ _ _ _ refl (λ y. refl))
 
 loop-again : tie.Need-loop-again Inv-loop μ-loop
 loop-again c =
@@ -49,7 +49,9 @@ join-spec =
     (tie.spec
     Inv-loop
     μ-loop
+    (λ c. search needs)
     (λ c κs. search needs)
+    (λ c. search needs)
     loop-holds
     (λ c. search needs)
     (λ c. search needs)

@@ -1,6 +1,6 @@
 -- `measured_table` fills one row a turn, each from the place where the last one ended,
 -- and after k + 1 rows every interval's place is in one of them (Rows.antt).
-use Rattle.truth_table.proofs.Rows.{Filled, RowsOf, filled-begun, row-length, filled-turn, rows-turn, rows-done}
+use Rattle.truth_table.proofs.Rows.{Filled, RowsTo, filled-begun, row-length, filled-turn, rows-turn, rows-done}
 use Rattle.truth_table.specs.Table.{measured}
 use Rattle.paper_meaning.specs.Meaning.{bitAt}
 use Rattle.interval.proofs.Counts.{count-le}
@@ -14,7 +14,7 @@ use Rattle.truth_table.proofs.measured_table.Statement.{statement}
 use Rattle.truth_table.proofs.measured_table.Tie as tie
 
 abbrev Inv-loop : tie.InvT-loop
-Inv-loop measure word k lows t₀ start₀ i₀ i-end t start i = (i-end ≡ suc k) × Filled maxCount k i start t × RowsOf k (measured measure (bitAt word)) i t
+Inv-loop measure word k lows t₀ start₀ i₀ i-end t start i = (i-end ≡ suc k) × Filled maxCount k i start t × RowsTo k (measured measure (bitAt word)) i t
 
 abbrev μ-loop : tie.MeasureT-loop
 μ-loop measure word k lows t₀ start₀ i₀ i-end t start i = suc k - i

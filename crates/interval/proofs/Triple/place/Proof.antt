@@ -1,53 +1,66 @@
--- `Triple::place` is the number of triples before this one: those that start before i, which are J of k less J of k − i steps,
--- those of the shorter intervals from i on, and those of this interval that are chopped earlier.
-use mathlib.Core.Path.{sym, _∙_}
+-- The triples before this one are those of the starts before, those of the shorter intervals from its start on,
+-- as many as intervals in as many rows at the end, and those of its interval that are chopped earlier.
+use mathlib.Core.Path.{_≡_, ap, _∙_}
+use Prim.Native.Nat.{suc, _+_, _-_, _<_}
 use native.Mathlib.Omega.{arith}
 use borrow.Author.Needs.{needs}
-use Rattle.interval.specs.Limits.{maxSteps, TripleOf}
-use Rattle.interval.specs.Places.{tripleCountOf}
-use Rattle.interval.proofs.Counts.{triple-place-code, half-le, triple-count-le}
-use Rattle.interval.proofs.Laws.{triple-place, triples-numbered}
+use lib.ListN.{getD}
+use Rattle.interval.specs.Places.{tripleCountOf, triplePlaceOf}
+use Rattle.interval.specs.Rows.{startOf}
+use Rattle.interval.specs.declared.Triple.{Triple}
+use Rattle.interval.proofs.Rows.{split-count, triple-in-row}
+use Rattle.interval.proofs.Laws.{triples-numbered, counts-at-32}
 use Rattle.interval.proofs.Triple.place.Statement.{statement}
 use Rattle.interval.proofs.Triple.place.Tie as tie
 
 -- the places that the needs speak of
-abbrev start : tie.After-count2 → tie.Start
+abbrev after-all : tie.After-shared-slice-known4 → tie.After-all
+after-all c = c .before .before
+
+abbrev start : tie.After-all → tie.Start
 start c = c .before .before .before
 
-abbrev start-2 : tie.After-struct-known2 → tie.Start
-start-2 c = start (c .before)
+-- what is read from the two tables, and the place that it makes
+last-rows : (c : tie.After-all) → let a = start c .args in getD (a .rows .now) (a .k + 1 - a .steps) 0 ≡ startOf (a .k) (suc (a .k) - a .steps)
+last-rows c =
+    let s = start c in let a = s .args in let e : a .k + 1 - a .steps ≡ suc (a .k) - a .steps = omega arith in
+    s .pre .3 .at (a .k + 1 - a .steps) (omega arith) ∙ ap (startOf (a .k)) e
 
-sub-result : tie.Need-sub-result
-sub-result c = triple-place-code _ _ _ _ (start c .pre .1) (c .before .count .ensures .0) (c .count2 .ensures .0) .0
+placed : (c : tie.After-all) → let a = start c .args in let r = getD (a .starts .now) (a .i) 0 + (c .all .result - getD (a .rows .now) (a .k + 1 - a .steps) 0) + a .cut in
+    (r ≡ triplePlaceOf (a .k) (record { i = a .i; m = a .i + a .cut; j = a .i + a .steps })) × (r < tripleCountOf (a .k))
+placed c =
+    let s = start c in let a = s .args in
+    let t : Triple = record { i = a .i; m = a .i + a .cut; j = a .i + a .steps } in
+    let e = triple-in-row (a .k) (a .i) (a .steps) (a .cut) (s .pre .0) (s .pre .1) in
+    let r = s .pre .4 .at (a .i) (omega (arith, s .pre)) in
+    let b = triples-numbered (a .k) .below t (omega (arith, s .pre)) in
+    (omega (arith, e, r, last-rows c, c .all .ensures), omega (arith, e, r, last-rows c, c .all .ensures, b))
 
-mul-result : tie.Need-mul-result
-mul-result c = omega (arith, half-le maxSteps _ _ (start c .pre .0) (start c .pre .1))
+sub-shorter : tie.Need-sub-shorter-2
+sub-shorter c = let s = start (c .before) in let a = s .args in omega (arith, last-rows (c .before), c .before .all .ensures, split-count (a .k) (suc (a .k) - a .steps) (omega arith))
+
+add-result : tie.Need-add-result
+add-result c = omega (arith, placed (after-all c), counts-at-32 (start (after-all c) .args .k) (start (after-all c) .pre .2))
 
 add-result-2 : tie.Need-add-result-2
-add-result-2 c = omega (arith, half-le maxSteps _ _ (start c .pre .0) (start c .pre .1))
-
-add-result-3 : tie.Need-add-result-3
-add-result-3 c = omega (arith, half-le maxSteps _ _ (start-2 c .pre .0) (start-2 c .pre .1))
+add-result-2 c = omega (arith, placed (after-all c), counts-at-32 (start (after-all c) .args .k) (start (after-all c) .pre .2))
 
 returns : tie.Need-returns
-unfolding tripleCountOf
-returns c =
-    let k = start-2 c .args .k in let t = start-2 c .args .self in let o : TripleOf k t = start-2 c .pre .1 in
-    let e = triple-place-code k t _ _ o (c .before .before .count .ensures .0) (c .before .count2 .ensures .0) .1 ∙ sym (triple-place k t o) in
-    (e, omega (arith, e, triples-numbered k .below t o, triple-count-le maxSteps k (search needs)))
+returns c = placed (after-all c)
 
 pub place-spec : {M : Type 1} → statement M
 place-spec =
     tie.close
     (tie.spec
-    (λ c. search needs)
     (λ c κs. search needs)
     (λ c. search needs)
-    (λ c κs. search needs)
-    sub-result
     (λ c. search needs)
-    mul-result
+    (λ c. search needs)
+    (λ c. search needs)
+    (λ c. search needs)
+    sub-shorter
+    (λ c. search needs)
+    (λ c. search needs)
+    add-result
     add-result-2
-    (λ c. search needs)
-    add-result-3
     returns)

@@ -8,13 +8,13 @@ use Rattle.table_nodes.proofs.cursor.Cursor.start.Statement.{statement}
 use Rattle.table_nodes.proofs.cursor.Cursor.start.Tie as tie
 
 weigh-requires : tie.Need-weigh-requires
-weigh-requires c κs = light (c .before .pre) (c .variables .ensures) (omega arith) (omega arith) (omega arith)
+weigh-requires c κs = light (c .before .before .pre .0) (c .variables .ensures) (omega arith) (omega arith) (omega arith)
 
-count-requires : tie.Need-count-requires
-count-requires c κs = c .before .before .pre .steps
+all-requires : tie.Need-all-requires
+all-requires c κs = let p = c .before .before .before .pre in (p .0 .steps, p .1)
 
 returns : tie.Need-returns
-returns c = let w = c .before in (begins (w .before .variables .ensures) (w .weigh .ensures .0) (w .weigh .ensures .1) (c .count .ensures .0), refl)
+returns c = let w = c .before in (begins (w .before .variables .ensures) (w .weigh .ensures .0) (w .weigh .ensures .1) (c .all .ensures .0), refl)
 
 pub start-spec : {M : Type 1} → statement M
-start-spec = tie.close (tie.spec (λ c κs. search needs) weigh-requires count-requires (λ c. search needs) returns)
+start-spec = tie.close (tie.spec (λ c κs. search needs) weigh-requires all-requires returns)
