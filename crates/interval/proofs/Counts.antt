@@ -1,7 +1,7 @@
 -- Document 01's formulas count what the shapes hold. Row i of a stack of n rows has w (n − i) entries, so the rows before it
 -- and those from it on make w 1 + .. + w n; for intervals w is the number itself, for triples the sum of the numbers up to it.
 use mathlib.Core.Path.{_≡_, refl, sym, ap, _∙_}
-use Prim.Native.Nat.{ℕ, zero, suc, _+_, _-_, _*_, _/_, _≤_}
+use Prim.Native.Nat.{ℕ, zero, suc, _+_, _-_, _*_, _≤_}
 use native.Mathlib.Nat.{suc-mul, mul-suc, zero-mul, mul-comm, mul-assoc, mul-le-mul, sub-zero, le-refl}
 use native.Mathlib.Omega.{arith}
 use Rattle.lists.specs.Listing.{sum}

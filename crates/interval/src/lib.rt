@@ -123,18 +123,17 @@ impl Triple {
     }
 
     // Where the triples of each start begin: at a start are as many as intervals from it on.
-    pub fn starts(rows: &[u32], k: u32) -> [u32; Interval::MAX_ENDS]
-        requires { ⌜ (k ≤ maxSteps) × RowsOf k (now rows) ⌝ }
-        ensures { λ r. ⌜ StartsOf k r ⌝ }
+    pub fn put_starts(starts: &mut [u32], rows: &[u32], k: u32)
+        requires { ⌜ (k ≤ maxSteps) × (k + 1 ≤ length (now starts)) × RowsOf k (now rows) ⌝ }
+        ensures { λ _. ⌜ StartsOf k (new starts) ⌝ }
     {
         let all = Interval::all(rows, k);
-        let mut starts = [0; Interval::MAX_ENDS];
+        starts[0] = 0;
         let mut start = 0;
         for i in 0..k {
             start += all - Interval::place(rows, k, i, 0);
             starts[i as usize + 1] = start;
         }
-        starts
     }
 
     // The place of the triple from i on, of so many steps and chopped after `cut` of them: after those of the starts before, and those of

@@ -1,9 +1,9 @@
 -- The table of intervals: the next interval has the next place, and what is stored is read back. A triple: its start is the last whose
 -- triples begin at its place or before, and length and cut stand after that as the intervals do from the last to the first.
-use mathlib.Core.Path.{_≡_, sym, ap, _∙_, subst}
+use mathlib.Core.Path.{_≡_, sym, ap, subst}
 use mathlib.Core.Logic.{by-cases}
 use mathlib.Core.List.{List}
-use Prim.Native.Nat.{ℕ, zero, suc, _+_, _-_, _*_, _/_, _%_, _≤_, _<_}
+use Prim.Native.Nat.{ℕ, suc, _+_, _-_, _*_, _/_, _%_, _≤_, _<_}
 use native.Mathlib.Decide.{decLt}
 use native.Mathlib.Nat.{zero-mul}
 use native.Mathlib.Omega.{arith}
@@ -12,7 +12,7 @@ use lib.Seq.{getD-set-same, getD-set-other}
 use Rattle.lists.specs.Listing.{sum}
 use Rattle.interval.specs.Places.{countOf, tripleCountOf, placeOf}
 use Rattle.interval.proofs.Shape.{intervals}
-use Rattle.interval.specs.Limits.{maxSteps, IntervalOf, TripleOf}
+use Rattle.interval.specs.Limits.{IntervalOf, TripleOf}
 use Rattle.interval.specs.Rows.{tripleStart}
 use Rattle.interval.specs.declared.Interval.{Interval}
 use Rattle.interval.proofs.Counts.{triangle-count, intervals-count, triples-count, interval-place}

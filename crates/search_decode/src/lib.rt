@@ -2,7 +2,7 @@
 use interval::Interval;
 use interval::Triple;
 ghost use mathlib.Core.Path.{_≡_};
-ghost use Prim.Native.Nat.{suc, _+_, _≤_, _<_};
+ghost use Prim.Native.Nat.{_+_, _≤_, _<_};
 ghost use lib.ListN.{length, getD};
 ghost use Rattle.moments.specs.Moments.{old, new};
 ghost use Rattle.interval.specs.Limits.{maxSteps, IntervalOf};
@@ -62,7 +62,7 @@ fn next(v: Interval, k: usize) -> Interval
 }
 
 // The intervals of k steps by their places, two bytes each.
-pub fn put_intervals(table: &mut [u16], k: usize)
+fn put_intervals(table: &mut [u16], k: usize)
     requires { ⌜ (k ≤ maxSteps) × (countOf k ≤ length (now table)) ⌝ }
     ensures { λ _. ⌜ IntervalsTo k (new table) (countOf k) ⌝ }
 {
@@ -72,6 +72,16 @@ pub fn put_intervals(table: &mut [u16], k: usize)
         table[x] = (v.i * 128 + v.j) as u16;
         v = next(v, k);
     }
+}
+
+// What the queue goes by: the intervals by their places, where the triples of each start begin, and the rows of intervals.
+pub fn put_tables(intervals: &mut [u16], starts: &mut [u32], rows: &mut [u32], k: u32)
+    requires { ⌜ (k ≤ maxSteps) × (countOf k ≤ length (now intervals)) × (k + 1 ≤ length (now starts)) × (k + 2 ≤ length (now rows)) ⌝ }
+    ensures { λ _. ⌜ Tables k (new intervals) (new starts) (new rows) ⌝ }
+{
+    put_intervals(intervals, k as usize);
+    Interval::put_rows(rows, k);
+    Triple::put_starts(starts, rows, k);
 }
 
 fn wide(x: u16) -> usize

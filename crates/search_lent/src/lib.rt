@@ -1,6 +1,5 @@
 // The search in its lent arrays: what the queue goes by, and the parts of them that it takes.
 use interval::Interval;
-use interval::Triple;
 use node_rows::NodeTable;
 use paper_grammar::MAX_NODES;
 use paper_search::Answer;
@@ -41,10 +40,9 @@ pub fn search_lent(
     search_parents::put_parents(&table.sizes, table.count, &mut parents);
     let steps = k as usize;
     let mut intervals = [0; Interval::MAX_COUNT];
-    search_decode::put_intervals(&mut intervals, steps);
+    let mut starts = [0; Interval::MAX_ENDS];
     let mut rows = [0; Interval::MAX_ROWS];
-    Interval::put_rows(&mut rows, k);
-    let starts = Triple::starts(&rows, k);
+    search_decode::put_tables(&mut intervals, &mut starts, &mut rows, k);
     let s = layout.sizes;
     let v = s.variables as usize;
     search_draw::draw(

@@ -16,22 +16,16 @@ start c = c .before .before .before .before .before .before .before .before .bef
 abbrev start-2 : tie.After-parents → tie.Start
 start-2 c = start (c .before .before .before .before)
 
-abbrev after-starts : tie.After-struct-known → tie.After-starts
-after-starts c = c .before .before
-
-abbrev after-put-rows : tie.After-struct-known → tie.After-put-rows
-after-put-rows c = after-starts c .before .before .before
-
-abbrev after-put-intervals : tie.After-struct-known → tie.After-put-intervals
-after-put-intervals c = after-put-rows c .before .before .before
+abbrev after-put-tables : tie.After-struct-known → tie.After-put-tables
+after-put-tables c = c .before .before .before .before .before
 
 abbrev start-3 : tie.After-struct-known → tie.Start
-start-3 c = start-2 (after-put-intervals c .before .before .before)
+start-3 c = start-2 (after-put-tables c .before .before .before .before .before)
 
 abbrev start-4 : tie.After-draw-arg2 → tie.Start
 start-4 c = start-3 (c .before .before)
 
-abbrev after-struct-known : tie.After-rows4 → tie.After-struct-known
+abbrev after-struct-known : tie.After-rows3 → tie.After-struct-known
 after-struct-known c = c .before .before .before .before .before .before .before .before .before .before
 
 put-seats-requires : tie.Need-put-seats-requires
@@ -41,8 +35,9 @@ put-parents-requires : tie.Need-put-parents-requires
 put-parents-requires c κs =
     let s = start-2 c in let p = s .pre .0 in let r = root-rows _ _ (p .3 .0) (p .3 .1 .is) (s .pre .1 .0) in (r .0, p .2, r .1, refl)
 
-put-intervals-requires : tie.Need-put-intervals-requires
-put-intervals-requires c κs = let p = start-2 (c .before .before) .pre .0 in (p .1, counts-at-32 _ (p .1) .0)
+put-tables-requires : tie.Need-put-tables-requires
+put-tables-requires c κs =
+    let k = start-2 (c .before .before .before .before) .pre .0 .1 in (k, counts-at-32 _ k .0, omega (arith, k), omega (arith, k))
 
 slice-relend-prefix-draw : tie.Need-slice-relend-prefix-draw
 slice-relend-prefix-draw c = start-3 c .pre .1 .1 .0
@@ -64,16 +59,11 @@ slice-aggregate-draw-3 c = sym (length-take-le _ _ (start-4 (c .before) .pre .1 
 
 draw-requires : tie.Need-draw-requires
 draw-requires c κs =
-    let sk = after-struct-known c in let pi = after-put-intervals sk in let pp = pi .before .before in
-    let s = start-3 sk in let p = s .pre .0 in let h = s .pre .1 .1 in let i = pi .put-intervals in
+    let sk = after-struct-known c in let pt = after-put-tables sk in let pp = pt .before .before .before .before in let s = start-3 sk in
+    let p = s .pre .0 in let h = s .pre .1 .1 in
     parts-fit _ _ (p .3 .0) (p .3 .1 .is) (s .pre .1 .0) (s .args .values .now) (s .args .trail .now) (s .args .recording .now) (h .0) (h .1) (h .2)
     (omega (arith, sk .struct-known .given)) (p .3 .1 .letters) (p .0) (p .1) (p .2) (pp .before .before .before .before .put-seats .ensures) (pp .put-parents .ensures)
-    (record {
-      room = omega (arith, i .kept .0, counts-at-32 _ (p .1) .0);
-      intervals-to = i .ensures;
-      starts-of = after-starts sk .starts .ensures;
-      rows-of = after-put-rows sk .put-rows .ensures;
-    })
+    (pt .put-tables .ensures)
 
 returns : tie.Need-returns
 returns c =
@@ -87,11 +77,9 @@ search-lent-spec =
     put-seats-requires
     put-parents-requires
     (λ c. search needs)
-    put-intervals-requires
     (λ c. search needs)
-    (λ c κs. search needs)
     (λ c. search needs)
-    (λ c κs. search needs)
+    put-tables-requires
     (λ c. search needs)
     slice-relend-prefix-draw
     slice-aggregate-draw

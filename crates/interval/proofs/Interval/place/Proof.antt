@@ -1,7 +1,6 @@
 -- The intervals before this one are the rows before its own
 -- and the shorter ones of its row.
-use mathlib.Core.Path.{_≡_, _∙_}
-use Prim.Native.Nat.{_+_, _-_}
+use Prim.Native.Nat.{_+_}
 use native.Mathlib.Omega.{arith}
 use borrow.Author.Needs.{needs}
 use Rattle.interval.specs.Limits.{IntervalOf}

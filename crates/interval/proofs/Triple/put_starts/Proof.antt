@@ -5,24 +5,24 @@ use Prim.Native.Nat.{ℕ, suc, _+_, _-_, _≤_, _<_}
 use native.Mathlib.Omega.{arith}
 use borrow.Author.Needs.{needs}
 use lib.ListN.{length, length-set}
+use lib.Seq.{getD-set-same}
 use Rattle.lists.specs.Listing.{sum}
-use Rattle.interval.specs.Limits.{maxSteps}
 use Rattle.interval.specs.Places.{placeOf}
 use Rattle.interval.specs.Rows.{tripleStart, Begins}
 use Rattle.interval.proofs.Rows.{place-in-row, split-count, starts-are, next-start, triple-start-small, begun, one-more}
-use Rattle.interval.proofs.Triple.starts.Statement.{statement}
-use Rattle.interval.proofs.Triple.starts.Tie as tie
+use Rattle.interval.proofs.Triple.put_starts.Statement.{statement}
+use Rattle.interval.proofs.Triple.put_starts.Tie as tie
 
 abbrev Inv-loop : tie.InvT-loop
-Inv-loop rows k all starts₀ start₀ i₀ starts start i =
-    (i ≤ k) × (start ≡ tripleStart k i) × (length starts ≡ suc maxSteps) × Begins (tripleStart k) (i + 1) starts
+Inv-loop starts₀ rows k all start₀ i₀ starts start i =
+    (i ≤ k) × (start ≡ tripleStart k i) × (length starts ≡ length starts₀) × Begins (tripleStart k) (i + 1) starts
 
 abbrev μ-loop : tie.MeasureT-loop
-μ-loop rows k all starts₀ start₀ i₀ starts start i = k - i
+μ-loop starts₀ rows k all start₀ i₀ starts start i = k - i
 
 -- the places that the needs speak of
 abbrev start : tie.After-place Inv-loop μ-loop → tie.Start Inv-loop μ-loop
-start c = c .before .before .before .before .before
+start c = c .before .before .before .before .before .before
 
 abbrev all : tie.After-place Inv-loop μ-loop → tie.After-all Inv-loop μ-loop
 all c = c .before .before .before
@@ -42,7 +42,9 @@ ahead c =
 loop-holds : tie.Need-loop-holds Inv-loop μ-loop
 unfolding sum
 loop-holds c =
-    let z = starts-are (c .before .before .args .k) 0 (omega arith) in (omega arith, sym z, refl, begun _ (omega arith) (sym z))
+    let s = c .before .before .before in let old = s .args .starts .now in
+    let z = starts-are (s .args .k) 0 (omega arith) in
+    (omega arith, sym z, refl, begun _ (omega (arith, length-set old 0 0, s .pre .1)) (getD-set-same old 0 0 0 (omega (arith, s .pre .1)) ∙ sym z))
 
 sub-start : tie.Need-sub-start Inv-loop μ-loop
 sub-start c = omega (arith, ahead c, now c .loop .inv)
@@ -50,24 +52,31 @@ sub-start c = omega (arith, ahead c, now c .loop .inv)
 add-start : tie.Need-add-start Inv-loop μ-loop
 add-start c = omega (arith, ahead c, now c .loop .inv)
 
+here : (c : tie.After-place Inv-loop μ-loop) → now c .loop .i + 1 < length (now c .loop .starts)
+here c = omega (arith, now c .loop .inv .2, length-set (start c .args .starts .now) 0 0, start c .pre .1, c .before .loop-test .taken)
+
 loop-again : tie.Need-loop-again Inv-loop μ-loop
 loop-again c =
     let l = now c .loop in let v = l .inv in let e = ahead c .1 in
-    (omega (arith, c .before .loop-test .taken), e, length-set (l .starts) _ _ ∙ v .2, one-more _ (v .3) (omega (arith, v .2, c .before .loop-test .taken, start c .pre .0)) e)
+    (omega (arith, c .before .loop-test .taken), e, length-set (l .starts) _ _ ∙ v .2, one-more _ (v .3) (here c) e)
+
+same-length : tie.Need-same-length Inv-loop μ-loop
+same-length c = let l = c .before in l .loop .inv .2 ∙ length-set (l .before .before .before .before .args .starts .now) 0 0
 
 returns : tie.Need-returns Inv-loop μ-loop
 returns c =
-    let l = c .before in let k = l .before .before .before .args .k in
+    let l = c .before in let k = l .before .before .before .before .args .k in
     let e : l .loop .i + 1 ≡ suc k = omega (arith, l .loop .inv .0, c .loop-test .left) in
     subst (λ (n : ℕ). Begins (tripleStart k) n (l .loop .starts)) e (l .loop .inv .3)
 
-pub starts-spec : {M : Type 1} → statement M
-starts-spec =
+pub put-starts-spec : {M : Type 1} → statement M
+put-starts-spec =
     tie.close
     (tie.spec
     Inv-loop
     μ-loop
     (λ c κs. search needs)
+    (λ c. search needs)
     loop-holds
     (λ c κs. search needs)
     sub-start
@@ -75,8 +84,9 @@ starts-spec =
     (λ c. search needs)
     (λ c. search needs)
     (λ c. search needs)
-    (λ c. search needs)
+    here
     (λ c. search needs)
     (λ c. search needs)
     loop-again
+    same-length
     returns)
