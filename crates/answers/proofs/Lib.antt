@@ -1,8 +1,8 @@
 -- The laws that others go by, with the file of each.
--- packed-apart (Told): the halves of a packed number are what was packed.
--- told-apart (Told): two answers, each of which its number tells, have one number only where they are the same.
--- evaluation-asks, .. (Asks): a call's questions have document 01's numbers, in its order.
--- evaluated-told, .. (Calls): what is decoded from a call's number is the call's answer, for every input.
+-- packed_apart (Told): the halves of a packed number are what was packed.
+-- told_apart (Told): two answers, each of which its number tells, have one number only where they are the same.
+-- evaluation_asks, .. (Asks): a call's questions have document 01's numbers, in its order.
+-- evaluated_told, .. (Calls): what is decoded from a call's number is the call's answer, for every input.
 pub mod Asks
 pub mod Told
 pub mod Calls

@@ -1,5 +1,7 @@
 // The numbers of answers for C, as include/tuvenikar.h names them, and answers packed into one number; a refusal goes by its question's
 // number, 1 to 18. That an answer's number tells the answer is in proofs/.
+#![tactic(auto)]
+
 ghost use Rattle.std.specs.Prelude.{◌≡◌};
 ghost use Rattle.answers.specs.Answers.{packed, pack_refusal, pack_verdict, pack_located, pack_written, pack_printed, pack_checked, pack_answer};
 

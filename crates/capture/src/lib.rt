@@ -1,4 +1,6 @@
 // Document 02's C-14, searching a long capture: its limit, a hit and the answer, for code and definitions. No function.
+#![tactic(auto)]
+
 use refusal::Refusal;
 
 // The most bytes of a capture.

@@ -1,6 +1,7 @@
 // The least j of each start of a block of a capture: a part of it, and those of its starts whose windows lie in the part.
+#![tactic(auto)]
+
 ghost use Rattle.std.specs.Prelude.{◌≡◌, Bool, true, false, ℕ, suc, ◌+◌, ◌≤◌, ◌<◌, length};
-ghost use Rattle.moments.specs.Moments.{old};
 ghost use Rattle.paper_grammar.specs.Trees.{Tree};
 ghost use Rattle.paper_grammar.specs.declared.Sort.TheVariants.{Formula};
 ghost use Rattle.paper_meaning.specs.Meaning.{bit_at};
@@ -26,7 +27,7 @@ pub fn words_at<'a>(
     x: usize,
 ) -> bool
     requires { (k ≤ width) × (length part.now < max_rows) × (length words.old ≡ max_rows) }
-    ensures { WordsAt (old part) (old kinds) (old numbers) (old sizes) k x result (new words) }
+    ensures { WordsAt part.now kinds.now numbers.now sizes.now k x result words.new }
 {
     true
 }
@@ -49,7 +50,7 @@ fn least_in<'a>(
     k: usize,
 ) -> [u8; ROWS]
     requires { (k ≤ width) × (length part.now < max_rows) }
-    ensures { BlockOf (old kinds) (old numbers) (old sizes) k (old part) 0 (length (old part)) result }
+    ensures { BlockOf kinds.now numbers.now sizes.now k part.now 0 (length part.now) result }
 {
     let mut words = [0; ROWS];
     let mut least = [0; ROWS];
@@ -65,7 +66,7 @@ fn least_in<'a>(
 // How many bytes a block takes of a capture, from a start on.
 pub fn bytes_from(capture: &[u8], first: usize) -> usize
     requires { first ≤ length capture.now }
-    ensures { (result < max_rows) × (first + result ≤ length (old capture)) }
+    ensures { (result < max_rows) × (first + result ≤ length capture.now) }
 {
     let left = capture.len() - first;
     if left < ROWS { left } else { ROWS - 1 }
@@ -82,7 +83,7 @@ pub fn block_from<'a>(
     bytes: usize,
 ) -> [u8; ROWS]
     requires { (k ≤ width) × (bytes < max_rows) × (first + bytes ≤ length capture.now) }
-    ensures { BlockOf (old kinds) (old numbers) (old sizes) k (old capture) first bytes result }
+    ensures { BlockOf kinds.now numbers.now sizes.now k capture.now first bytes result }
 {
     let end = first + bytes;
     least_in(kinds, numbers, sizes, &capture[first..end], k)

@@ -1,1 +1,2 @@
 // STUB: specs alone
+#![tactic(auto)]

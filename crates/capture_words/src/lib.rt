@@ -1,4 +1,5 @@
 // The truths of a node on a part of a capture, a word for each start, from those of its parts.
+#![tactic(auto)]
 
 // A word's bits.
 pub const WIDTH: usize = 64;

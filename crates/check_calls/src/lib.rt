@@ -1,6 +1,7 @@
 // A proposed assignment, from anyone: whether it meets every clause, and the recording read from its channel variables.
+#![tactic(auto)]
+
 ghost use Rattle.std.specs.Prelude.{◌≡◌, ℕ, ◌+◌, ◌≤◌, ◌<◌, length, get_or};
-ghost use Rattle.moments.specs.Moments.{old, new};
 ghost use Rattle.refusal.specs.Asked.{asked};
 ghost use Rattle.interval.specs.Limits.{max_steps};
 ghost use Rattle.interval.specs.Rows.{RowsOf};
@@ -35,7 +36,7 @@ fn ask_nodes(
     requires c_le_max_channels { (c ≤ max_channels) × (k ≤ max_steps) × (table.count ≤ max_nodes) × Low firsts.now × Low numbered.now × RowsOf k rows.now }
     requires by_index { (x : ℕ) → x < table.count → get_or numbered.now x 0 ≡ 0 + weight_to clause_weight k table.kinds table.numbers x }
     requires all_mentioned { AllMentioned (length assignment.now) (defined_in c k table firsts.now) }
-    ensures { result ≡ ask_clauses (value_in (old assignment)) 0 (clauses_by (defined_in c k table (old firsts))) }
+    ensures { result ≡ ask_clauses (value_in assignment.now) 0 (clauses_by (defined_in c k table firsts.now)) }
 {
     for x in 0..table.count {
         let block = table_layout::block_at(
@@ -64,7 +65,7 @@ fn ask_table(
     requires c_le_max_channels { (c ≤ max_channels) × (k ≤ max_steps) × (table.count ≤ max_nodes) × Low firsts.now }
     requires all_mentioned { AllMentioned (length assignment.now) (defined_in c k table firsts.now)
         × Variable (length assignment.now) (root_in table firsts.now k) }
-    ensures { result ≡ ask_clauses (value_in (old assignment)) 0 (clauses_for c k table (old firsts)) }
+    ensures { result ≡ ask_clauses (value_in assignment.now) 0 (clauses_for c k table firsts.now) }
 {
     let mut numbered = [0; MAX_NODES];
     let last = table_sizes::sums(
@@ -94,7 +95,7 @@ fn ask_table(
 // Questions 12 to 14 and 18, of an accepted formula's node table, with as many places lent for the recording.
 fn ask_proposal(table: NodeTable, c: u32, k: u32, assignment: &[u8], places: usize) -> Reply
     requires { (c ≤ max_channels) × (k ≤ max_steps) × (table.count ≤ max_nodes) × ((f : Tree Formula) × TableFor c f table) }
-    ensures { (f : Tree Formula) → table ≡ node_table_of f → result ≡ asked (check_questions c k f (old assignment) places) Reply.No Reply.Yes }
+    ensures { (f : Tree Formula) → table ≡ node_table_of f → result ≡ asked (check_questions c k f assignment.now places) Reply.No Reply.Yes }
 {
     let layout = table_layout::layout_of(table, c, k);
     let s = layout.sizes;
@@ -114,7 +115,7 @@ fn ask_proposal(table: NodeTable, c: u32, k: u32, assignment: &[u8], places: usi
 
 // Whether a proposed assignment meets every clause of a formula of C channels over k steps; the recording is written where it does.
 pub fn check(text: &[u8], c: u32, k: u32, assignment: &[u8], recording: &mut [u8]) -> Checked
-    ensures { record { answer = result; recording = new recording } ≡ proposed c k (old text) (old assignment) (old recording) }
+    ensures { record { answer = result; recording = recording.new } ≡ proposed c k text.now assignment.now recording.old }
 {
     let tabled = node_calls::node_table(text, c, k);
     let reply = tabled.reply;

@@ -14,7 +14,7 @@ use Rattle.refusal.specs.declared.Reply.TheVariants.{Yes, No}
 use Rattle.interval.specs.Places.{count_of}
 use Rattle.interval.specs.Limits.{max_count}
 use Rattle.lists.specs.Listing.{rows, sum}
-use Rattle.lists.proofs.Listing.{rows_same, length_tab, get_d_tab}
+use Rattle.lists.proofs.Listing.{rows_same, length_tab, get_or_tab}
 use Rattle.paper_circuit.specs.Gates.{Assignment, value_of}
 use Rattle.paper_circuit.specs.Circuit.{Definition, define}
 use Rattle.paper_circuit.specs.declared.Gate.{Gate}
@@ -162,7 +162,7 @@ module _ (w n : ℕ) (up : Bool) (e : ℕ) (h : e < n) where
   constant_inside = omega (arith, length_tab n (λ e. define (w + e) (Constant up)))
 
   constant_here : definition_in (constants w n up) e ≡ define (w + e) (Constant up)
-  constant_here = get_d_tab n (λ e. define (w + e) (Constant up)) e (definition_in [] 0) h
+  constant_here = get_or_tab n (λ e. define (w + e) (Constant up)) e (definition_in [] 0) h
 
 module _ (a : Assignment) (m w n : ℕ) (up : Bool) where
   pub constants_begun : Met a m (constants w n up) (m + 0) 0

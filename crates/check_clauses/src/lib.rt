@@ -1,6 +1,7 @@
 // Question 14, whether an assignment meets clauses, asked clause after clause as the circuit gives them: of a block, a node.
+#![tactic(auto)]
+
 ghost use Rattle.std.specs.Prelude.{◌≡◌, ℕ, ◌+◌, ◌≤◌, ◌<◌, length};
-ghost use Rattle.moments.specs.Moments.{old};
 ghost use Rattle.interval.specs.Limits.{max_count};
 ghost use Rattle.interval.specs.Places.{count_of};
 ghost use Rattle.interval.specs.Rows.{RowsOf};
@@ -20,7 +21,7 @@ use table_nodes::cursor::Cursor;
 // Question 14 of the clauses of n variables from w on that are all to be high or low (up), one clause each, numbered from m on.
 fn ask_constants(assignment: &[u8], w: u32, n: u32, up: bool, m: u32) -> Reply
     requires { (w < bound) × (n ≤ max_count) × (m < bound) × ((e : ℕ) → e < n → Variable (length assignment.now) (w + e)) }
-    ensures { result ≡ ask_clauses (value_in (old assignment)) m (clauses_by (constants w n up)) }
+    ensures { result ≡ ask_clauses (value_in assignment.now) m (clauses_by (constants w n up)) }
 {
     let mut e = 0;
     while e < n {
@@ -39,7 +40,7 @@ fn ask_constants(assignment: &[u8], w: u32, n: u32, up: bool, m: u32) -> Reply
 fn ask_block(assignment: &[u8], c: u32, rows: &[u32], k: u32, block: Block, n: u32) -> Reply
     requires bounded { (Bounded c k block × (block.points ≤ max_count)) × (n ≤ max_sum + max_weight) × RowsOf k rows.now }
     requires all_mentioned { AllMentioned (length assignment.now) (defined_by c k block) }
-    ensures { result ≡ ask_clauses (value_in (old assignment)) n (clauses_by (defined_by c k block)) }
+    ensures { result ≡ ask_clauses (value_in assignment.now) n (clauses_by (defined_by c k block)) }
 {
     let mut cursor = Cursor::start(rows, k, block);
     let mut m = n;
@@ -71,7 +72,7 @@ fn ask_block(assignment: &[u8], c: u32, rows: &[u32], k: u32, block: Block, n: u
 fn ask_chop(assignment: &[u8], c: u32, rows: &[u32], k: u32, block: Block, n: u32) -> Reply
     requires fine { Fine c k block × (n ≤ max_sum) × RowsOf k rows.now }
     requires all_mentioned { AllMentioned (length assignment.now) (chopped_by c k (block.first + count_of k) block) }
-    ensures { result ≡ ask_clauses (value_in (old assignment)) n (clauses_by (chopped_by c k (block.first + count_of k) block)) }
+    ensures { result ≡ ask_clauses (value_in assignment.now) n (clauses_by (chopped_by c k (block.first + count_of k) block)) }
 {
     let w = table_nodes::beyond(block.first, rows, k);
     let triples = table_nodes::triples_of(w, block);
@@ -87,7 +88,7 @@ fn ask_chop(assignment: &[u8], c: u32, rows: &[u32], k: u32, block: Block, n: u3
 pub fn ask_node(assignment: &[u8], c: u32, rows: &[u32], k: u32, block: Block, n: u32) -> Reply
     requires fine { Fine c k block × (n ≤ max_sum) × RowsOf k rows.now }
     requires all_mentioned { AllMentioned (length assignment.now) (node_by c k block (is_chop block.rule)) }
-    ensures { result ≡ ask_clauses (value_in (old assignment)) n (clauses_by (node_by c k block (is_chop block.rule))) }
+    ensures { result ≡ ask_clauses (value_in assignment.now) n (clauses_by (node_by c k block (is_chop block.rule))) }
 {
     let rule = block.rule;
     if table_blocks::is_chop(rule) {

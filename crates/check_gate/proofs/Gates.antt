@@ -9,7 +9,7 @@ use borrow.Author.Tests.{not-true, ltb-true, ltb-false}
 use lib.Dec.{ltb}
 use lib.ListN.{length, get_or}
 use Rattle.lists.specs.Listing.{tab}
-use Rattle.lists.proofs.Listing.{length_tab, get_d_tab}
+use Rattle.lists.proofs.Listing.{length_tab, get_or_tab}
 use Rattle.lists.proofs.Tests.{both}
 use Rattle.paper_meaning.specs.Meaning.{any}
 use Rattle.paper_meaning.proofs.Laws.{some_one}
@@ -138,7 +138,7 @@ module _ (a : Assignment) where
   any_unmet v {w} {n} {r} h false true e f d =
       let ws = tab n (λ x. w + x) in
       let l = ltb-true r n f in
-      one_high v (negated v ∷ map plain ws) e ws r (rw length_tab l) (λ x m. rw (get_d_tab n (λ x. w + x) x 0 (omega arith)) (h.low x m)) (rw (get_d_tab n (λ x. w + x) r 0 l) (h.high l))
+      one_high v (negated v ∷ map plain ws) e ws r (rw length_tab l) (λ x m. rw (get_or_tab n (λ x. w + x) x 0 (omega arith)) (h.low x m)) (rw (get_or_tab n (λ x. w + x) r 0 l) (h.high l))
   any_unmet v h false false e f d = absurd (d refl)
 
 -- the variable has the gate's value, or r is right

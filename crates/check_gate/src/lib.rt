@@ -1,6 +1,7 @@
 // Question 14 of one gate: whether an assignment meets its clauses, and which is the first that it does not meet.
+#![tactic(auto)]
+
 ghost use Rattle.std.specs.Prelude.{◌≡◌, ℕ, ◌+◌, ◌≤◌, ◌<◌, length};
-ghost use Rattle.moments.specs.Moments.{old};
 ghost use Rattle.paper_circuit.specs.Gates.{value_of};
 ghost use Rattle.table_blocks.specs.Blocks.{bound};
 ghost use Rattle.table_sizes.specs.Weights.{clause_weight, weight_of, max_weight};
@@ -17,7 +18,7 @@ use refusal::{Refusal, Reply};
 // Whether variable v is high.
 pub fn high(assignment: &[u8], v: u32) -> bool
     requires { Variable (length assignment.now) v }
-    ensures { result ≡ value_in (old assignment) v }
+    ensures { result ≡ value_in assignment.now v }
 {
     assignment[v as usize - 1] == 1
 }
@@ -25,7 +26,7 @@ pub fn high(assignment: &[u8], v: u32) -> bool
 // How many of n variables from w on are low before the first that is high.
 fn first_high(assignment: &[u8], w: u32, n: u32) -> u32
     requires { (w + n ≤ 4294967296) × ((e : ℕ) → e < n → Variable (length assignment.now) (w + e)) }
-    ensures { FirstHigh (value_in (old assignment)) w n result }
+    ensures { FirstHigh (value_in assignment.now) w n result }
 {
     let mut e = 0;
     while e < n {
@@ -40,7 +41,7 @@ fn first_high(assignment: &[u8], w: u32, n: u32) -> u32
 // The gate's value.
 fn value(assignment: &[u8], gate: Gate) -> bool
     requires { InputsIn (length assignment.now) gate × Within gate }
-    ensures { result ≡ value_of (value_in (old assignment)) gate }
+    ensures { result ≡ value_of (value_in assignment.now) gate }
 {
     match gate {
         Gate::Constant(up) => up,
@@ -56,7 +57,7 @@ fn value(assignment: &[u8], gate: Gate) -> bool
 // Which clause is the first unmet one, from 0, of a gate whose variable is high or low (up) where its value is not.
 fn first_unmet(assignment: &[u8], up: bool, gate: Gate) -> u32
     requires { InputsIn (length assignment.now) gate × Within gate }
-    ensures { FirstUnmet (value_in (old assignment)) up gate result }
+    ensures { FirstUnmet (value_in assignment.now) up gate result }
 {
     match gate {
         Gate::Constant(_) => 0,
@@ -89,7 +90,7 @@ fn first_unmet(assignment: &[u8], up: bool, gate: Gate) -> u32
 pub fn ask_gate(assignment: &[u8], v: u32, gate: Gate, n: u32) -> Reply
     requires { Variable (length assignment.now) v × InputsIn (length assignment.now) gate × Within gate
         × (weight_of clause_weight gate ≤ max_weight) × (n < bound) }
-    ensures { result ≡ ask_clauses (value_in (old assignment)) n (clauses_of v gate) }
+    ensures { result ≡ ask_clauses (value_in assignment.now) n (clauses_of v gate) }
 {
     let up = high(assignment, v);
     if up == value(assignment, gate) {

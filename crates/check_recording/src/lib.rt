@@ -1,6 +1,7 @@
 // The recording read from an assignment's channel variables.
+#![tactic(auto)]
+
 ghost use Rattle.std.specs.Prelude.{◌≡◌, ◌+◌, ◌*◌, ◌^◌, ◌≤◌, length};
-ghost use Rattle.moments.specs.Moments.{old, new};
 ghost use Rattle.lists.specs.Listing.{sum};
 ghost use Rattle.interval.specs.Limits.{max_steps};
 ghost use Rattle.paper_grammar.specs.Limits.{max_channels};
@@ -11,7 +12,7 @@ ghost use Rattle.paper_assignments.specs.Extension.{value_in, recording_of};
 // The byte of instant t: bit b where channel b is high.
 fn recorded(assignment: &[u8], c: usize, t: usize) -> u8
     requires { (c ≤ max_channels) × (t ≤ max_steps) × (t * c + c ≤ length assignment.now) }
-    ensures { result ≡ sum (λ b. bit (value_in (old assignment) (channel_of c t b)) * 2 ^ b) c }
+    ensures { result ≡ sum (λ b. bit (value_in assignment.now (channel_of c t b)) * 2 ^ b) c }
 {
     let at = t * c;
     let mut byte: u8 = 0;
@@ -24,7 +25,7 @@ fn recorded(assignment: &[u8], c: usize, t: usize) -> u8
 // The recording, to all of `out`.
 pub fn put_recording(out: &mut [u8], assignment: &[u8], c: usize)
     requires { (c ≤ max_channels) × (length out.old ≤ max_steps) × (length out.old * c ≤ length assignment.now) }
-    ensures { new out ≡ recording_of c (length (old out)) (old assignment) }
+    ensures { out.new ≡ recording_of c (length out.old) assignment.now }
 {
     for t in 0..out.len() {
         out[t] = recorded(assignment, c, t);

@@ -4,7 +4,7 @@
 -- Demand3: the order, N and what the search of ours answers, sentence by sentence.
 -- Agreement: of every call: ours fulfils its demand, and whatever does is ours.
 -- Wrong: no engine of document 01's checklist fulfils the demands: each parts from a starred edge.
--- asked-obeys, obeys-two (Obeyed): a call that asks our questions obeys; two that obey part at most where both are answered.
+-- asked_obeys, obeys_two (Obeyed): a call that asks our questions obeys; two that obey part at most where both are answered.
 -- orderly (Orderly): demand 1, one lemma for every call.
 pub mod Obeyed
 pub mod Answers

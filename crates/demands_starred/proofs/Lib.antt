@@ -1,3 +1,3 @@
 -- The laws that others go by, with the file of each.
--- edges-hold (Edges): every starred edge holds: each is computed, from the text or the line to what is printed.
+-- edges_hold (Edges): every starred edge holds: each is computed, from the text or the line to what is printed.
 pub mod Edges

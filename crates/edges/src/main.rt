@@ -1,6 +1,8 @@
 // Tries document 01's edges that are not starred, and its wrong turns, and writes a line each: what was asked, the answer to
 // questions 1 to 7 with the node count, and node x: the refusal's number and place, or its own text. Then lines of the file program:
 // how many bytes it writes, and whether the rest of its array is as it was. Then searches, in arrays of 255 before.
+#![tactic(auto)]
+
 use file_line::FILE_BYTES;
 use paper_search::Answer;
 use refusal::Reply;

@@ -2,6 +2,8 @@
 // satisfies the formula. Given no steps, but after the formula a channel's levels as `a=0110`, it draws that recording and writes
 // whether it satisfies the formula. Given `steps=8` and `file=` there, it writes the sizes of the formula's clause table, and a small
 // table's clauses. Or it writes why there is no answer.
+#![tactic(auto)]
+
 mod clauses;
 mod drawing;
 mod first;

@@ -1,6 +1,8 @@
 // What the lines of an exercise say, or what is wrong with them. The number of channels comes first. A search goes on with the number
 // of steps and a formula, and may end with `tries=1000`. Any other exercise goes on with a formula, and then either channels like
 // `a=0110`, or `steps=8` and `file=` with the path of a clause file, in any order.
+#![tactic(auto)]
+
 pub mod search;
 pub mod task;
 

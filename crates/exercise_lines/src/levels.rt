@@ -1,6 +1,5 @@
 // A channel's levels, one character an instant, and its bit in a recording.
 ghost use Rattle.std.specs.Prelude.{◌≡◌, ◌≤◌, length};
-ghost use Rattle.moments.specs.Moments.{old, new};
 ghost use Rattle.exercise_lines.specs.Levels.{raised_by, Raised};
 
 use crate::number::Number;
@@ -49,7 +48,7 @@ fn raised(byte: u8, level: u8, bit: u8) -> u8
 // Sets a channel's bit at each instant that its levels have high.
 pub fn raise(recording: &mut [u8], levels: &[u8], bit: u8)
     requires { length levels.now ≤ length recording.old }
-    ensures { Raised bit (old levels) (old recording) (new recording) }
+    ensures { Raised bit levels.now recording.old recording.new }
 {
     for t in 0..levels.len() {
         recording[t] = raised(recording[t], levels[t], bit);

@@ -1,9 +1,10 @@
 // What one line of an exercise holds: where it ends, how it begins; a number, a channel's levels.
+#![tactic(auto)]
+
 pub mod levels;
 pub mod number;
 
 ghost use Rattle.std.specs.Prelude.{◌-◌, ◌≤◌, length};
-ghost use Rattle.moments.specs.Moments.{old};
 
 // The first n, or all where there are no more.
 pub fn first(bytes: &[u8], n: usize) -> &[u8]
@@ -17,7 +18,7 @@ pub fn first(bytes: &[u8], n: usize) -> &[u8]
 
 // How long the first line is.
 fn line_length(input: &[u8]) -> usize
-    ensures { result ≤ length (old input) }
+    ensures { result ≤ length input.now }
 {
     bytes::scan::find(input, 0, input.len(), b'\n')
 }
@@ -29,7 +30,7 @@ pub fn line(input: &[u8]) -> &[u8] {
 
 // What follows the first line.
 pub fn after_line(input: &[u8]) -> &[u8]
-    ensures { length result.now ≤ length (old input) - 1 }
+    ensures { length result.now ≤ length input.now - 1 }
 {
     let n = line_length(input);
     if n == input.len() {

@@ -1,6 +1,5 @@
 // A number of an exercise's lines: of channels, of steps, of tries.
 ghost use Rattle.std.specs.Prelude.{◌≡◌};
-ghost use Rattle.moments.specs.Moments.{old};
 ghost use Rattle.formula_reader.specs.Parts.{value_from};
 ghost use Rattle.formula_scan.specs.Scans.{capped_at};
 ghost use Rattle.exercise_lines.specs.Number.{max_tries};
@@ -38,7 +37,7 @@ pub fn decimal(text: &[u8]) -> Number {
 
 // The number that digits write, one above the most tries for all beyond.
 pub fn value(digits: &[u8]) -> u64
-    ensures { result ≡ capped_at max_tries (value_from 0 (old digits)) }
+    ensures { result ≡ capped_at max_tries (value_from 0 digits.now) }
 {
     formula_scan::capped_number(digits, 0, MAX_TRIES)
 }

@@ -1,6 +1,7 @@
 // The values of a node's block, written to the part of an assignment that it fills, and the channels' values before all blocks.
+#![tactic(auto)]
+
 ghost use Rattle.std.specs.Prelude.{◌≡◌, Bool, ℕ, suc, ◌+◌, ◌*◌, ◌≤◌, length};
-ghost use Rattle.moments.specs.Moments.{old, new};
 ghost use Rattle.lists.specs.Listing.{rows, tab};
 ghost use Rattle.interval.specs.Limits.{max_steps};
 ghost use Rattle.interval.specs.Places.{count_of, triple_count_of};
@@ -21,7 +22,7 @@ use truth_table::Measure;
 // An instant's channels.
 fn put_instant(out: &mut [u8], byte: u8)
     requires { length out.old ≤ max_channels }
-    ensures { new out ≡ tab (length (old out)) (λ c. bit (bit_at byte c)) }
+    ensures { out.new ≡ tab (length out.old) (λ c. bit (bit_at byte c)) }
 {
     for c in 0..out.len() {
         out[c] = truth_word::bit_of(byte, c);
@@ -31,7 +32,7 @@ fn put_instant(out: &mut [u8], byte: u8)
 // The channels at all instants.
 pub fn put_channels(out: &mut [u8], c: usize, recording: &[u8])
     requires { (c ≤ max_channels) × (length recording.now ≤ max_steps) × (length out.old ≡ length recording.now * c) }
-    ensures { new out ≡ channel_values c (length (old recording)) (old recording) }
+    ensures { out.new ≡ channel_values c (length recording.now) recording.now }
 {
     let mut at = 0;
     for t in 0..recording.len() {
@@ -44,7 +45,7 @@ pub fn put_channels(out: &mut [u8], c: usize, recording: &[u8])
 // Levels 0 to n of a duration, from the word of its state assertion.
 fn put_levels(out: &mut [u8], n: u32, word: u32, k: usize)
     requires { (k ≤ max_steps) × (n ≤ 255) × (length out.old ≡ suc n * count_of k) }
-    ensures { (f : ℕ → Bool) → WordOf k f word → new out ≡ rows (suc n) (λ c. truth_values Formula k (lasts c f)) }
+    ensures { (f : ℕ → Bool) → WordOf k f word → out.new ≡ rows (suc n) (λ c. truth_values Formula k (lasts c f)) }
 {
     let count = Interval::count(k);
     let mut at = 0;
@@ -68,7 +69,7 @@ fn put_chop(
     k: usize,
 )
     requires { (k ≤ max_steps) × (length out.old ≡ count_of k + triple_count_of k) × Binary p.now × Binary q.now × RowsOf k rows.now }
-    ensures { new out ≡ chop_values k (high_at (old p)) (high_at (old q)) }
+    ensures { out.new ≡ chop_values k (high_at p.now) (high_at q.now) }
 {
     let count = Interval::all(rows, k as u32) as usize;
     extend_truths::put_table(&mut out[..count], &truth_chop::chop_table(p, q, rows, k));
@@ -86,7 +87,7 @@ pub fn put_values(
     q: &[u8; Interval::MAX_COUNT],
 )
     requires { (k ≤ max_steps) × Fits k (length out.old) rule × Binary p.now × Binary q.now × RowsOf k rows.now }
-    ensures { new out ≡ values_by k (old recording) (length (old out)) (high_at (old p)) (high_at (old q)) rule }
+    ensures { out.new ≡ values_by k recording.now (length out.old) (high_at p.now) (high_at q.now) rule }
 {
     match rule {
         Rule::Fixed(up) => extend_truths::put_table(

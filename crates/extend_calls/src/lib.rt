@@ -1,7 +1,8 @@
 // The assignment that extends a recording: the channels, then a block for each node, the last node's first, since a node goes by its
 // parts and these stand after it.
+#![tactic(auto)]
+
 ghost use Rattle.std.specs.Prelude.{◌≡◌, ℕ, ◌≤◌, length};
-ghost use Rattle.moments.specs.Moments.{old, new};
 ghost use Rattle.interval.specs.Limits.{max_steps};
 ghost use Rattle.interval.specs.Rows.{RowsOf};
 ghost use Rattle.paper_grammar.specs.Limits.{max_nodes, max_channels};
@@ -26,7 +27,7 @@ fn put_nodes(
 )
     requires k_le_max_steps { (k ≤ max_steps) × (table.count ≤ max_nodes) × (last ≤ length assignment.old) × Low firsts.now × RowsOf k rows.now }
     requires by_index { (C : ℕ) × Seated C k table firsts.now last }
-    ensures { NodesPut k (old recording) table (old firsts) last (old assignment) (new assignment) }
+    ensures { NodesPut k recording.now table firsts.now last assignment.old assignment.new }
 {
     let mut x = table.count;
     let mut end = last;
@@ -54,7 +55,7 @@ fn write_extension(
     assignment: &mut [u8],
 ) -> Written
     requires { (c ≤ max_channels) × (k ≤ max_steps) × (table.count ≤ max_nodes) × (length recording.now ≡ k) }
-    ensures { Extends table c k (old recording) (old assignment) (record { answer = result; assignment = new assignment }) }
+    ensures { Extends table c k recording.now assignment.old (record { answer = result; assignment = assignment.new }) }
 {
     let layout = table_layout::layout_of(table, c, k);
     let s = layout.sizes;
@@ -79,7 +80,7 @@ fn write_extension(
 
 // The assignment that extends a recording of k steps of C channels and meets all clauses of a formula but the last: V bytes.
 pub fn extend(text: &[u8], c: u32, k: u32, recording: &[u8], assignment: &mut [u8]) -> Written
-    ensures { record { answer = result; assignment = new assignment } ≡ extended c k (old text) (old recording) (old assignment) }
+    ensures { record { answer = result; assignment = assignment.new } ≡ extended c k text.now recording.now assignment.old }
 {
     let tabled = node_calls::node_table(text, c, k);
     let reply = tabled.reply;

@@ -1,6 +1,7 @@
 // A node's block of the assignment that extends a recording: its values, from those of the node's parts, which stand after it.
+#![tactic(auto)]
+
 ghost use Rattle.std.specs.Prelude.{◌≡◌, ◌≤◌, length};
-ghost use Rattle.moments.specs.Moments.{old, new};
 ghost use Rattle.interval.specs.Limits.{max_steps};
 ghost use Rattle.interval.specs.Places.{count_of};
 ghost use Rattle.interval.specs.Rows.{RowsOf};
@@ -37,7 +38,7 @@ pub fn put_node(
     recording: &[u8],
 )
     requires { (k ≤ max_steps) × BlockIn k block end (length assignment.old) × RowsOf k rows.now }
-    ensures { BlockPut k (old recording) block end (old assignment) (new assignment) }
+    ensures { BlockPut k recording.now block end assignment.old assignment.new }
 {
     let rule = block.rule;
     let start = block.first as usize - 1;

@@ -1,6 +1,7 @@
 // The values of a chop's triples, from the truths of its parts: P on [i, m] and Q on [m, j].
+#![tactic(auto)]
+
 ghost use Rattle.std.specs.Prelude.{◌≡◌, suc, ◌+◌, ◌-◌, ◌≤◌, length};
-ghost use Rattle.moments.specs.Moments.{old, new};
 ghost use Rattle.interval.specs.Limits.{max_steps};
 ghost use Rattle.interval.specs.Places.{count_of, triple_count_of};
 ghost use Rattle.interval.specs.Rows.{RowsOf};
@@ -20,7 +21,7 @@ fn put_cuts(
     i: usize,
 )
     requires { (k ≤ max_steps) × (1 ≤ length out.old) × (i + length out.old ≤ suc k) × Binary p.now × Binary q.now × RowsOf k rows.now }
-    ensures { new out ≡ cuts_from k (high_at (old p)) (high_at (old q)) i (length (old out) - 1) }
+    ensures { out.new ≡ cuts_from k (high_at p.now) (high_at q.now) i (length out.old - 1) }
 {
     let steps = out.len() - 1;
     let first = Interval::place(rows, k as u32, i as u32, 0) as usize;
@@ -43,7 +44,7 @@ fn put_starts(
     i: usize,
 )
     requires { (k ≤ max_steps) × (i ≤ k) × (length out.old ≡ count_of (k - i)) × Binary p.now × Binary q.now × RowsOf k rows.now }
-    ensures { new out ≡ triples_from k (high_at (old p)) (high_at (old q)) i }
+    ensures { out.new ≡ triples_from k (high_at p.now) (high_at q.now) i }
 {
     let mut at = 0;
     for d in 0..k + 1 - i {
@@ -62,7 +63,7 @@ pub fn put_triples(
     k: usize,
 )
     requires { (k ≤ max_steps) × (length out.old ≡ triple_count_of k) × Binary p.now × Binary q.now × RowsOf k rows.now }
-    ensures { new out ≡ cut_values k (on_places k (high_at (old p))) (on_places k (high_at (old q))) }
+    ensures { out.new ≡ cut_values k (on_places k (high_at p.now)) (on_places k (high_at q.now)) }
 {
     let all = Interval::all(rows, k as u32);
     let mut at = 0;

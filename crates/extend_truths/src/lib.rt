@@ -1,6 +1,7 @@
 // Truths as bytes, 0 or 1: those of a node's part are taken from an assignment, those of the node are written to a part of it.
+#![tactic(auto)]
+
 ghost use Rattle.std.specs.Prelude.{◌≡◌, not, ℕ, ◌+◌, ◌-◌, ◌≤◌, ◌<◌, min, length, get_or};
-ghost use Rattle.moments.specs.Moments.{old, new};
 ghost use Rattle.lists.specs.Listing.{tab};
 ghost use Rattle.interval.specs.Limits.{max_count};
 ghost use Rattle.paper_grammar.specs.Limits.{max_channels};
@@ -24,7 +25,7 @@ fn places_from(length: usize, at: usize, n: usize) -> usize
 // The truths of n variables from `first` on, and then zeros; a variable past the assignment's end has none.
 pub fn truth_from(assignment: &[u8], first: u32, n: usize) -> [u8; Interval::MAX_COUNT]
     requires { n ≤ max_count }
-    ensures { Binary result × ((e : ℕ) → e < n → high_at result e ≡ high_at (old assignment) (first - 1 + e)) }
+    ensures { Binary result × ((e : ℕ) → e < n → high_at result e ≡ high_at assignment.now (first - 1 + e)) }
 {
     let mut t = truth_table::all_of(0);
     let at = if first == 0 { 0 } else { first as usize - 1 };
@@ -37,7 +38,7 @@ pub fn truth_from(assignment: &[u8], first: u32, n: usize) -> [u8; Interval::MAX
 // The first bytes of a table.
 pub fn put_table(out: &mut [u8], t: &[u8; Interval::MAX_COUNT])
     requires { length out.old ≤ max_count }
-    ensures { new out ≡ tab (length (old out)) (λ e. get_or (old t) e 0) }
+    ensures { out.new ≡ tab (length out.old) (λ e. get_or t.now e 0) }
 {
     for e in 0..out.len() {
         out[e] = t[e];
@@ -47,7 +48,7 @@ pub fn put_table(out: &mut [u8], t: &[u8; Interval::MAX_COUNT])
 // A letter: channel c at each instant.
 pub fn put_channel(out: &mut [u8], recording: &[u8], c: usize)
     requires { c < max_channels }
-    ensures { new out ≡ tab (length (old out)) (λ t. bit (channel_at (old recording) c t)) }
+    ensures { out.new ≡ tab (length out.old) (λ t. bit (channel_at recording.now c t)) }
 {
     for t in 0..out.len() {
         out[t] = truth_word::bit_of(node_rows::byte_at(recording, t), c);
@@ -57,7 +58,7 @@ pub fn put_channel(out: &mut [u8], recording: &[u8], c: usize)
 // `!`, from the truths of its part.
 pub fn put_inverse(out: &mut [u8], p: &[u8; Interval::MAX_COUNT])
     requires { (length out.old ≤ max_count) × Binary p.now }
-    ensures { new out ≡ tab (length (old out)) (λ e. bit (not (high_at (old p) e))) }
+    ensures { out.new ≡ tab (length out.old) (λ e. bit (not (high_at p.now e))) }
 {
     for e in 0..out.len() {
         out[e] = p[e] ^ 1;
@@ -72,7 +73,7 @@ pub fn put_joined(
     q: &[u8; Interval::MAX_COUNT],
 )
     requires { (length out.old ≤ max_count) × Binary p.now × Binary q.now }
-    ensures { new out ≡ tab (length (old out)) (λ e. bit (joined both (high_at (old p) e) (high_at (old q) e))) }
+    ensures { out.new ≡ tab (length out.old) (λ e. bit (joined both (high_at p.now e) (high_at q.now e))) }
 {
     for e in 0..out.len() {
         out[e] = truth_table::joined_byte(both, p[e], q[e]);

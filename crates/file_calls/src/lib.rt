@@ -1,7 +1,8 @@
 // The clause file: a table in memory to bytes, and bytes to a table in memory.
+#![tactic(auto)]
+
 ghost use Rattle.std.specs.Prelude.{◌≡◌, ◌≤◌, length};
 ghost use Rattle.std.proofs.lemmas.List.Edits.{sets};
-ghost use Rattle.moments.specs.Moments.{old, new};
 ghost use Rattle.table_calls.specs.Table.{five_of};
 ghost use Rattle.table_calls.specs.Left.{left};
 ghost use Rattle.file_numbers.specs.File.{file_of};
@@ -13,7 +14,7 @@ use table_layout::Sizes;
 // The bytes of a file, from the first place on.
 fn put_file(file: &mut [u8], s: Sizes, variables: &[u32], marks: &[u8])
     requires { length (file_of (five_of s) variables.now marks.now) ≤ length file.old }
-    ensures { new file ≡ sets (old file) 0 (file_of (five_of s) (old variables) (old marks)) }
+    ensures { file.new ≡ sets file.old 0 (file_of (five_of s) variables.now marks.now) }
 {
     let sizes = [s.channels, s.steps, s.variables, s.clauses, s.literals];
     let at = file_numbers::put_numbers(file, 0, &sizes);
@@ -23,7 +24,7 @@ fn put_file(file: &mut [u8], s: Sizes, variables: &[u32], marks: &[u8])
 
 // Writes a table's file: questions 15 to 18.
 pub fn write(s: Sizes, variables: &[u32], marks: &[u8], file: &mut [u8]) -> Written
-    ensures { record { answer = result; file = new file } ≡ file_written s (old variables) (old marks) (old file) }
+    ensures { record { answer = result; file = file.new } ≡ file_written s variables.now marks.now file.old }
 {
     if let Reply::No(r) = file_questions::ask_arrays(s, variables, marks) {
         return Written::Refused(r);
@@ -37,7 +38,7 @@ pub fn write(s: Sizes, variables: &[u32], marks: &[u8], file: &mut [u8]) -> Writ
 
 // Reads a file into a table: questions 15 to 18.
 pub fn read(file: &[u8], sizes: &mut [u32], variables: &mut [u32], marks: &mut [u8]) -> Written
-    ensures { left result sizes variables marks ≡ file_read (old file) (old sizes) (old variables) (old marks) }
+    ensures { left result sizes variables marks ≡ file_read file.now sizes.old variables.old marks.old }
 {
     if let Reply::No(r) = file_questions::ask_file(file) {
         return Written::Refused(r);

@@ -1,8 +1,10 @@
 // What the file program does: it reads a line of C, k and the text of a formula, and writes the formula's clause file.
+#![tactic(auto)]
+
 mod parts;
 
 ghost use Rattle.std.specs.Prelude.{◌≡◌, ◌≤◌, length, get_or};
-ghost use Rattle.moments.specs.Moments.{old, new, over};
+ghost use Rattle.moments.specs.Moments.{over};
 ghost use Rattle.file_numbers.specs.File.{file_length};
 ghost use Rattle.file_line.specs.Line.{line};
 ghost use Rattle.file_line.specs.Output.{output_for, output_of, max_input};
@@ -31,7 +33,7 @@ pub fn room_for_input() -> [u8; MAX_INPUT]
 // The file of a table, by its five sizes and the first L places of its arrays.
 fn put_file(five: [u32; 5], variables: &[u32], marks: &[u8], file: &mut [u8]) -> usize
     requires { (get_or five 4 0 ≤ length variables.now) × (get_or five 4 0 ≤ length marks.now) }
-    ensures { (result ≡ file_length (get_or five 4 0)) × (new file ≡ (file_put five (old variables) (old marks) (old file)).file) }
+    ensures { (result ≡ file_length (get_or five 4 0)) × (file.new ≡ (file_put five variables.now marks.now file.old).file) }
 {
     let n = five[4] as usize;
     let s = Sizes {
@@ -47,7 +49,7 @@ fn put_file(five: [u32; 5], variables: &[u32], marks: &[u8], file: &mut [u8]) ->
 
 // The file of a text's table: how many bytes were written.
 fn file_of_text(text: &[u8], c: u32, k: u32, file: &mut [u8; FILE_BYTES]) -> usize
-    ensures { (result ≡ length (output_for (line c k (old text)))) × (new file ≡ over (output_for (line c k (old text))) (old file)) }
+    ensures { (result ≡ length (output_for (line c k text.now))) × (file.new ≡ over (output_for (line c k text.now)) file.old) }
 {
     let mut five = [0u32; 5];
     let mut variables = [0u32; MAX_LITERALS];
@@ -61,7 +63,7 @@ fn file_of_text(text: &[u8], c: u32, k: u32, file: &mut [u8; FILE_BYTES]) -> usi
 
 // What the file program writes, given an input: how many bytes.
 pub fn file_of_input(input: &[u8], file: &mut [u8; FILE_BYTES]) -> usize
-    ensures { (result ≡ length (output_of (old input))) × (new file ≡ over (output_of (old input)) (old file)) × (result ≤ length (new file)) }
+    ensures { (result ≡ length (output_of input.now)) × (file.new ≡ over (output_of input.now) file.old) × (result ≤ length file.new) }
 {
     let p = parts::read_line(input);
     match p {

@@ -1,6 +1,5 @@
 // The parts of a line: C, k and where the text stands.
 ghost use Rattle.std.specs.Prelude.{◌≡◌, drop};
-ghost use Rattle.moments.specs.Moments.{old};
 ghost use Rattle.file_line.specs.Line.{number, blank, text_last, steps_next, read_line};
 ghost use Rattle.file_line.specs.Parts.{taken_by, capped_taken, line_by, capped_line, PartsWithin};
 
@@ -27,7 +26,7 @@ pub enum Parts {
 
 // The number and the blank from a place on.
 fn item_at(input: &[u8], at: usize) -> Item
-    ensures { taken_by (old input) result ≡ capped_taken (blank (number (drop at (old input)))) }
+    ensures { taken_by input.now result ≡ capped_taken (blank (number (drop at input.now))) }
 {
     let g = formula_reader::signed_by(
         input,
@@ -45,7 +44,7 @@ fn item_at(input: &[u8], at: usize) -> Item
 
 // The text from a place on, and the line feed after it.
 fn text_at(input: &[u8], c: u32, k: u32, at: usize) -> Parts
-    ensures { (line_by (old input) result ≡ text_last c k (drop at (old input))) × PartsWithin (old input) result }
+    ensures { (line_by input.now result ≡ text_last c k (drop at input.now)) × PartsWithin input.now result }
 {
     if at < input.len() {
         let end = input.len() - 1;
@@ -63,7 +62,7 @@ fn text_at(input: &[u8], c: u32, k: u32, at: usize) -> Parts
 
 // k and the text from a place on.
 fn steps_at(input: &[u8], c: u32, at: usize) -> Parts
-    ensures { (line_by (old input) result ≡ steps_next c (capped_taken (blank (number (drop at (old input)))))) × PartsWithin (old input) result }
+    ensures { (line_by input.now result ≡ steps_next c (capped_taken (blank (number (drop at input.now))))) × PartsWithin input.now result }
 {
     let e = item_at(input, at);
     match e {
@@ -74,7 +73,7 @@ fn steps_at(input: &[u8], c: u32, at: usize) -> Parts
 
 // The parts of a line.
 pub fn read_line(input: &[u8]) -> Parts
-    ensures { (line_by (old input) result ≡ capped_line (read_line (old input))) × PartsWithin (old input) result }
+    ensures { (line_by input.now result ≡ capped_line (read_line input.now)) × PartsWithin input.now result }
 {
     let e = item_at(input, 0);
     match e {

@@ -6,7 +6,7 @@ use Prim.Native.Nat.{ℕ, ◌+◌, ◌*◌, ◌-◌, ◌<◌}
 use native.Mathlib.Omega.{arith}
 use lib.ListN.{length, get_or, take, drop, length-append, length-drop}
 use lib.Seq.{sets, length-sets, take_all}
-use Rattle.lists.proofs.Listing.{length_tab, get_d_tab}
+use Rattle.lists.proofs.Listing.{length_tab, get_or_tab}
 use Rattle.lists.proofs.Stored.{sets_append}
 use Rattle.table_literals.proofs.Written.{flat_length}
 use Rattle.table_layout.specs.declared.Sizes.{Sizes}
@@ -71,4 +71,4 @@ module _ {file : List ℕ} {s : Sizes} (h : Held file s) where
 
   pub variable_at : (e : ℕ) → e < s.literals → {v : ℕ} → v ≡ number_at file (20 + 4 * e) → v ≡ get_or (variables_at file) e 0
   unfolding variables_at
-  variable_at e l p = p ∙ sym (get_d_tab (sizes_at file).literals (λ e. number_at file (20 + 4 * e)) e 0 (omega (arith, literals_at)))
+  variable_at e l p = p ∙ sym (get_or_tab (sizes_at file).literals (λ e. number_at file (20 + 4 * e)) e 0 (omega (arith, literals_at)))

@@ -1,8 +1,9 @@
 // Numbers of 32 bits as four bytes, low byte first, and what a file holds at which place.
+#![tactic(auto)]
+
 ghost use Rattle.std.specs.Prelude.{◌≡◌, ◌+◌, ◌*◌, ◌≤◌, length};
 ghost use mathlib.Core.List.{flat_map};
 ghost use Rattle.std.proofs.lemmas.List.Edits.{sets};
-ghost use Rattle.moments.specs.Moments.{old, new};
 ghost use Rattle.file_numbers.specs.File.{byte_of, bytes_of, file_length, number_of, number_at, sizes_at, variables_at, marks_at};
 ghost use Rattle.file_numbers.specs.Held.{Held};
 
@@ -29,7 +30,7 @@ fn byte_of(n: u32, weight: u32) -> u8
 // Stores a number's four bytes.
 fn put_number(file: &mut [u8], at: usize, n: u32)
     requires { at + 4 ≤ length file.old }
-    ensures { new file ≡ sets (old file) at (bytes_of n) }
+    ensures { file.new ≡ sets file.old at (bytes_of n) }
 {
     let bytes = [
         byte_of(n, 1),
@@ -43,7 +44,7 @@ fn put_number(file: &mut [u8], at: usize, n: u32)
 // Stores numbers one after another; the place after them.
 pub fn put_numbers(file: &mut [u8], at: usize, more: &[u32]) -> usize
     requires { at + 4 * length more.now ≤ length file.old }
-    ensures { (new file ≡ sets (old file) at (flat_map bytes_of (old more))) × (result ≡ at + 4 * length (old more)) }
+    ensures { (file.new ≡ sets file.old at (flat_map bytes_of more.now)) × (result ≡ at + 4 * length more.now) }
 {
     let mut b = at;
     for e in 0..more.len() {
@@ -63,7 +64,7 @@ fn number_of(a: u8, b: u8, c: u8, d: u8) -> u32
 // The number at a place.
 pub fn number_at(file: &[u8], at: usize) -> u32
     requires { at + 4 ≤ length file.now }
-    ensures { result ≡ number_at (old file) at }
+    ensures { result ≡ number_at file.now at }
 {
     number_of(file[at], file[at + 1], file[at + 2], file[at + 3])
 }
@@ -71,7 +72,7 @@ pub fn number_at(file: &[u8], at: usize) -> u32
 // The five sizes.
 pub fn sizes_at(file: &[u8]) -> Sizes
     requires { 20 ≤ length file.now }
-    ensures { result ≡ sizes_at (old file) }
+    ensures { result ≡ sizes_at file.now }
 {
     Sizes {
         channels: number_at(file, 0),
@@ -85,7 +86,7 @@ pub fn sizes_at(file: &[u8]) -> Sizes
 // The marks.
 pub fn marks_at(file: &[u8], s: Sizes) -> &[u8]
     requires { Held file.now s }
-    ensures { result.now ≡ marks_at (old file) }
+    ensures { result.now ≡ marks_at file.now }
 {
     let from = SIZES_BYTES + 4 * (s.literals as usize);
     &file[from..]
@@ -94,7 +95,7 @@ pub fn marks_at(file: &[u8], s: Sizes) -> &[u8]
 // The variable numbers, stored from the first place on.
 pub fn read_numbers(variables: &mut [u32], file: &[u8], s: Sizes)
     requires { Held file.now s × (s.literals ≤ length variables.old) }
-    ensures { new variables ≡ sets (old variables) 0 (variables_at (old file)) }
+    ensures { variables.new ≡ sets variables.old 0 (variables_at file.now) }
 {
     for e in 0..s.literals as usize {
         variables[e] = number_at(file, SIZES_BYTES + 4 * e);

@@ -1,4 +1,6 @@
 // The file program: it reads a line from standard input and writes the clause file to standard output, or nothing.
+#![tactic(auto)]
+
 use file_line::FILE_BYTES;
 use libc::{STDIN_FILENO, STDOUT_FILENO};
 

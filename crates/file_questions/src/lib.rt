@@ -1,6 +1,7 @@
 // Questions 15 to 18 of the file's writer and of its reader.
+#![tactic(auto)]
+
 ghost use Rattle.std.specs.Prelude.{◌≡◌};
-ghost use Rattle.moments.specs.Moments.{old};
 ghost use Rattle.refusal.specs.Asked.{asked};
 ghost use Rattle.file_numbers.specs.File.{variables_at};
 ghost use Rattle.file_numbers.specs.Held.{Held};
@@ -35,7 +36,7 @@ fn is_variable(v: u32, most: u32) -> bool
 
 // Whether each is.
 fn are_variables(variables: &[u32], most: u32) -> bool
-    ensures { result ≡ all_pass (is_variable most) (old variables) }
+    ensures { result ≡ all_pass (is_variable most) variables.now }
 {
     for e in 0..variables.len() {
         if !is_variable(variables[e], most) {
@@ -48,7 +49,7 @@ fn are_variables(variables: &[u32], most: u32) -> bool
 // Whether each in a file is.
 fn are_variables_at(file: &[u8], s: Sizes) -> bool
     requires { Held file.now s }
-    ensures { result ≡ all_pass (is_variable s.variables) (variables_at (old file)) }
+    ensures { result ≡ all_pass (is_variable s.variables) (variables_at file.now) }
 {
     for e in 0..s.literals as usize {
         if !is_variable(
@@ -63,7 +64,7 @@ fn are_variables_at(file: &[u8], s: Sizes) -> bool
 
 // Whether each is a mark.
 fn are_marks(marks: &[u8]) -> bool
-    ensures { result ≡ all_pass is_mark (old marks) }
+    ensures { result ≡ all_pass is_mark marks.now }
 {
     for e in 0..marks.len() {
         if marks[e] > 3 {
@@ -75,7 +76,7 @@ fn are_marks(marks: &[u8]) -> bool
 
 // How many marks close a clause.
 fn closing(marks: &[u8]) -> usize
-    ensures { result ≡ how_many closes (old marks) }
+    ensures { result ≡ how_many closes marks.now }
 {
     let mut n = 0;
     for e in 0..marks.len() {
@@ -86,7 +87,7 @@ fn closing(marks: &[u8]) -> usize
 
 // Whether the last mark, if there is one, closes a clause.
 fn ends_closed(marks: &[u8]) -> bool
-    ensures { result ≡ ends_closed (old marks) }
+    ensures { result ≡ ends_closed marks.now }
 {
     let n = marks.len();
     if n == 0 {
@@ -97,7 +98,7 @@ fn ends_closed(marks: &[u8]) -> bool
 
 // Question 16, once it is known whether every variable is from 1 to V.
 fn ask_entries(s: Sizes, fit: bool, marks: &[u8]) -> Reply
-    ensures { OfVariables s fit (λ variables. result ≡ ask_entries s variables (old marks)) }
+    ensures { OfVariables s fit (λ variables. result ≡ ask_entries s variables marks.now) }
 {
     if !in_limits(s) {
         return refusal::ask(16, false);
@@ -110,7 +111,7 @@ fn ask_entries(s: Sizes, fit: bool, marks: &[u8]) -> Reply
 
 // Question 17.
 fn ask_closed(clauses: u32, marks: &[u8]) -> Reply
-    ensures { result ≡ ask_closed clauses (old marks) }
+    ensures { result ≡ ask_closed clauses marks.now }
 {
     if clauses as usize == closing(marks) {
         return refusal::ask(17, ends_closed(marks));
@@ -120,7 +121,7 @@ fn ask_closed(clauses: u32, marks: &[u8]) -> Reply
 
 // Both.
 fn ask_table(s: Sizes, fit: bool, marks: &[u8]) -> Reply
-    ensures { OfVariables s fit (λ variables. result ≡ asked (entry_questions s variables (old marks)) Reply.No Reply.Yes) }
+    ensures { OfVariables s fit (λ variables. result ≡ asked (entry_questions s variables marks.now) Reply.No Reply.Yes) }
 {
     if let Reply::No(r) = ask_entries(s, fit, marks) {
         return Reply::No(r);
@@ -141,7 +142,7 @@ fn ask_lengths(literals: u32, variables: usize, marks: usize) -> Reply
 
 // Questions 15 to 17 of the writer.
 pub fn ask_arrays(s: Sizes, variables: &[u32], marks: &[u8]) -> Reply
-    ensures { result ≡ asked (array_questions s (old variables) (old marks)) Reply.No Reply.Yes }
+    ensures { result ≡ asked (array_questions s variables.now marks.now) Reply.No Reply.Yes }
 {
     if let Reply::No(r) = ask_lengths(s.literals, variables.len(), marks.len()) {
         return Reply::No(r);
@@ -151,7 +152,7 @@ pub fn ask_arrays(s: Sizes, variables: &[u32], marks: &[u8]) -> Reply
 
 // Question 15 of the reader.
 fn ask_length(file: &[u8]) -> Reply
-    ensures { result ≡ ask_file (old file) }
+    ensures { result ≡ ask_file file.now }
 {
     if file.len() >= SIZES_BYTES {
         let long = file_numbers::file_length(file_numbers::number_at(file, 16));
@@ -162,7 +163,7 @@ fn ask_length(file: &[u8]) -> Reply
 
 // Questions 15 to 17 of the reader.
 pub fn ask_file(file: &[u8]) -> Reply
-    ensures { result ≡ asked (file_questions (old file)) Reply.No Reply.Yes }
+    ensures { result ≡ asked (file_questions file.now) Reply.No Reply.Yes }
 {
     if let Reply::No(r) = ask_length(file) {
         return Reply::No(r);

@@ -1,4 +1,6 @@
 // Document 01's grammar: what each byte of a text can be.
+#![tactic(auto)]
+
 ghost use Rattle.std.specs.Prelude.{◌≡◌};
 ghost use Rattle.paper_grammar.specs.Reader.{lead_of, own_lead, joint_of, own_joint, is_digit, is_letter, is_joint, begins, is_start};
 

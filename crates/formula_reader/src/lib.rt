@@ -1,6 +1,7 @@
 // Reads document 01's grammar: channels a to h; length, n and nodes unbounded.
+#![tactic(auto)]
+
 ghost use Rattle.std.specs.Prelude.{◌≡◌, ◌+◌, ◌≤◌, length, drop};
-ghost use Rattle.moments.specs.Moments.{old};
 ghost use Rattle.paper_grammar.specs.Reader.{is_joint};
 ghost use Rattle.formula_reader.specs.Parts.{test_at, is_sign, number_at, digit_count, on_good, PartAt, end_of, parse_text};
 
@@ -22,7 +23,7 @@ pub enum Parse {
 
 // A good read with the byte v after it.
 pub fn signed_by(text: &[u8], v: u8, g: Got) -> Got
-    ensures { result ≡ on_good (old text) (test_at (is_sign v)) g }
+    ensures { result ≡ on_good text.now (test_at (is_sign v)) g }
 {
     let Got::Good(n) = g else {
         return g;
@@ -37,7 +38,7 @@ pub fn signed_by(text: &[u8], v: u8, g: Got) -> Got
 
 // A good read with a joint of the sort after it.
 fn joined_by(text: &[u8], s: Sort, g: Got) -> Got
-    ensures { result ≡ on_good (old text) (test_at (is_joint s)) g }
+    ensures { result ≡ on_good text.now (test_at (is_joint s)) g }
 {
     let Got::Good(n) = g else {
         return g;
@@ -53,7 +54,7 @@ fn joined_by(text: &[u8], s: Sort, g: Got) -> Got
 // The place after the digits from a place on.
 fn digits_end(text: &[u8], at: usize) -> usize
     requires { at ≤ length text.now }
-    ensures { result ≡ at + digit_count (drop at (old text)) }
+    ensures { result ≡ at + digit_count (drop at text.now) }
 {
     let mut i = at;
     while i < text.len() {
@@ -67,7 +68,7 @@ fn digits_end(text: &[u8], at: usize) -> usize
 
 // A good read with a number after it.
 pub fn numbered_by(text: &[u8], g: Got) -> Got
-    ensures { result ≡ on_good (old text) number_at g }
+    ensures { result ≡ on_good text.now number_at g }
 {
     let Got::Good(n) = g else {
         return g;
@@ -87,7 +88,7 @@ pub fn numbered_by(text: &[u8], g: Got) -> Got
 // A part of the sort from a place on. It calls itself on its parts; the bytes that remain fall.
 fn read_part(text: &[u8], s: Sort, at: usize) -> Got
     requires { at ≤ length text.now }
-    ensures { PartAt (old text) s at result }
+    ensures { PartAt text.now s at result }
 {
     if at >= text.len() {
         return Got::Bad(at);
@@ -115,7 +116,7 @@ fn read_part(text: &[u8], s: Sort, at: usize) -> Got
 
 // Where reading a part of the sort from a place on stops.
 pub fn part_end(text: &[u8], s: Sort, at: usize) -> usize
-    ensures { (result ≡ end_of (old text) s at) × (result ≤ length (old text)) }
+    ensures { (result ≡ end_of text.now s at) × (result ≤ length text.now) }
 {
     if at > text.len() {
         return text.len();
@@ -129,7 +130,7 @@ pub fn part_end(text: &[u8], s: Sort, at: usize) -> usize
 
 // Whether the whole text reads.
 pub fn check_text(text: &[u8]) -> Parse
-    ensures { result ≡ parse_text (old text) }
+    ensures { result ≡ parse_text text.now }
 {
     let g = read_part(text, Sort::Formula, 0);
     match g {

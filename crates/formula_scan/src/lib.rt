@@ -1,6 +1,7 @@
 // Goes through a text for the letters, numbers and nodes that questions 5 to 7 ask about.
+#![tactic(auto)]
+
 ghost use Rattle.std.specs.Prelude.{◌≡◌, true, cond, [], ◌∷◌, suc, ◌+◌, ◌*◌, ◌-◌, ◌^◌, ◌≤◌, ◌<◌, length, get_or, take, drop};
-ghost use Rattle.moments.specs.Moments.{old};
 ghost use Rattle.paper_grammar.specs.Limits.{max_number, max_length};
 ghost use Rattle.paper_grammar.specs.Reader.{is_digit};
 ghost use Rattle.formula_reader.specs.Parts.{value_from};
@@ -16,7 +17,7 @@ pub struct Number {
 }
 
 // What questions 5 to 7 go through the text for.
-#[derive(Drop)]
+#[derive(Clone, Copy)]
 pub enum Ask {
     Letters(u32),
     Numbers,
@@ -58,7 +59,7 @@ fn with_digit(v: u64, b: u8, most: u64) -> u64
 // The number from a place on, of any count of digits, one above the most for all beyond.
 pub fn capped_number(text: &[u8], at: usize, most: u64) -> u64
     requires { most < 2 ^ 32 }
-    ensures { (result ≡ capped_at most (value_from 0 (drop at (old text)))) × (result ≤ suc most) }
+    ensures { (result ≡ capped_at most (value_from 0 (drop at text.now))) × (result ≤ suc most) }
 {
     let mut v: u64 = 0;
     let mut i = at;
@@ -75,7 +76,7 @@ pub fn capped_number(text: &[u8], at: usize, most: u64) -> u64
 
 // A formula's number from a place on.
 pub fn number_at(text: &[u8], at: usize) -> usize
-    ensures { (result ≡ number_from 0 (drop at (old text))) × (result ≤ suc max_number) }
+    ensures { (result ≡ number_from 0 (drop at text.now)) × (result ≤ suc max_number) }
 {
     capped_number(text, at, MAX_NUMBER as u64) as usize
 }
@@ -83,7 +84,7 @@ pub fn number_at(text: &[u8], at: usize) -> usize
 // The number of the duration that stands at a place.
 fn number_of(text: &[u8], at: usize) -> Number
     requires { (length text.now ≤ max_length) × (at < length text.now) }
-    ensures { (result.place ≡ digit_of (old text) at) × (result.value ≡ number_of (old text) at) × (result.value ≤ suc max_number) × (result.place ≤ max_length + 2) }
+    ensures { (result.place ≡ digit_of text.now at) × (result.value ≡ number_of text.now at) × (result.value ≤ suc max_number) × (result.place ≤ max_length + 2) }
 {
     let place = formula_reader::part_end(text, Sort::State, at + 1) + 2;
     Number {
@@ -105,7 +106,7 @@ fn find_if(yes: bool, place: usize) -> Find
 // The first digit of a number above the limit, at its duration's `#`.
 fn number_find(text: &[u8], i: usize) -> Find
     requires { (length text.now ≤ max_length) × (i < length text.now) }
-    ensures { (list_of result ≡ above_at (old text) (get_or (old text) i 0) i) × (result.count ≤ 1) × (result.place ≤ max_length + 2) }
+    ensures { (list_of result ≡ above_at text.now (get_or text.now i 0) i) × (result.count ≤ 1) × (result.place ≤ max_length + 2) }
 {
     if text[i] != b'#' {
         return Find { count: 0, place: 0 };
@@ -117,7 +118,7 @@ fn number_find(text: &[u8], i: usize) -> Find
 // What a question finds at the byte at i.
 fn find_at(text: &[u8], a: Ask, i: usize) -> Find
     requires { (length text.now ≤ max_length) × (i < length text.now) }
-    ensures { (list_of result ≡ answers_at a (old text) (get_or (old text) i 0) i) × (result.count ≤ 1) × (result.place ≤ max_length + 2) }
+    ensures { (list_of result ≡ answers_at a text.now (get_or text.now i 0) i) × (result.count ≤ 1) × (result.place ≤ max_length + 2) }
 {
     match a {
         Ask::Letters(c) => find_if(is_outside(c, text[i]), i),
@@ -129,7 +130,7 @@ fn find_at(text: &[u8], a: Ask, i: usize) -> Find
 // What a question finds first, after a number of finds.
 pub fn first_find(text: &[u8], a: Ask, skip: usize) -> Find
     requires { length text.now ≤ max_length }
-    ensures { (list_of result ≡ take 1 (drop skip (found_in a (old text)))) × (result.place ≤ max_length + 2) }
+    ensures { (list_of result ≡ take 1 (drop skip (found_in a text.now))) × (result.place ≤ max_length + 2) }
 {
     let mut left = skip;
     let mut i = 0;

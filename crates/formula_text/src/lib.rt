@@ -1,6 +1,7 @@
 // Document 01's questions 1 to 7: whether a formula's text is accepted for C and k.
+#![tactic(auto)]
+
 ghost use Rattle.std.specs.Prelude.{◌≡◌, ◌+◌, ◌≤◌, length, drop};
-ghost use Rattle.moments.specs.Moments.{old};
 ghost use Rattle.refusal.specs.Asked.{asked};
 ghost use Rattle.paper_grammar.specs.Limits.{max_length};
 ghost use Rattle.formula_scan.specs.Scans.{found_in};
@@ -32,7 +33,7 @@ pub fn ask_channels(c: u32) -> Reply
 
 // Question 3.
 fn ask_length(text: &[u8]) -> Reply
-    ensures { result ≡ ask_length (old text) }
+    ensures { result ≡ ask_length text.now }
 {
     refusal::ask_within(3, text.len(), 1, MAX_LENGTH)
 }
@@ -40,7 +41,7 @@ fn ask_length(text: &[u8]) -> Reply
 // Question 4.
 fn ask_grammar(text: &[u8]) -> Reply
     requires { length text.now ≤ max_length }
-    ensures { result ≡ ask_grammar (old text) }
+    ensures { result ≡ ask_grammar text.now }
 {
     let g = formula_reader::check_text(text);
     match g {
@@ -52,7 +53,7 @@ fn ask_grammar(text: &[u8]) -> Reply
 // Questions 5, 6 and 7, of a text that reads.
 fn ask_first(text: &[u8], number: u32, a: Ask, skip: usize) -> Reply
     requires { length text.now ≤ max_length }
-    ensures { result ≡ at_first number (drop skip (found_in a (old text))) }
+    ensures { result ≡ at_first number (drop skip (found_in a text.now)) }
 {
     let h = formula_scan::first_find(text, a, skip);
     if h.count > 0 {
@@ -63,7 +64,7 @@ fn ask_first(text: &[u8], number: u32, a: Ask, skip: usize) -> Reply
 
 // Whether a formula's text is accepted for C and k: questions 1 to 7.
 pub fn accept(text: &[u8], c: u32, k: u32) -> Reply
-    ensures { result ≡ accept_of c k (old text) }
+    ensures { result ≡ accept_of c k text.now }
 {
     if let Reply::No(r) = ask_channels(c) {
         return Reply::No(r);
@@ -80,7 +81,7 @@ pub fn accept(text: &[u8], c: u32, k: u32) -> Reply
 // Questions 4 to 7.
 fn ask_text(text: &[u8], c: u32) -> Reply
     requires { length text.now ≤ max_length }
-    ensures { result ≡ asked (text_questions c (old text)) Reply.No Reply.Yes }
+    ensures { result ≡ asked (text_questions c text.now) Reply.No Reply.Yes }
 {
     if let Reply::No(r) = ask_grammar(text) {
         return Reply::No(r);

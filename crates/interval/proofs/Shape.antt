@@ -8,7 +8,7 @@ use native.Mathlib.Omega.{arith}
 use lib.ListN.{length, get_or, length-map, get_or-map}
 use lib.Seq.{ext_get_or}
 use Rattle.lists.specs.Listing.{rows, tab, place_in, sum}
-use Rattle.lists.proofs.Listing.{sum_lt, row_of, rows_same, map_rows, length_rows, get_d_rows, length_tab, get_d_tab, place_in_lem}
+use Rattle.lists.proofs.Listing.{sum_lt, row_of, rows_same, map_rows, length_rows, get_or_rows, length_tab, get_or_tab, place_in_lem}
 
 pub data Shape : Type 0 where
   line : ℕ → Shape
@@ -65,21 +65,21 @@ module _ {A : Type 0} where
   length_per (line n) g = length_tab n g
   length_per (stack n f) g = length_rows (λ i. per (f i) (λ x. g (i, x))) (λ i. count (f i)) (λ i. length_per (f i) (λ x. g (i, x))) n
 
-  pub get_d_per : (s : Shape) (g : Entry s → A) (x : Entry s) (d : A) → Inside s x → get_or (per s g) (place s x) d ≡ g x
-  get_d_per (line n) g x d h = get_d_tab n g x d h
-  get_d_per (stack n f) g x d h =
-      get_d_rows (λ i. per (f i) (λ x. g (i, x))) (λ i. count (f i)) (λ i. length_per (f i) (λ x. g (i, x))) n x.0 (place (f x.0) x.1) d h.0
+  pub get_or_per : (s : Shape) (g : Entry s → A) (x : Entry s) (d : A) → Inside s x → get_or (per s g) (place s x) d ≡ g x
+  get_or_per (line n) g x d h = get_or_tab n g x d h
+  get_or_per (stack n f) g x d h =
+      get_or_rows (λ i. per (f i) (λ x. g (i, x))) (λ i. count (f i)) (λ i. length_per (f i) (λ x. g (i, x))) n x.0 (place (f x.0) x.1) d h.0
       (place_lt (f x.0) x.1 h.1)
-      ∙ get_d_per (f x.0) (λ y. g (x.0, y)) x.1 d h.1
+      ∙ get_or_per (f x.0) (λ y. g (x.0, y)) x.1 d h.1
 
   -- in the list, an entry's place is the number of entries before the first one that is so, if it is and no other place's entry is
   pub place_in_per : (s : Shape) (g : Entry s → A) (is : A → Bool) (x : Entry s) → Inside s x → is (g x) ≡ true
       → ((y : Entry s) → is (g y) ≡ true → place s y ≡ place s x) → place_in is (per s g) ≡ place s x
   place_in_per s g is x h e f =
-      place_in_lem is (per s g) (place s x) (g x) (omega (arith, length_per s g, place_lt s x h)) (ap is (get_d_per s g x (g x) h) ∙ e)
+      place_in_lem is (per s g) (place s x) (g x) (omega (arith, length_per s g, place_lt s x h)) (ap is (get_or_per s g x (g x) h) ∙ e)
       (λ q l.
       let y = entry_at s q (omega (arith, place_lt s x h)) in
-      ap (λ (p : ℕ). is (get_or (per s g) p (g x))) (sym y.2) ∙ ap is (get_d_per s g y.0 (g x) y.1)
+      ap (λ (p : ℕ). is (get_or (per s g) p (g x))) (sym y.2) ∙ ap is (get_or_per s g y.0 (g x) y.1)
       ∙ (not-eq-not {b = false}).0 (λ t. omega (arith, f y.0 t, y.2)))
 
   -- two lists of all entries are equal if they agree on those inside
@@ -111,7 +111,7 @@ module _ {A : Type 0} (In : A → Type 0) (placed : A → ℕ) (s : Shape) (name
   at_each_place : (p : ℕ) (d : A) → p < count s → In (get_or (per s name) p d) × (placed (get_or (per s name) p d) ≡ p)
   at_each_place p d h =
       let x = entry_at s p h in
-      let e : get_or (per s name) p d ≡ name x.0 = ap (λ p. get_or (per s name) p d) (sym x.2) ∙ get_d_per s name x.0 d x.1 in
+      let e : get_or (per s name) p d ≡ name x.0 = ap (λ p. get_or (per s name) p d) (sym x.2) ∙ get_or_per s name x.0 d x.1 in
       (subst In (sym e) (same x.0 x.1).0, ap placed e ∙ (same x.0 x.1).1 ∙ x.2)
 
   counted : (d : A) → map placed (per s name) ≡ tab (count s) (λ p. p)
@@ -120,13 +120,13 @@ module _ {A : Type 0} (In : A → Type 0) (placed : A → ℕ) (s : Shape) (name
       ext_get_or (placed d) _ _ (n ∙ sym (length_tab (count s) (λ p. p)))
       (λ p h.
       let l : p < count s = omega arith in
-      get_or-map placed (per s name) p d ∙ (at_each_place p d l).1 ∙ sym (get_d_tab (count s) (λ p. p) p (placed d) l))
+      get_or-map placed (per s name) p d ∙ (at_each_place p d l).1 ∙ sym (get_or_tab (count s) (λ p. p) p (placed d) l))
 
   pub entries_numbered : A → Numbered In placed (per s name) (count s)
   entries_numbered d =
       record {
         in_order = counted d;
         below = λ a i. let x = place_of a i in rw x.3 (place_lt s x.0 x.1);
-        at_place = λ a d i. let x = place_of a i in rw x.3 (get_d_per s name x.0 d x.1 ∙ x.2);
+        at_place = λ a d i. let x = place_of a i in rw x.3 (get_or_per s name x.0 d x.1 ∙ x.2);
         place_at = at_each_place;
       }

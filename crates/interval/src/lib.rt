@@ -1,6 +1,7 @@
 // Document 01's intervals of a recording of k steps, and the triples of a chop: the limits, how many there are, their places.
+#![tactic(auto)]
+
 ghost use Rattle.std.specs.Prelude.{◌≡◌, ◌+◌, ◌≤◌, ◌<◌, length};
-ghost use Rattle.moments.specs.Moments.{new};
 ghost use Rattle.interval.specs.Places.{count_of, place_of, triple_count_of, triple_place_of};
 ghost use Rattle.interval.specs.Limits.{max_steps, max_count, ask_steps, ask_interval, made_of};
 ghost use Rattle.interval.specs.Rows.{RowsOf, StartsOf};
@@ -8,7 +9,7 @@ ghost use Rattle.interval.specs.Rows.{RowsOf, StartsOf};
 use refusal::{Refusal, Reply};
 
 // [i, j]: it holds the instants i to j - 1.
-#[derive(Drop)]
+#[derive(Clone, Copy)]
 pub struct Interval {
     pub i: usize,
     pub j: usize,
@@ -64,7 +65,7 @@ impl Interval {
     // How many intervals k steps have: I. The constant is I of the most steps, neither less nor more.
     pub fn count(k: usize) -> usize
         requires { k ≤ max_steps }
-        ensures* { do ⌜ (result ≡ count_of k) × (result ≤ (← (⟦Interval::MAX_COUNT⟧).entry)) × ((← (⟦Interval::MAX_COUNT⟧).entry) ≡ count_of max_steps) ⌝ }
+        ensures { (result ≡ count_of k) × (result ≤ Interval.MAX_COUNT) × (Interval.MAX_COUNT ≡ count_of max_steps) }
     {
         (k + 1) * (k + 2) / 2
     }
@@ -73,7 +74,7 @@ impl Interval {
     // an array handed back is copied.
     pub fn put_rows(rows: &mut [u32], k: u32)
         requires { (k ≤ max_steps) × (k + 2 ≤ length rows.old) }
-        ensures { RowsOf k (new rows) }
+        ensures { RowsOf k rows.new }
     {
         rows[0] = 0;
         let mut start = 0;
@@ -101,7 +102,7 @@ impl Interval {
 }
 
 // [i, j], chopped at m.
-#[derive(Drop)]
+#[derive(Clone, Copy)]
 pub struct Triple {
     pub i: usize,
     pub m: usize,
@@ -118,7 +119,7 @@ impl Triple {
     // How many triples k steps have: J, with its constant likewise.
     pub fn count(k: usize) -> usize
         requires { k ≤ max_steps }
-        ensures* { do ⌜ (result ≡ triple_count_of k) × (result ≤ (← (⟦Triple::MAX_COUNT⟧).entry)) × ((← (⟦Triple::MAX_COUNT⟧).entry) ≡ triple_count_of max_steps) ⌝ }
+        ensures { (result ≡ triple_count_of k) × (result ≤ Triple.MAX_COUNT) × (Triple.MAX_COUNT ≡ triple_count_of max_steps) }
     {
         (k + 1) * (k + 2) * (k + 3) / 6
     }
@@ -126,7 +127,7 @@ impl Triple {
     // Where the triples of each start begin: at a start are as many as intervals from it on.
     pub fn put_starts(starts: &mut [u32], rows: &[u32], k: u32)
         requires { (k ≤ max_steps) × (k + 1 ≤ length starts.old) × RowsOf k rows.now }
-        ensures { StartsOf k (new starts) }
+        ensures { StartsOf k starts.new }
     {
         let all = Interval::all(rows, k);
         starts[0] = 0;

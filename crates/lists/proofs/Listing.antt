@@ -117,12 +117,12 @@ module _ {A : Type 0} (f : ℕ → List A) (w : ℕ → ℕ) (e : (i : ℕ) → 
   pub length_rows : (n : ℕ) → length (rows n f) ≡ sum w n
   length_rows = measure_rows length refl length-append f w e
 
-  pub get_d_rows : (n i y : ℕ) (d : A) → i < n → y < w i → get_or (rows n f) (sum w i + y) d ≡ get_or (f i) y d
+  pub get_or_rows : (n i y : ℕ) (d : A) → i < n → y < w i → get_or (rows n f) (sum w i + y) d ≡ get_or (f i) y d
   unfolding rows
-  get_d_rows zero i y d h l = absurd (not-suc-le-zero h)
-  get_d_rows (suc n) i y d h l =
+  get_or_rows zero i y d h l = absurd (not-suc-le-zero h)
+  get_or_rows (suc n) i y d h l =
       below_suc (λ i. y < w i → get_or (rows (suc n) f) (sum w i + y) d ≡ get_or (f i) y d) n i h
-      (λ g m. get_or-append (rows n f) (f n) d (sum w i + y) (omega (arith, length_rows n, sum_lt w n i y g m)) ∙ get_d_rows n i y d g m)
+      (λ g m. get_or-append (rows n f) (f n) d (sum w i + y) (omega (arith, length_rows n, sum_lt w n i y g m)) ∙ get_or_rows n i y d g m)
       (λ m. ap (λ x. get_or (rows n f ++ f n) (x + y) d) (sym (length_rows n)) ∙ get_or-append-add (rows n f) (f n) y d)
       l
 
@@ -130,10 +130,10 @@ module _ {A : Type 0} (n : ℕ) (g : ℕ → A) where
   pub length_tab : length (tab n g) ≡ n
   length_tab = length_rows (λ i. g i ∷ []) (λ i. 1) (λ i. refl) n ∙ sum_ones n
 
-  pub get_d_tab : (x : ℕ) (d : A) → x < n → get_or (tab n g) x d ≡ g x
-  get_d_tab x d h =
+  pub get_or_tab : (x : ℕ) (d : A) → x < n → get_or (tab n g) x d ≡ g x
+  get_or_tab x d h =
       let e : x ≡ sum (λ i. 1) x + 0 = omega (arith, sum_ones x) in
-      ap (λ y. get_or (tab n g) y d) e ∙ get_d_rows (λ i. g i ∷ []) (λ i. 1) (λ i. refl) n x 0 d h (omega arith)
+      ap (λ y. get_or (tab n g) y d) e ∙ get_or_rows (λ i. g i ∷ []) (λ i. 1) (λ i. refl) n x 0 d h (omega arith)
 
 -- the first one that is so stands at p, if the one at p is and none before it
 pub place_in_lem : {A : Type 0} (is : A → Bool) (l : List A) (p : ℕ) (d : A) → p < length l → is (get_or l p d) ≡ true

@@ -1,1 +1,2 @@
 // Lists made by counting, and what holds of every entry: no code.
+#![tactic(auto)]

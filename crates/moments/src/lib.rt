@@ -1,1 +1,2 @@
 // The two moments of a call, for contracts: no code.
+#![tactic(auto)]

@@ -1,6 +1,7 @@
 // The calls on an accepted formula's nodes: the node table, and a node's own text.
+#![tactic(auto)]
+
 ghost use Rattle.std.specs.Prelude.{◌≡◌, ◌+◌, ◌<◌, get_or};
-ghost use Rattle.moments.specs.Moments.{old};
 ghost use Rattle.paper_grammar.specs.Limits.{max_nodes};
 ghost use Rattle.node_calls.specs.Calls.{tabled_of, node_refusal_of, node_place_of, node_text_of};
 
@@ -24,7 +25,7 @@ pub enum Located {
 
 // The answer to questions 1 to 7, and the node table of an accepted text.
 pub fn node_table(text: &[u8], c: u32, k: u32) -> Tabled
-    ensures { result ≡ tabled_of c k (old text) }
+    ensures { result ≡ tabled_of c k text.now }
 {
     if let Reply::No(r) = formula_text::accept(text, c, k) {
         return Tabled {
@@ -41,8 +42,8 @@ pub fn node_table(text: &[u8], c: u32, k: u32) -> Tabled
 
 // The answer to questions 1 to 8, and the node table.
 fn ask_node(text: &[u8], c: u32, k: u32, x: u32) -> Tabled
-    ensures reply_value { result.reply ≡ node_refusal_of c k x (old text) }
-    ensures table_value { result.table ≡ (tabled_of c k (old text)).table }
+    ensures reply_value { result.reply ≡ node_refusal_of c k x text.now }
+    ensures table_value { result.table ≡ (tabled_of c k text.now).table }
 {
     let tabled = node_table(text, c, k);
     let reply = tabled.reply;
@@ -59,7 +60,7 @@ fn ask_node(text: &[u8], c: u32, k: u32, x: u32) -> Tabled
 
 // The number and place of the refusal of a node's text: questions 1 to 8.
 pub fn node_refusal(text: &[u8], c: u32, k: u32, x: u32) -> Reply
-    ensures { result ≡ node_refusal_of c k x (old text) }
+    ensures { result ≡ node_refusal_of c k x text.now }
 {
     let asked = ask_node(text, c, k, x);
     asked.reply
@@ -67,7 +68,7 @@ pub fn node_refusal(text: &[u8], c: u32, k: u32, x: u32) -> Reply
 
 // Where a node's own text is, as numbers, or the refusal: questions 1 to 8.
 pub fn node_place(text: &[u8], c: u32, k: u32, x: u32) -> Located
-    ensures { result ≡ node_place_of c k x (old text) }
+    ensures { result ≡ node_place_of c k x text.now }
 {
     let asked = ask_node(text, c, k, x);
     let reply = asked.reply;
@@ -83,7 +84,7 @@ pub fn node_place(text: &[u8], c: u32, k: u32, x: u32) -> Located
 
 // A node's own text as that part of the lent text, the empty part where refused.
 pub fn node_text(text: &[u8], c: u32, k: u32, x: u32) -> &[u8]
-    ensures { result.now ≡ node_text_of c k x (old text) }
+    ensures { result.now ≡ node_text_of c k x text.now }
 {
     let place = node_place(text, c, k, x);
     match place {
@@ -99,7 +100,7 @@ pub fn node_text(text: &[u8], c: u32, k: u32, x: u32) -> &[u8]
 // The row of the second part of the node at row x: after all those of the first, which is next.
 pub fn second(sizes: &[u8; MAX_NODES], x: usize) -> usize
     requires { x < max_nodes }
-    ensures { (result ≡ x + 1 + get_or (old sizes) (x + 1) 0) × (x < result) }
+    ensures { (result ≡ x + 1 + get_or sizes.now (x + 1) 0) × (x < result) }
 {
     let first = x + 1;
     first + node_rows::byte_at(sizes, first) as usize

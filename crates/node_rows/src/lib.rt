@@ -1,6 +1,7 @@
 // The flat node table of a text: what each node is, its size, and where its text is.
+#![tactic(auto)]
+
 ghost use Rattle.std.specs.Prelude.{◌≡◌, [], map, ℕ, ◌+◌, ◌-◌, ◌≤◌, ◌<◌, eqb, length, get_or};
-ghost use Rattle.moments.specs.Moments.{old};
 ghost use Rattle.refusal.specs.declared.Reply.TheVariants.{Yes};
 ghost use Rattle.paper_grammar.specs.Limits.{max_nodes};
 ghost use Rattle.paper_grammar.specs.Nodes.{nodes_in};
@@ -39,14 +40,14 @@ pub const FORMULA_DURATION: u8 = FORMULA + DURATION;
 pub const FORMULA_THROUGHOUT: u8 = FORMULA + THROUGHOUT;
 
 // What a node is: its kind, which is one of these, and its number (a letter's channel, a duration's n).
-#[derive(Drop)]
+#[derive(Clone, Copy)]
 pub struct Head {
     pub kind: u8,
     pub number: u8,
 }
 
 // A node: what it is, how many nodes it has, its first byte and how many bytes.
-#[derive(Drop)]
+#[derive(Clone, Copy)]
 pub struct Row {
     pub head: Head,
     pub size: usize,
@@ -55,14 +56,14 @@ pub struct Row {
 }
 
 // A part of a node: how many nodes it has, and how many bytes.
-#[derive(Drop)]
+#[derive(Clone, Copy)]
 pub struct Part {
     pub size: usize,
     pub length: usize,
 }
 
 // The nodes in number order, an array for each field.
-#[derive(Drop)]
+#[derive(Clone, Copy)]
 pub struct NodeTable {
     pub count: usize,
     pub kinds: [u8; MAX_NODES],
@@ -74,7 +75,7 @@ pub struct NodeTable {
 
 // The byte at a place, and 0 past the end.
 pub fn byte_at(text: &[u8], at: usize) -> u8
-    ensures { result ≡ get_or (old text) at 0 }
+    ensures { result ≡ get_or text.now at 0 }
 {
     if at < text.len() { text[at] } else { 0 }
 }
@@ -110,7 +111,7 @@ fn code_after(code: u8, b: u8) -> u8
 // The rows of an accepted text before their parts are known: a loop over its bytes, a row at each first byte.
 fn begun_rows(text: &[u8]) -> NodeTable
     requires { (C : ℕ) × (k : ℕ) × (accept_of C k text.now ≡ Yes) }
-    ensures { result ≡ table_of (map begun (nodes_in (old text))) }
+    ensures { result ≡ table_of (map begun (nodes_in text.now)) }
 {
     let mut table = empty_table();
     let mut code = FORMULA;
@@ -167,7 +168,7 @@ fn digits_of(n: usize) -> usize
 
 // The part at a row: no nodes past the table.
 fn part_at<'a>(sizes: &'a [u8; MAX_NODES], lengths: &'a [u8; MAX_NODES], x: usize) -> Part
-    ensures { (result ≡ part_at (old sizes) (old lengths) x) × (result.size ≤ 255) × (result.length ≤ 255) }
+    ensures { (result ≡ part_at sizes.now lengths.now x) × (result.size ≤ 255) × (result.length ≤ 255) }
 {
     Part {
         size: formula_scan::wide(byte_at(sizes, x)),
@@ -190,7 +191,7 @@ fn row_of(kind: u8, number: u8, size: usize, first: usize, length: usize) -> Row
 // The row of the node that the byte b begins at a place, p and q its parts. A letter begins no formula.
 fn row_from(text: &[u8], b: u8, code: u8, at: usize, p: Part, q: Part) -> Row
     requires { (code ≤ 16) × (at ≤ 255) × (p.size ≤ 255) × (p.length ≤ 255) × (q.size ≤ 255) × (q.length ≤ 255) }
-    ensures { result ≡ row_from (old text) b code at p q }
+    ensures { result ≡ row_from text.now b code at p q }
 {
     let size = 1 + p.size;
     let length = 1 + p.length;
@@ -228,7 +229,7 @@ fn row_at<'a>(
     x: usize,
 ) -> Row
     requires { (x < max_nodes) × (get_or kinds.now x 0 ≤ 16) }
-    ensures { result ≡ row_at (old text) (old kinds) (old sizes) (old firsts) (old lengths) x }
+    ensures { result ≡ row_at text.now kinds.now sizes.now firsts.now lengths.now x }
 {
     let at = formula_scan::wide(byte_at(firsts, x));
     let p = part_at(sizes, lengths, x + 1);
@@ -239,7 +240,7 @@ fn row_at<'a>(
 // The rows of an accepted text: a loop over its nodes, the last first, so that each comes after its parts.
 pub fn rows_of(text: &[u8]) -> NodeTable
     requires { (C : ℕ) × (k : ℕ) × (accept_of C k text.now ≡ Yes) }
-    ensures { result ≡ table_of (map row_of (nodes_in (old text))) }
+    ensures { result ≡ table_of (map row_of (nodes_in text.now)) }
 {
     let mut table = begun_rows(text);
     let mut x = table.count;

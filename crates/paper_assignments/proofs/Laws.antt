@@ -10,7 +10,7 @@ use lib.Dec.{eqb}
 use lib.ListN.{length, get_or}
 use lib.Seq.{ext_get_or}
 use Rattle.lists.specs.Listing.{tab}
-use Rattle.lists.proofs.Listing.{length_tab, get_d_tab}
+use Rattle.lists.proofs.Listing.{length_tab, get_or_tab}
 use Rattle.paper_grammar.specs.Trees.{Tree, Letters}
 use Rattle.paper_grammar.specs.declared.Sort.TheVariants.{Formula}
 use Rattle.paper_grammar.specs.Nodes.{Node, nodes_of}
@@ -56,7 +56,7 @@ module _ (C k : ℕ) (recording : List ℕ) (l : List Node) where
   unfolding channel_values
   extension_channels t c h m =
       let row : ℕ → List ℕ = λ t. tab C (λ c. bit (channel_at recording c t)) in
-      spelled extension (1 + t * C) C (λ c. channel_at recording c t) (row t) (length_tab C _) (λ e. get_d_tab C _ e 0)
+      spelled extension (1 + t * C) C (λ c. channel_at recording c t) (row t) (length_tab C _) (λ e. get_or_tab C _ e 0)
       (spells_row extension 1 C row (λ t. length_tab C _) k t h both_spelled.0) c m
 
   -- the recording is read back from it

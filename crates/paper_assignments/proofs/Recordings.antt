@@ -6,7 +6,7 @@ use Prim.Native.Nat.{ℕ, ◌^◌, ◌<◌}
 use native.Mathlib.Omega.{arith}
 use lib.ListN.{length, get_or}
 use lib.Seq.{ext_get_or}
-use Rattle.lists.proofs.Listing.{length_tab, get_d_tab}
+use Rattle.lists.proofs.Listing.{length_tab, get_or_tab}
 use Rattle.lists.proofs.Lists.{all_rows, all_at}
 use Rattle.paper_meaning.specs.Meaning.{bit_at, channel_at}
 use Rattle.paper_meaning.specs.Recording.{EachBelow}
@@ -23,7 +23,7 @@ module _ (C k : ℕ) (a : Assignment) where
 
   recording_at : (t : ℕ) → t < k → get_or (recording_by C k a) t 0 ≡ packed (λ c. a (channel_of C t c)) C
   unfolding recording_by
-  recording_at t h = get_d_tab k _ t 0 h
+  recording_at t h = get_or_tab k _ t 0 h
 
   -- "bits C and above are 0"
   pub recording_below : EachBelow (2 ^ C) (recording_by C k a)

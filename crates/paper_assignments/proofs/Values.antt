@@ -11,7 +11,7 @@ use lib.Seq.{ext_get_or}
 use Rattle.lists.specs.Listing.{rows, tab}
 use Rattle.interval.specs.Places.{count_of, intervals_of, triples_of, triple_count_of}
 use Rattle.interval.specs.Limits.{IntervalOf, TripleOf}
-use Rattle.lists.proofs.Listing.{length_rows, get_d_rows, length_tab, get_d_tab, sum_alike}
+use Rattle.lists.proofs.Listing.{length_rows, get_or_rows, length_tab, get_or_tab, sum_alike}
 use Rattle.interval.specs.declared.Interval.{Interval}
 use Rattle.interval.proofs.Shape.{Numbered}
 use Rattle.interval.proofs.Laws.{intervals_numbered, triples_numbered}
@@ -50,7 +50,7 @@ module _ {A : Type 0} (w : ℕ) (f : ℕ → List A) (e : (i : ℕ) → length (
   alike_length n = length_rows f (λ i. w) e n ∙ sum_alike w n
 
   pub alike_at : (n i y : ℕ) (d : A) → i < n → y < w → get_or (rows n f) (i * w + y) d ≡ get_or (f i) y d
-  alike_at n i y d h l = rw (← sum_alike w i) (get_d_rows f (λ i. w) e n i y d h l)
+  alike_at n i y d h l = rw (← sum_alike w i) (get_or_rows f (λ i. w) e n i y d h l)
 
 -- ---- a truth at each point: at an instant, or on an interval
 
@@ -63,7 +63,7 @@ truth_length State k g = length_tab k _
 truth_length Formula k g = mapped_length (intervals_numbered k) _
 
 pub truth_at : (s : Sort) (k : ℕ) (g : Point s → Bool) (e : ℕ) → e < points_of s k → get_or (truth_values s k g) e 0 ≡ bit (g (point_at s k e))
-truth_at State k g e h = get_d_tab k (λ t. bit (g t)) e 0 h
+truth_at State k g e h = get_or_tab k (λ t. bit (g t)) e 0 h
 truth_at Formula k g e h = mapped_at (intervals_numbered k) (λ v. bit (g v)) e (record { i = 0; j = 0 }) h
 
 -- a truth at each point, listed by the points' places
@@ -72,7 +72,7 @@ truth_tab s k g x h =
     let n = length_tab (points_of s k) x in
     ext_get_or 0 _ _ (n ∙ sym (truth_length s k g)) (λ e l.
     let m : e < points_of s k = omega (arith, n) in
-    get_d_tab (points_of s k) x e 0 m ∙ h e m ∙ sym (truth_at s k g e m))
+    get_or_tab (points_of s k) x e 0 m ∙ h e m ∙ sym (truth_at s k g e m))
 
 truth_bits : (s : Sort) (k : ℕ) (f : Point s → Bool) → EachBelow 2 (truth_values s k f)
 truth_bits State k f = all_rows _ k _ (λ t h. (bit_lt (f t), tt))

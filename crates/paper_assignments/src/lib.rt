@@ -1,4 +1,6 @@
 // What is answered to a proposed assignment.
+#![tactic(auto)]
+
 use refusal::Refusal;
 
 #[derive(Drop)]

@@ -1,6 +1,8 @@
 // What defines a variable of a formula, of other variables: AnyOf is of as many as its second number says, from its first on; Step is
 // p, or both q and s.
-#[derive(Drop)]
+#![tactic(auto)]
+
+#[derive(Clone, Copy)]
 pub enum Gate {
     Constant(bool),
     Copy(u32),

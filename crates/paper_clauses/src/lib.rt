@@ -1,4 +1,5 @@
 // The clauses of a formula, as definitions: crate `table_literals` writes them. And a literal's mark, as a table in memory has it.
+#![tactic(auto)]
 
 // Whether a literal is plain; where the mark is read as a literal alone, its last bit counts.
 pub const NEGATED: u8 = 0;

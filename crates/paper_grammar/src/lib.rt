@@ -1,4 +1,5 @@
 // The words of document 01's grammar, for code and definitions: no function.
+#![tactic(auto)]
 
 // The text's limits: bytes, nodes, n, channels.
 pub const MAX_LENGTH: usize = 255;
@@ -10,7 +11,7 @@ pub const MAX_NUMBER: usize = 32;
 pub const MAX_CHANNELS: usize = 8;
 
 // A state assertion or a formula.
-#[derive(Drop)]
+#[derive(Clone, Copy)]
 pub enum Sort {
     State,
     Formula,

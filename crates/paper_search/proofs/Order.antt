@@ -12,7 +12,7 @@ use lib.Dec.{eqb}
 use lib.ListN.{length, get_or}
 use borrow.Author.Tests.{eq-eqb, ne_eqb, lt-ltb, le-ltb, ltb-true}
 use Rattle.lists.specs.Listing.{tab}
-use Rattle.lists.proofs.Listing.{length_tab, get_d_tab}
+use Rattle.lists.proofs.Listing.{length_tab, get_or_tab}
 use Rattle.paper_meaning.proofs.Words.{high_bit}
 use Rattle.paper_meaning.specs.Meaning.{bit, channel_at}
 use Rattle.paper_circuit.specs.Gates.{Assignment}
@@ -75,7 +75,7 @@ module _ (C k : ℕ) where
   unfolding channel_values
   value_of r t c h l =
       let e : channel_of C t c - 1 ≡ t * C + c = omega arith in
-      rw e (alike_at C (λ t. tab C (λ c. bit (channel_at r c t))) (λ t. length_tab C _) k t c 0 h l ∙ get_d_tab C _ c 0 l)
+      rw e (alike_at C (λ t. tab C (λ c. bit (channel_at r c t))) (λ t. length_tab C _) k t c 0 h l ∙ get_or_tab C _ c 0 l)
 
   -- the values of a recording's channels, by an assignment that has them
   listed : (r : List ℕ) (a : Assignment) → ((t c : ℕ) → t < k → c < C → a (channel_of C t c) ≡ channel_at r c t)

@@ -1,4 +1,6 @@
 // What the search answers: definitions and laws, and their two types.
+#![tactic(auto)]
+
 use refusal::Refusal;
 
 // What the search answers: found, none, spent, each with its count.

@@ -30,7 +30,9 @@ asks_append (l ∷ m) n (x ∷ p) q a b = (a.0, asks_append m n p q a.1 b)
 -- the first no's number is one of theirs
 pub first_no_number : (numbers : List ℕ) (questions : List Reply) → Asks numbers questions → {r : Refusal} → FirstNo questions r
     → Memᴰ r.number numbers
+first_no_number [] [] a {r = r} f = elim f [ ]
 first_no_number [] (q ∷ questions) a f = absurd a
+first_no_number (n ∷ numbers) [] a {r = r} f = elim a [ ]
 first_no_number (n ∷ numbers) (No r ∷ questions) a here = Memᴰ.head a.0
 first_no_number (n ∷ numbers) (Yes ∷ questions) a (later f) = Memᴰ.tail (first_no_number numbers questions a.1 f)
 

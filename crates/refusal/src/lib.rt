@@ -1,11 +1,12 @@
 // A refusal by document 01's number and place, and the reply to one question.
+#![tactic(auto)]
 
 ghost use Rattle.std.specs.Prelude.{◌≡◌, ◌&&◌, leb};
 ghost use Rattle.refusal.specs.Asked.{question};
 
 // The question that was answered with no, by its number in document 01, and the place that the question names
 // (a byte of the text, an instant, a clause): 0 where it names none.
-#[derive(Drop)]
+#[derive(Clone, Copy)]
 pub struct Refusal {
     pub number: u32,
     pub place: u32,

@@ -1,7 +1,8 @@
 // One try on values and a trail: the lowest open channel variable, its try low, and the try high once that is undone. A try is what solvers
 // call a decision. `kinds` to `k` are what the queue goes by: nothing here looks into them.
+#![tactic(auto)]
+
 ghost use Rattle.std.specs.Prelude.{◌≡◌, ℕ, ◌≤◌, length, get_or};
-ghost use Rattle.moments.specs.Moments.{old, new};
 ghost use Rattle.paper_clauses.specs.Entries.{entry, literal_of};
 ghost use Rattle.search_decode.specs.Decode.{Tables};
 ghost use Rattle.search_clauses.specs.Clauses.{table_by};
@@ -13,7 +14,7 @@ use search_closing::Closed;
 
 // No variable has a value.
 pub fn clear(values: &mut [u8])
-    ensures { (x : ℕ) → get_or (new values) x 0 ≡ 0 }
+    ensures { (x : ℕ) → get_or values.new x 0 ≡ 0 }
 {
     for x in 0..values.len() {
         values[x] = search_closing::OPEN;
@@ -23,7 +24,7 @@ pub fn clear(values: &mut [u8])
 // The lowest open channel variable, or 0 where none is open.
 pub fn lowest_open(values: &[u8], channels: u32) -> u32
     requires { (channels ≤ length values.now) × ((x : ℕ) → get_or values.now x 0 ≤ 2) }
-    ensures { Openness (old values) channels result }
+    ensures { Openness values.now channels result }
 {
     let mut v = 0;
     while v < channels {
@@ -57,7 +58,7 @@ pub fn try_literal<'a>(
 ) -> Closed
     requires on_ground { OnGround c k kinds numbers sizes firsts seats parents count values × Tables k intervals.now starts.now rows.now }
     requires ready { Ready (table_by c k kinds.now numbers.now sizes.now firsts.now count) values.old trail.old top v }
-    ensures { TriesLiteral (table_by c k (old kinds) (old numbers) (old sizes) (old firsts) count) (literal_of (entry v mark)) values trail top result }
+    ensures { TriesLiteral (table_by c k kinds.now numbers.now sizes.now firsts.now count) (literal_of (entry v mark)) values trail top result }
 {
     let added = search_closing::add(values, trail, top, v, mark);
     search_queue::close(
@@ -87,7 +88,7 @@ pub fn try_high<'a>(
 ) -> Closed
     requires on_ground { OnGround c k kinds numbers sizes firsts seats parents count values × Tables k intervals.now starts.now rows.now }
     requires undoable { Undoable (table_by c k kinds.now numbers.now sizes.now firsts.now count) values.old trail.old from to }
-    ensures { TriesHigh (table_by c k (old kinds) (old numbers) (old sizes) (old firsts) count) values trail from to result }
+    ensures { TriesHigh (table_by c k kinds.now numbers.now sizes.now firsts.now count) values trail from to result }
 {
     search_closing::undo(values, trail, from, to);
     let v = trail[from];

@@ -1,6 +1,7 @@
 // The search: the first recording that satisfies a formula, with the number of tries it took.
+#![tactic(auto)]
+
 ghost use Rattle.std.specs.Prelude.{◌≡◌, ◌≤◌};
-ghost use Rattle.moments.specs.Moments.{old, new};
 ghost use Rattle.interval.specs.Limits.{max_steps};
 ghost use Rattle.paper_grammar.specs.Limits.{max_nodes, max_channels};
 ghost use Rattle.paper_grammar.specs.Trees.{Tree};
@@ -40,8 +41,8 @@ fn search_table(
     requires { (c ≤ max_channels) × (k ≤ max_steps) × (table.count ≤ max_nodes) × ((f : Tree Formula) × TableFor c f table) }
     ensures recording_value { (f : Tree Formula) → table ≡ node_table_of f
         → left result recording
-        ≡ searched_by c k f limit (lent_by variables marks (old values) (old trail) (old recording)) (old recording) }
-    ensures unchanged { Unchanged result (old values) (new values) × Unchanged result (old trail) (new trail) }
+        ≡ searched_by c k f limit (lent_by variables marks values.old trail.old recording.old) recording.old }
+    ensures unchanged { Unchanged result values.old values.new × Unchanged result trail.old trail.new }
 {
     let layout = table_layout::layout_of(table, c, k);
     let s = layout.sizes;
@@ -70,9 +71,9 @@ pub fn search(
     trail: &mut [u32],
     recording: &mut [u8],
 ) -> Answer
-    ensures recording_value { left result recording ≡ searched c k (old text) limit (lent variables marks values trail recording) (old recording) }
-    ensures unchanged { Unchanged result (old variables) (new variables) × Unchanged result (old marks) (new marks) }
-    ensures unchanged_2 { Unchanged result (old values) (new values) × Unchanged result (old trail) (new trail) }
+    ensures recording_value { left result recording ≡ searched c k text.now limit (lent variables marks values trail recording) recording.old }
+    ensures unchanged { Unchanged result variables.old variables.new × Unchanged result marks.old marks.new }
+    ensures unchanged_2 { Unchanged result values.old values.new × Unchanged result trail.old trail.new }
 {
     let tabled = node_calls::node_table(text, c, k);
     let reply = tabled.reply;

@@ -1,7 +1,8 @@
 // A set of literals as values and a trail, which solvers call a partial assignment: a literal put in, what was put in undone
 // (backtracking), and how closing the set (unit propagation) ends.
+#![tactic(auto)]
+
 ghost use Rattle.std.specs.Prelude.{◌≡◌, false, ◌+◌, ◌-◌, ◌^◌, ◌≤◌, ◌<◌, length, set};
-ghost use Rattle.moments.specs.Moments.{old, new};
 ghost use Rattle.paper_clauses.specs.Entries.{entry, literal_of};
 ghost use Rattle.paper_closure.specs.Closure.{opposite};
 ghost use Rattle.search_closing.specs.Values.{held_in, Trailing, Ranged, undone, Adds};
@@ -24,8 +25,8 @@ fn place(variable: u32) -> usize
 // A variable's value at its place, and the variable at the top of the trail.
 fn hold(values: &mut [u8], trail: &mut [u32], top: usize, x: usize, value: u8)
     requires { (x < length values.old) × (top < length trail.old) × (x + 1 < 2 ^ 32) }
-    ensures values_value { new values ≡ set (old values) x value }
-    ensures trail_value { new trail ≡ set (old trail) top (x + 1) }
+    ensures values_value { values.new ≡ set values.old x value }
+    ensures trail_value { trail.new ≡ set trail.old top (x + 1) }
 {
     values[x] = value;
     trail[top] = x as u32 + 1;
@@ -34,7 +35,7 @@ fn hold(values: &mut [u8], trail: &mut [u32], top: usize, x: usize, value: u8)
 // Backtracking: the values of the trail's variables from a place on, up to another, are taken back, the last first.
 pub fn undo(values: &mut [u8], trail: &[u32], from: usize, to: usize)
     requires { (from ≤ to) × (to ≤ length trail.now) × Ranged values.old trail.now from to }
-    ensures { new values ≡ undone (old trail) from (to - from) (old values) }
+    ensures { values.new ≡ undone trail.now from (to - from) values.old }
 {
     let mut j = to;
     while from < j {
@@ -47,7 +48,7 @@ pub fn undo(values: &mut [u8], trail: &[u32], from: usize, to: usize)
 // Whether the literal of a variable and a mark is opposed: its variable has the other value.
 pub fn opposed(values: &[u8], variable: u32, mark: u8) -> bool
     requires { (1 ≤ variable) × (variable ≤ length values.now) }
-    ensures { result ≡ held_in (old values) (opposite (literal_of (entry variable mark))) }
+    ensures { result ≡ held_in values.now (opposite (literal_of (entry variable mark))) }
 {
     values[place(variable)] == HIGH + mark % 2
 }
@@ -67,7 +68,7 @@ pub fn add(values: &mut [u8], trail: &mut [u32], top: usize, variable: u32, mark
 }
 
 // How closing ended, and how many places of the trail are used. A clash is what solvers call a conflict.
-#[derive(Drop)]
+#[derive(Clone, Copy)]
 pub struct Closed {
     pub clash: bool,
     pub top: usize,

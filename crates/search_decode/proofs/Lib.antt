@@ -1,3 +1,3 @@
 -- The laws that others go by, with the file of each.
--- triple-found (Decode): the triples of one start stand as the intervals do, from the last to the first.
+-- triple_found (Decode): the triples of one start stand as the intervals do, from the last to the first.
 pub mod Decode

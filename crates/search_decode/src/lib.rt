@@ -1,6 +1,7 @@
 // Places decoded: an interval by its place from a table by value, a triple by where the triples of each start begin and by that table.
+#![tactic(auto)]
+
 ghost use Rattle.std.specs.Prelude.{◌≡◌, ◌+◌, ◌≤◌, ◌<◌, length, get_or};
-ghost use Rattle.moments.specs.Moments.{old, new};
 ghost use Rattle.interval.specs.Limits.{max_steps, IntervalOf};
 ghost use Rattle.interval.specs.Places.{count_of, triple_count_of, place_of};
 ghost use Rattle.search_decode.specs.Decode.{InPlace, TripleIn, IntervalsTo, Tables, LastFrom, CellOf};
@@ -10,7 +11,7 @@ use interval::{Interval, Triple};
 // Of numbers that grow the last that is not beyond u.
 pub fn last_from(table: &[u32], count: usize, u: u32) -> usize
     requires { (0 < count) × (count ≤ length table.now) × (get_or table.now 0 0 ≤ u) }
-    ensures { LastFrom (old table) count u result }
+    ensures { LastFrom table.now count u result }
 {
     let mut low = 0;
     let mut high = count;
@@ -26,7 +27,7 @@ pub fn last_from(table: &[u32], count: usize, u: u32) -> usize
 }
 
 // Where a place is in lines of so many cells each: a duration's levels, or the channels at each instant.
-#[derive(Drop)]
+#[derive(Clone, Copy)]
 pub struct Cell {
     pub line: u32,
     pub cell: u32,
@@ -63,7 +64,7 @@ fn next(v: Interval, k: usize) -> Interval
 // The intervals of k steps by their places, two bytes each.
 fn put_intervals(table: &mut [u16], k: usize)
     requires { (k ≤ max_steps) × (count_of k ≤ length table.old) }
-    ensures { IntervalsTo k (new table) (count_of k) }
+    ensures { IntervalsTo k table.new (count_of k) }
 {
     let count = Interval::count(k);
     let mut v = Interval { i: 0, j: 0 };
@@ -76,7 +77,7 @@ fn put_intervals(table: &mut [u16], k: usize)
 // What the queue goes by: the intervals by their places, where the triples of each start begin, and the rows of intervals.
 pub fn put_tables(intervals: &mut [u16], starts: &mut [u32], rows: &mut [u32], k: u32)
     requires { (k ≤ max_steps) × (count_of k ≤ length intervals.old) × (k + 1 ≤ length starts.old) × (k + 2 ≤ length rows.old) }
-    ensures { Tables k (new intervals) (new starts) (new rows) }
+    ensures { Tables k intervals.new starts.new rows.new }
 {
     put_intervals(intervals, k as usize);
     Interval::put_rows(rows, k);

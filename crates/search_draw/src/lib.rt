@@ -1,6 +1,7 @@
 // The tree of tries, and the recording drawn.
+#![tactic(auto)]
+
 ghost use Rattle.std.specs.Prelude.{◌≡◌, ◌*◌, ◌^◌, ◌≤◌, ◌<◌, length};
-ghost use Rattle.moments.specs.Moments.{old};
 ghost use Rattle.paper_closure.specs.Tree.{tree};
 ghost use Rattle.search_decode.specs.Decode.{Tables};
 ghost use Rattle.search_tries.specs.Tries.{GroundOf, table_clauses};
@@ -30,7 +31,7 @@ pub fn draw(
 ) -> Answer
     requires ground_of { GroundOf c k table firsts seats parents values × Tables k intervals.now starts.now rows.now }
     requires values_in_bounds { (length values.old ≤ length trail.old) × (length values.old < 2 ^ 32) × (length recording.old ≡ k) }
-    ensures { left result recording ≡ limited c k limit (old recording) (tree (table_clauses c k table (old firsts)) (length (old values)) (k * c)) }
+    ensures { left result recording ≡ limited c k limit recording.old (tree (table_clauses c k table firsts.now) (length values.old) (k * c)) }
 {
     let below = search_tree::start(
         values, trail, table, firsts, seats, parents, intervals, starts, rows, c, k, limit,

@@ -10,7 +10,7 @@ use Rattle.lists.specs.Listing.{rows, sum, All}
 use Rattle.interval.specs.Places.{count_of, place_of, triple_place_of}
 use Rattle.interval.specs.declared.Interval.{Interval}
 use Rattle.interval.specs.declared.Triple.{Triple}
-use Rattle.interval.proofs.Shape.{Shape, Entry, Inside, count, place, per, intervals, Numbered, get_d_per}
+use Rattle.interval.proofs.Shape.{Shape, Entry, Inside, count, place, per, intervals, Numbered, get_or_per}
 use Rattle.interval.proofs.Counts.{intervals_count}
 use Rattle.interval.proofs.Laws.{intervals_numbered, triples_numbered, interval_entry, triple_entry}
 use Rattle.lists.proofs.Lists.{all_map}
@@ -37,7 +37,7 @@ ruled q b = record { rule = q; points = b.points; first = b.first; left = b.left
 -- ---- a place tells what it is the place of
 
 pub one_entry : (s : Shape) (x y : Entry s) → Inside s x → Inside s y → place s x ≡ place s y → x ≡ y
-one_entry s x y h g e = sym (get_d_per s (λ x. x) x x h) ∙ ap (λ p. get_or (per s (λ x. x)) p x) e ∙ get_d_per s (λ x. x) y x g
+one_entry s x y h g e = sym (get_or_per s (λ x. x) x x h) ∙ ap (λ p. get_or (per s (λ x. x)) p x) e ∙ get_or_per s (λ x. x) y x g
 
 injective : {A : Type 0} {In : A → Type 0} {placed : A → ℕ} {listed : List A} {n : ℕ} → Numbered In placed listed n → (a b : A) → In a → In b → placed a ≡ placed b → a ≡ b
 injective {listed = listed} m a b i j e = sym (m.at_place a a i) ∙ ap (λ p. get_or listed p a) e ∙ m.at_place b a j
@@ -106,7 +106,7 @@ module _ (C k u : ℕ) (b : Block) where
 
   pub there : (x : Entry shape) → Inside shape x → clauses_at (defined_by C k b) (place shape x) ≡ clauses_of (b.first + place shape x) (gate x)
   unfolding defined_by gate_of
-  there x h = ap (λ (d : Definition). clauses_of d.variable d.gate) (get_d_per shape (λ x. define (b.first + place shape x) (gate x)) x (define 0 (Constant false)) h)
+  there x h = ap (λ (d : Definition). clauses_of d.variable d.gate) (get_or_per shape (λ x. define (b.first + place shape x) (gate x)) x (define 0 (Constant false)) h)
 
   pub covered : {W : List Clause} (X : ℕ → Type 0) → ((p : ℕ) → X p → Covers (clauses_at (defined_by C k b) p) u W) → ((x : Entry shape) → Inside shape x → At x → X (place shape x))
       → Covers (clauses_by (defined_by C k b)) u W

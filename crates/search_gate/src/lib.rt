@@ -1,4 +1,6 @@
 // The gate that defines a variable visited, whatever gate it is: each but one is a pattern over its variables.
+#![tactic(auto)]
+
 ghost use Rattle.std.specs.Prelude.{◌≡◌, true, false, ◌⊎◌, length};
 ghost use Rattle.paper_clauses.specs.Clauses.{clauses_of};
 ghost use Rattle.search_closing.specs.Values.{Trailing};

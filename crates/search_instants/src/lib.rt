@@ -1,4 +1,6 @@
 // The gates of a duration's or `[S]`'s block that mention its part at an instant, visited: those of the intervals that end a step later.
+#![tactic(auto)]
+
 ghost use Rattle.std.specs.Prelude.{◌≡◌, ◌≤◌, ◌<◌};
 ghost use Rattle.interval.specs.Places.{count_of};
 ghost use Rattle.interval.specs.Rows.{RowsOf};

@@ -1,6 +1,7 @@
 // The search in its lent arrays: what the queue goes by, and the parts of them that it takes.
+#![tactic(auto)]
+
 ghost use Rattle.std.specs.Prelude.{◌≡◌, ◌≤◌, length};
-ghost use Rattle.moments.specs.Moments.{old};
 ghost use Rattle.interval.specs.Limits.{max_steps};
 ghost use Rattle.paper_grammar.specs.Limits.{max_nodes, max_channels};
 ghost use Rattle.paper_grammar.specs.Trees.{Tree};
@@ -31,7 +32,7 @@ pub fn search_lent(
     requires measured { Measured c k table.kinds table.numbers table.count layout.firsts layout.sizes }
     requires variables_in_bounds { (layout.sizes.variables ≤ length values.old) × (layout.sizes.variables ≤ length trail.old) × (k ≤ length recording.old) }
     ensures { (f : Tree Formula) → table ≡ node_table_of f
-        → left result recording ≡ limited c k limit (old recording) (tree_of c k f) }
+        → left result recording ≡ limited c k limit recording.old (tree_of c k f) }
 {
     let mut seats = [0; MAX_NODES];
     table_layout::put_seats(&table.kinds, &table.numbers, &layout.firsts, k, &mut seats);

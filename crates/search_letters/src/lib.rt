@@ -1,6 +1,7 @@
 // A channel's variable: the gates of its letters. And a node's block, put together from columns.
+#![tactic(auto)]
+
 ghost use Rattle.std.specs.Prelude.{◌≡◌, ℕ, ◌*◌, ◌≤◌, ◌<◌};
-ghost use Rattle.moments.specs.Moments.{old};
 ghost use Rattle.interval.specs.Limits.{max_steps};
 ghost use Rattle.interval.specs.Places.{count_of};
 ghost use Rattle.lists.specs.Listing.{rows};
@@ -46,7 +47,7 @@ pub fn block_of<'a>(
 ) -> Block
     requires { (k ≤ max_steps) × (x < max_nodes) × Low firsts.now × Seated kinds.now numbers.now firsts.now k seats.now max_nodes
         × (all ≡ count_of k) }
-    ensures value { result ≡ block_by (old kinds) (old numbers) (old sizes) (old firsts) k x }
+    ensures value { result ≡ block_by kinds.now numbers.now sizes.now firsts.now k x }
     ensures by_index { (c : ℕ) → c ≤ max_channels → Fine c k result }
 {
     let kind = node_rows::byte_at(kinds, x);
@@ -82,7 +83,7 @@ fn reach_letter<'a>(
 ) -> Closed
     requires on_ground { OnGround c k kinds numbers sizes firsts seats parents count values × Trailing values.old trail.old top }
     requires x_lt_count { (x < count) × (t < k) × (all ≡ count_of k) }
-    ensures { Visits (letter_at c k (old kinds) (old numbers) (old sizes) (old firsts) t e x) values trail top result }
+    ensures { Visits (letter_at c k kinds.now numbers.now sizes.now firsts.now t e x) values trail top result }
 {
     let rule = table_blocks::rule_of(kinds[x], numbers[x]);
     if speaks_of(rule, e) {
@@ -112,7 +113,7 @@ fn reach_letters<'a>(
 ) -> Closed
     requires on_ground { OnGround c k kinds numbers sizes firsts seats parents count values × Trailing values.old trail.old top }
     requires t_lt_k { (t < k) × (all ≡ count_of k) }
-    ensures { Visits (rows count (letter_at c k (old kinds) (old numbers) (old sizes) (old firsts) t e)) values trail top result }
+    ensures { Visits (rows count (letter_at c k kinds.now numbers.now sizes.now firsts.now t e)) values trail top result }
 {
     let mut last = top;
     for x in 0..count {
@@ -147,7 +148,7 @@ pub fn reach_channel<'a>(
 ) -> Closed
     requires on_ground { OnGround c k kinds numbers sizes firsts seats parents count values × Trailing values.old trail.old top }
     requires le_u { (1 ≤ u) × (u ≤ k * c) × (all ≡ count_of k) }
-    ensures { Reaches (table_by c k (old kinds) (old numbers) (old sizes) (old firsts) count) u values trail top result }
+    ensures { Reaches (table_by c k kinds.now numbers.now sizes.now firsts.now count) u values trail top result }
 {
     let at = search_decode::cell_at(u - 1, c);
     reach_letters(

@@ -1,4 +1,6 @@
 // A gate of a duration's or `[S]`'s block, visited in its place: by the rule, the level and the length of the interval.
+#![tactic(auto)]
+
 ghost use Rattle.std.specs.Prelude.{◌≡◌};
 ghost use Rattle.interval.specs.Places.{count_of};
 ghost use Rattle.table_blocks.specs.Blocks.{defined_by, Placed};

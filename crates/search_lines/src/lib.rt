@@ -1,4 +1,6 @@
 // What a node's own variables and its parts' go by: the place of a line, the levels of a rise, nothing more.
+#![tactic(auto)]
+
 ghost use Rattle.std.specs.Prelude.{◌≡◌, false, ◌<◌};
 ghost use Rattle.table_blocks.specs.Blocks.{form_of, defined_by};
 ghost use Rattle.table_blocks.specs.declared.Form.TheVariants.{Line};
@@ -11,7 +13,7 @@ use search_closing::Closed;
 use table_blocks::{Block, Rule};
 
 // The levels that go by the instants of their part.
-#[derive(Drop)]
+#[derive(Clone, Copy)]
 pub struct Rise {
     pub from: u32,
     pub count: u32,

@@ -1,4 +1,6 @@
 // The gates of a node's block that mention one of its own variables, by the node's rule.
+#![tactic(auto)]
+
 ghost use Rattle.std.specs.Prelude.{◌≡◌, false, ◌+◌, ◌≤◌, length};
 ghost use Rattle.interval.specs.Places.{count_of};
 ghost use Rattle.table_blocks.specs.Blocks.{is_chop, form_of};

@@ -10,7 +10,7 @@ use Rattle.interval.specs.Limits.{IntervalOf}
 use Rattle.interval.specs.Places.{count_of, place_of, triple_place_of}
 use Rattle.interval.specs.declared.Interval.{Interval}
 use Rattle.interval.specs.declared.Triple.{Triple}
-use Rattle.interval.proofs.Shape.{Inside, place, place_lt, get_d_per}
+use Rattle.interval.proofs.Shape.{Inside, place, place_lt, get_or_per}
 use Rattle.interval.proofs.Laws.{triple_place, triples_numbered, triples_in_a_row, counts_at_32}
 use Rattle.paper_circuit.specs.Circuit.{define}
 use Rattle.paper_circuit.specs.declared.Gate.TheVariants.{Constant, AnyOf}
@@ -60,7 +60,7 @@ module _ (C k w : ℕ) (b : Block) (v : Interval) (o : IntervalOf k v) where
       let s = shape_of b.points k Chop in
       let t : v.i + d ≡ v.j = omega (arith, o.starts) in
       ap (definition_in (defined_by C k (interval_block w b))) q.at
-      ∙ get_d_per s (λ y. define (b.first + place s y) (gate_by C k b.first w b.right (place s y) y.0 y.1.0 y.1.1 Chop)) (0, (v.i, d)) (define 0 (Constant false)) q.inside
+      ∙ get_or_per s (λ y. define (b.first + place s y) (gate_by C k b.first w b.right (place s y) y.0 y.1.0 y.1.1 Chop)) (0, (v.i, d)) (define 0 (Constant false)) q.inside
       ∙ ap₂ (λ (y z : ℕ). define (b.first + y) (AnyOf (w + z) (suc d))) (sym q.at) (ap (triple_place_of k) (λ s. record { i = v.i; m = v.i; j = t s }))
 
   pub chop_asks : {n : ℕ} → AllMentioned n (defined_by C k (interval_block w b))

@@ -1,5 +1,7 @@
 // The gates of a chop's block that mention one of its own variables: of an interval's its own gate alone, of a triple's its own and of its
 // interval's two clauses.
+#![tactic(auto)]
+
 ghost use Rattle.std.specs.Prelude.{◌≡◌, ◌+◌, ◌<◌};
 ghost use Rattle.interval.specs.Places.{count_of, triple_count_of};
 ghost use Rattle.table_blocks.specs.declared.Rule.TheVariants.{Chop};

@@ -1,5 +1,7 @@
 // The gates of a duration's or `[S]`'s block that mention one of its own variables, visited: in the places that document 01's definitions
 // give.
+#![tactic(auto)]
+
 ghost use Rattle.std.specs.Prelude.{◌≡◌};
 ghost use Rattle.interval.specs.Places.{count_of};
 ghost use Rattle.table_blocks.specs.Blocks.{Placed};

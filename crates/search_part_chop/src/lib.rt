@@ -1,4 +1,6 @@
 // The gates of a chop's block that mention a variable of another node, where that is a part's truth: triples of an interval.
+#![tactic(auto)]
+
 ghost use Rattle.std.specs.Prelude.{◌≡◌, ◌*◌, ◌<◌};
 ghost use Rattle.interval.specs.Places.{count_of};
 ghost use Rattle.table_blocks.specs.declared.Rule.TheVariants.{Chop};

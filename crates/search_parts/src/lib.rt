@@ -1,4 +1,6 @@
 // The gates of a node's block that mention a variable of another node, by the node's rule: where that is a part's truth.
+#![tactic(auto)]
+
 ghost use Rattle.std.specs.Prelude.{◌≡◌, false, ◌*◌, ◌<◌};
 ghost use Rattle.interval.specs.Places.{count_of};
 ghost use Rattle.interval.specs.Rows.{RowsOf};

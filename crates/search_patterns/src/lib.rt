@@ -1,9 +1,10 @@
 // A gate's clauses (its Tseitin encoding) by their pattern: every literal that they force, one after another, or a clash. It is unit
 // propagation within one gate.
+#![tactic(auto)]
+
 mod tables;
 
 ghost use Rattle.std.specs.Prelude.{◌≡◌, Bool, true, ℕ, ◌+◌, ◌*◌, ◌≤◌, ◌<◌, length, get_or};
-ghost use Rattle.moments.specs.Moments.{old};
 ghost use Rattle.paper_meaning.specs.Meaning.{bit};
 ghost use Rattle.search_closing.specs.Values.{Trailing};
 ghost use Rattle.search_patterns.specs.Patterns.{value_at, Four, Settles, pattern_of, among, renamed, step_pattern, forced_by, Forces, Quiets, ended_by};
@@ -72,7 +73,7 @@ fn pick(e: u8, v: u32, x: u32, y: u32, z: u32) -> u32
 // The value of a variable.
 fn value(values: &[u8], v: u32) -> u8
     requires { Variable (length values.now) v }
-    ensures { result ≡ value_at (old values) v }
+    ensures { result ≡ value_at values.now v }
 {
     values[v as usize - 1]
 }
@@ -128,7 +129,7 @@ pub enum Next {
 fn next_forced(values: &[u8], gate: usize, v: u32, x: u32, y: u32, z: u32) -> Next
     requires by_index { ((x : ℕ) → get_or values.now x 0 ≤ 2) × (gate < 8) }
     requires four { Four values.now v x y z }
-    ensures { Forces (renamed (among v x y z) (pattern_of gate)) (old values) result }
+    ensures { Forces (renamed (among v x y z) (pattern_of gate)) values.now result }
 {
     let a = value(values, v);
     let b = value(values, x);

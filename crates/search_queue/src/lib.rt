@@ -1,6 +1,7 @@
 // Closing by the trail as a queue: each variable of it in turn, and the gates that mention it. It is unit propagation, without a table of
 // clauses.
-ghost use Rattle.moments.specs.Moments.{old};
+#![tactic(auto)]
+
 ghost use Rattle.search_closing.specs.Values.{Trailing};
 ghost use Rattle.search_closing.specs.Closing.{Closes};
 ghost use Rattle.search_clauses.specs.Clauses.{table_by};
@@ -33,7 +34,7 @@ pub fn close<'a>(
 ) -> Closed
     requires on_ground { OnGround c k kinds numbers sizes firsts seats parents count values × Tables k intervals.now starts.now rows.now }
     requires pending { Pending (table_by c k kinds.now numbers.now sizes.now firsts.now count) values.old trail.old head top }
-    ensures { Closes (table_by c k (old kinds) (old numbers) (old sizes) (old firsts) count) values trail top result }
+    ensures { Closes (table_by c k kinds.now numbers.now sizes.now firsts.now count) values trail top result }
 {
     let all = Interval::all(rows, k);
     let mut t = top;
@@ -78,7 +79,7 @@ pub fn start<'a>(
 ) -> Closed
     requires on_ground { OnGround c k kinds numbers sizes firsts seats parents count values × Tables k intervals.now starts.now rows.now }
     requires trailing { Trailing values.old trail.old 0 }
-    ensures { Closes (table_by c k (old kinds) (old numbers) (old sizes) (old firsts) count) values trail 0 result }
+    ensures { Closes (table_by c k kinds.now numbers.now sizes.now firsts.now count) values trail 0 result }
 {
     let r = search_sweeps::sweep(
         values, trail, 0, kinds, numbers, sizes, firsts, rows, count, c, k,

@@ -1,6 +1,7 @@
 // The gates that mention a variable visited, whichever it is: a channel's, or one of a node's own.
+#![tactic(auto)]
+
 ghost use Rattle.std.specs.Prelude.{◌≡◌, ◌*◌, ◌≤◌, ◌<◌, length};
-ghost use Rattle.moments.specs.Moments.{old};
 ghost use Rattle.interval.specs.Places.{count_of};
 ghost use Rattle.table_gates.specs.Mentioned.{Variable};
 ghost use Rattle.search_closing.specs.Values.{Trailing};
@@ -34,7 +35,7 @@ fn reach_row<'a>(
 ) -> Closed
     requires on_ground { OnGround c k kinds numbers sizes firsts seats parents count values × Trailing values.old trail.old top }
     requires tables { Tables k intervals.now starts.now rows.now × (all ≡ count_of k) × (k * c < u) × (u ≤ length values.old) }
-    ensures { Reaches (table_by c k (old kinds) (old numbers) (old sizes) (old firsts) count) u values trail top result }
+    ensures { Reaches (table_by c k kinds.now numbers.now sizes.now firsts.now count) u values trail top result }
 {
     let z = search_decode::last_from(firsts, count, u);
     let block = search_letters::block_of(kinds, numbers, sizes, firsts, seats, k, all, z);
@@ -80,7 +81,7 @@ pub fn reach<'a>(
 ) -> Closed
     requires on_ground { OnGround c k kinds numbers sizes firsts seats parents count values × Trailing values.old trail.old top }
     requires tables { Tables k intervals.now starts.now rows.now × (all ≡ count_of k) × Variable (length values.old) u }
-    ensures { Reaches (table_by c k (old kinds) (old numbers) (old sizes) (old firsts) count) u values trail top result }
+    ensures { Reaches (table_by c k kinds.now numbers.now sizes.now firsts.now count) u values trail top result }
 {
     if u <= k * c {
         return search_letters::reach_channel(

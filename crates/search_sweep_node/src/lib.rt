@@ -1,4 +1,6 @@
 // Every gate of a node visited, one after another.
+#![tactic(auto)]
+
 ghost use Rattle.std.specs.Prelude.{◌+◌, ◌≤◌, ◌<◌, length};
 ghost use Rattle.interval.specs.Limits.{max_count};
 ghost use Rattle.interval.specs.Places.{count_of};

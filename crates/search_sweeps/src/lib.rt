@@ -1,6 +1,7 @@
 // Every gate of the circuit visited, node after node.
+#![tactic(auto)]
+
 ghost use Rattle.std.specs.Prelude.{ℕ, ◌+◌, ◌≤◌, ◌<◌, length};
-ghost use Rattle.moments.specs.Moments.{old};
 ghost use Rattle.interval.specs.Limits.{max_steps};
 ghost use Rattle.interval.specs.Rows.{RowsOf};
 ghost use Rattle.paper_grammar.specs.Limits.{max_nodes, max_channels};
@@ -30,7 +31,7 @@ fn sweep_nodes<'a>(
 ) -> Closed
     requires c_le_max_channels { (c ≤ max_channels) × (k ≤ max_steps) × (count ≤ max_nodes) × Low firsts.now × Trailing values.old trail.old top × RowsOf k rows.now }
     requires by_index { (x : ℕ) → x < count → AllMentioned (length values.old) (row_definitions c k kinds.now numbers.now sizes.now firsts.now x) }
-    ensures { Visits (nodes_by c k (old kinds) (old numbers) (old sizes) (old firsts) count) values trail top result }
+    ensures { Visits (nodes_by c k kinds.now numbers.now sizes.now firsts.now count) values trail top result }
 {
     let mut t = top;
     for x in 0..count {
@@ -64,7 +65,7 @@ pub fn sweep<'a>(
     requires c_le_max_channels { (c ≤ max_channels) × (k ≤ max_steps) × (count ≤ max_nodes) × Low firsts.now × Trailing values.old trail.old top × RowsOf k rows.now }
     requires variable { Variable (length values.old) (seat_by kinds.now numbers.now firsts.now k 0 + k) }
     requires by_index { (x : ℕ) → x < count → AllMentioned (length values.old) (row_definitions c k kinds.now numbers.now sizes.now firsts.now x) }
-    ensures { Visits (table_by c k (old kinds) (old numbers) (old sizes) (old firsts) count) values trail top result }
+    ensures { Visits (table_by c k kinds.now numbers.now sizes.now firsts.now count) values trail top result }
 {
     let r = sweep_nodes(
         values, trail, top, kinds, numbers, sizes, firsts, rows, count, c, k,

@@ -1,6 +1,7 @@
 // The whole tree of tries, from values that are cleared and closed.
+#![tactic(auto)]
+
 ghost use Rattle.std.specs.Prelude.{◌*◌, ◌^◌, ◌≤◌, ◌<◌, length};
-ghost use Rattle.moments.specs.Moments.{old, new};
 ghost use Rattle.search_decode.specs.Decode.{Tables};
 ghost use Rattle.search_tries.specs.Tries.{GroundOf, table_clauses, Started};
 
@@ -25,7 +26,7 @@ pub fn start(
 ) -> Below
     requires ground_of { GroundOf c k table firsts seats parents values × Tables k intervals.now starts.now rows.now }
     requires values_in_bounds { (length values.old ≤ length trail.old) × (length values.old < 2 ^ 32) }
-    ensures { Started (table_clauses c k table (old firsts)) (length (old values)) (k * c) limit (new values) result }
+    ensures { Started (table_clauses c k table firsts.now) (length values.old) (k * c) limit values.new result }
 {
     search_attempts::clear(values);
     let closed = search_queue::start(

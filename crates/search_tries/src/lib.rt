@@ -1,7 +1,8 @@
 // The tree of tries on values and a trail, all tries one after another: it is DPLL's, its decisions in a fixed order, with chronological
 // backtracking. `table` to `k` are what the queue goes by: nothing here looks into them, but for the number of channel variables.
+#![tactic(auto)]
+
 ghost use Rattle.std.specs.Prelude.{◌*◌, length};
-ghost use Rattle.moments.specs.Moments.{old, new};
 ghost use Rattle.paper_closure.specs.Closure.{nothing};
 ghost use Rattle.search_decode.specs.Decode.{Tables};
 ghost use Rattle.search_attempts.specs.Attempts.{Holding};
@@ -43,7 +44,7 @@ pub fn descend(
 ) -> Below
     requires ground_of { GroundOf c k table firsts seats parents values × Tables k intervals.now starts.now rows.now }
     requires holding { Holding (table_clauses c k table firsts.now) nothing values.old trail.old closed }
-    ensures { Started (table_clauses c k table (old firsts)) (length (old values)) (k * c) limit (new values) result }
+    ensures { Started (table_clauses c k table firsts.now) (length values.old) (k * c) limit values.new result }
 {
     let channels = k * c;
     let mut levels = [0; MAX_DEPTH];

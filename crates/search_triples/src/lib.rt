@@ -1,4 +1,6 @@
 // The triples of a chop that mention a variable of one of its parts, visited.
+#![tactic(auto)]
+
 ghost use Rattle.std.specs.Prelude.{◌≡◌, ◌≤◌};
 ghost use Rattle.interval.specs.Places.{count_of};
 ghost use Rattle.interval.specs.Rows.{RowsOf, StartsOf};

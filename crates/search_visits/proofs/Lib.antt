@@ -1,5 +1,5 @@
 -- The laws that others go by, with the file of each.
--- visited-then, visited-stop (Parts): visits one after another are one visit of both lists of clauses; a clash of one is a clash of both.
+-- visited_then, visited_stop (Parts): visits one after another are one visit of both lists of clauses; a clash of one is a clash of both.
 pub mod Parts
 pub mod Loops
 pub mod Long

@@ -1,7 +1,8 @@
 // Clauses visited: every literal that they force, one after another, or a clash: unit propagation, a gate at a time. Here those of the gate
 // that no pattern fits: v is any of n variables.
+#![tactic(auto)]
+
 ghost use Rattle.std.specs.Prelude.{◌≡◌, true, false, ◌+◌, ◌<◌, length, ◌⊎◌, [], ◌∷◌, ◌++◌};
-ghost use Rattle.moments.specs.Moments.{old};
 ghost use Rattle.paper_clauses.specs.Clauses.{clauses_of, Clause};
 ghost use Rattle.search_closing.specs.Values.{Trailing, held_in};
 ghost use Rattle.search_visits.specs.Visits.{Row, raised_by, long_by, Visits};
@@ -46,7 +47,7 @@ fn visit_tallied(
 ) -> Closed
     requires { Trailing values.old trail.old top × Variable (length values.old) variable
         × ((free ≡ 1) → held_in values.old (opposite (literal_of (entry variable mark))) ≡ false) }
-    ensures { (c : Clause) → 0 < length c → Tally (free_of (held_in (old values)) c) free (literal_of (entry variable mark))
+    ensures { (c : Clause) → 0 < length c → Tally (free_of (held_in values.old) c) free (literal_of (entry variable mark))
         → Visits (c ∷ []) values trail top result }
 {
     if free == 0 {

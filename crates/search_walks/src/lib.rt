@@ -1,4 +1,6 @@
 // One gate of a block, visited in its place: a chop's, a triple's, or that of a block of one line.
+#![tactic(auto)]
+
 ghost use Rattle.std.specs.Prelude.{◌≡◌, ◌^◌, ◌<◌};
 ghost use Rattle.interval.specs.Places.{count_of};
 ghost use Rattle.interval.specs.Rows.{RowsOf};
@@ -61,7 +63,7 @@ pub fn visit_cut(
 }
 
 // What the gate in a place of a block of one line goes by: its pattern, and its inputs; where it has fewer than two, its own variable.
-#[derive(Drop)]
+#[derive(Clone, Copy)]
 pub struct Inputs {
     pub gate: usize,
     pub x: u32,

@@ -9,7 +9,7 @@ use lib.ListN.{length, get_or, length-append, get_or-append}
 use lib.Seq.{get_or-append-add}
 use borrow.Author.Tests.{lt-ltb}
 use Rattle.lists.specs.Listing.{rows, tab, sum}
-use Rattle.lists.proofs.Listing.{length_tab, get_d_tab, length_rows, get_d_rows, sum_alike}
+use Rattle.lists.proofs.Listing.{length_tab, get_or_tab, length_rows, get_or_rows, sum_alike}
 use Rattle.refusal.specs.Asked.{AllYes}
 use Rattle.refusal.proofs.Laws.{one_yes}
 use Rattle.interval.specs.Limits.{max_steps}
@@ -75,11 +75,11 @@ module _ (k : ℕ) (recording : List ℕ) (h : k ≤ max_steps) where
   column_at C c t a b =
       ap (λ (n : ℕ). get_or (strip_of C k recording) (n + (sum (λ c. line_bytes) c + suc (suc t))) 0) (sym (line_length Ruler))
       ∙ get_or-append-add (line_of k recording Ruler) _ (sum (λ c. line_bytes) c + suc (suc t)) 0
-      ∙ get_d_rows (λ c. line_of k recording (Channel c)) (λ c. line_bytes) (λ c. line_length (Channel c)) C c (suc (suc t)) 0 a (omega arith)
+      ∙ get_or_rows (λ c. line_of k recording (Channel c)) (λ c. line_bytes) (λ c. line_length (Channel c)) C c (suc (suc t)) 0 a (omega arith)
       ∙ get_or-append (shown (Channel c)) (line_feed ∷ []) 0 (suc (suc t)) (omega (arith, shown_length (Channel c)))
       ∙ get_or-append (letter_of (Channel c) ∷ blank ∷ tab max_steps (column_of k recording (Channel c))) (blank ∷ count_of k recording (Channel c)) 0 (suc (suc t))
       (omega (arith, length_tab max_steps (column_of k recording (Channel c))))
-      ∙ get_d_tab max_steps (column_of k recording (Channel c)) t 0 (omega arith) ∙ rw (lt-ltb t k b) refl
+      ∙ get_or_tab max_steps (column_of k recording (Channel c)) t 0 (omega arith) ∙ rw (lt-ltb t k b) refl
 
 glyph_tells : (a b : Bool) → cond a high low ≡ cond b high low → a ≡ b
 glyph_tells true true e = refl

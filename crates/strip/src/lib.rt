@@ -1,4 +1,6 @@
 // Document 02's C-11, a strip for the lab notebook: its lines, for code and definitions. No function.
+#![tactic(auto)]
+
 use interval::Interval;
 
 // The bytes of a line: a letter and a blank, a column for each of the most steps, a blank, three places of a count, a line feed.

@@ -1,7 +1,9 @@
 // A recording's strip for the lab notebook.
+#![tactic(auto)]
+
 ghost use Rattle.std.specs.Prelude.{◌≡◌, ◌+◌, ◌*◌, ◌≤◌, length};
 ghost use Rattle.std.proofs.lemmas.List.Edits.{sets};
-ghost use Rattle.moments.specs.Moments.{old, new, over};
+ghost use Rattle.moments.specs.Moments.{over};
 ghost use Rattle.refusal.specs.Asked.{asked};
 ghost use Rattle.interval.specs.Limits.{max_steps};
 ghost use Rattle.paper_grammar.specs.Limits.{max_channels};
@@ -16,7 +18,7 @@ use strip::{LINE_BYTES, Line};
 // Line n of the strip: a part that starts in its middle, handed on to be written.
 fn put_at(strip: &mut [u8], n: usize, recording: &[u8], line: Line)
     requires { ((n + 1) * line_bytes ≤ length strip.old) × (length recording.now ≤ max_steps) × OfStrip line }
-    ensures { new strip ≡ sets (old strip) (n * line_bytes) (line_of (length (old recording)) (old recording) line) }
+    ensures { strip.new ≡ sets strip.old (n * line_bytes) (line_of (length recording.now) recording.now line) }
 {
     let start = n * LINE_BYTES;
     let end = start + LINE_BYTES;
@@ -26,7 +28,7 @@ fn put_at(strip: &mut [u8], n: usize, recording: &[u8], line: Line)
 // The ruler, then a line for each channel.
 fn put_strip(strip: &mut [u8], recording: &[u8], channels: usize)
     requires { (channels ≤ max_channels) × (length recording.now ≤ max_steps) × ((channels + 1) * line_bytes ≤ length strip.old) }
-    ensures { new strip ≡ over (strip_of channels (length (old recording)) (old recording)) (old strip) }
+    ensures { strip.new ≡ over (strip_of channels (length recording.now) recording.now) strip.old }
 {
     put_at(strip, 0, recording, Line::Ruler);
     for channel in 0..channels {
@@ -36,7 +38,7 @@ fn put_strip(strip: &mut [u8], recording: &[u8], channels: usize)
 
 // Questions 1, 2, 10 and 11.
 fn ask_recorded(c: u32, k: u32, recording: &[u8]) -> Reply
-    ensures { result ≡ asked (recorded_questions c k (old recording)) Reply.No Reply.Yes }
+    ensures { result ≡ asked (recorded_questions c k recording.now) Reply.No Reply.Yes }
 {
     if let Reply::No(r) = formula_text::ask_channels(c) {
         return Reply::No(r);
@@ -52,7 +54,7 @@ fn ask_recorded(c: u32, k: u32, recording: &[u8]) -> Reply
 
 // Writes the strip of a recording of k steps of C channels: questions 1, 2, 10, 11 and 18.
 pub fn strip(c: u32, k: u32, recording: &[u8], strip: &mut [u8]) -> Printed
-    ensures { record { answer = result; strip = new strip } ≡ stripped c k (old recording) (old strip) }
+    ensures { record { answer = result; strip = strip.new } ≡ stripped c k recording.now strip.old }
 {
     if let Reply::No(r) = ask_recorded(c, k, recording) {
         return Printed::Refused(r);

@@ -1,6 +1,7 @@
 // A line of a recording's strip, written to the part of the strip that is its own.
+#![tactic(auto)]
+
 ghost use Rattle.std.specs.Prelude.{◌≡◌, cond, ◌+◌, ◌/◌, ◌%◌, ◌≤◌, ◌<◌, ltb, length};
-ghost use Rattle.moments.specs.Moments.{old, new};
 ghost use Rattle.lists.specs.Listing.{tab};
 ghost use Rattle.interval.specs.Limits.{max_steps};
 ghost use Rattle.paper_grammar.specs.Limits.{max_channels};
@@ -33,7 +34,7 @@ fn align(n: u32) -> [u8; 3]
 // How many instants are high on a channel.
 fn count(recording: &[u8], channel: usize) -> u32
     requires { (length recording.now ≤ max_steps) × (channel < max_channels) }
-    ensures { (result ≡ highs (channel_at (old recording) channel) 0 (length (old recording))) × (result ≤ max_steps) }
+    ensures { (result ≡ highs (channel_at recording.now channel) 0 (length recording.now)) × (result ≤ max_steps) }
 {
     let k = recording.len();
     let word = truth_word::word_of(recording, channel, k);
@@ -44,7 +45,7 @@ fn count(recording: &[u8], channel: usize) -> u32
 // A channel's count; blanks at the ruler's end.
 fn count_of(recording: &[u8], line: Line) -> [u8; 3]
     requires { (length recording.now ≤ max_steps) × OfStrip line }
-    ensures { result ≡ count_of (length (old recording)) (old recording) line }
+    ensures { result ≡ count_of (length recording.now) recording.now line }
 {
     match line {
         Line::Ruler => [BLANK; 3],
@@ -77,7 +78,7 @@ fn level(byte: u8, channel: usize) -> u8
 // What column t shows; from the recording's end on a blank.
 fn column(recording: &[u8], line: Line, t: usize) -> u8
     requires { OfStrip line }
-    ensures { result ≡ column_of (length (old recording)) (old recording) line t }
+    ensures { result ≡ column_of (length recording.now) recording.now line t }
 {
     if t >= recording.len() {
         return BLANK;
@@ -91,7 +92,7 @@ fn column(recording: &[u8], line: Line, t: usize) -> u8
 // The columns of a line, to all of their part.
 fn put_columns(columns: &mut [u8], recording: &[u8], line: Line)
     requires { OfStrip line }
-    ensures { new columns ≡ tab (length (old columns)) (column_of (length (old recording)) (old recording) line) }
+    ensures { columns.new ≡ tab (length columns.old) (column_of (length recording.now) recording.now line) }
 {
     for t in 0..columns.len() {
         columns[t] = column(recording, line, t);
@@ -101,7 +102,7 @@ fn put_columns(columns: &mut [u8], recording: &[u8], line: Line)
 // A line, to all of its part: what stands around the columns, then these.
 pub fn put_line(part: &mut [u8], recording: &[u8], line: Line)
     requires { (length part.old ≡ line_bytes) × (length recording.now ≤ max_steps) × OfStrip line }
-    ensures { new part ≡ line_of (length (old recording)) (old recording) line }
+    ensures { part.new ≡ line_of (length recording.now) recording.now line }
 {
     let count = count_of(recording, line);
     let end = 2 + Interval::MAX_STEPS;

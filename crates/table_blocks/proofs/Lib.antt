@@ -1,7 +1,7 @@
 -- The laws that others go by, with the file of each.
--- own-defined, chop-defined (Own): the walk of a block defines what document 01 lists.
--- next-placed (Positions): the next position has the next place.
--- throughout-empty, throughout-one, throughout-longer (Throughout): the gate of [S] on no step, on one, and on more.
+-- own_defined, chop_defined (Own): the walk of a block defines what document 01 lists.
+-- next_placed (Positions): the next position has the next place.
+-- throughout_empty, throughout_one, throughout_longer (Throughout): the gate of [S] on no step, on one, and on more.
 pub mod Rules
 pub mod Positions
 pub mod Heads

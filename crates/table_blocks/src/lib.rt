@@ -1,4 +1,6 @@
 // The blocks of a formula's variables as the code walks them: the gate at a position, the next position, and what gates weigh.
+#![tactic(auto)]
+
 ghost use Rattle.std.specs.Prelude.{◌≡◌, ◌+◌, ◌-◌, ◌^◌, ◌≤◌, ◌<◌};
 ghost use Rattle.interval.specs.Places.{count_of};
 ghost use Rattle.interval.specs.Rows.{RowsOf};
@@ -12,7 +14,7 @@ use interval::Interval;
 use paper_circuit::Gate;
 
 // What the gates of a block go by. A chop has two blocks: its intervals, and its triples, which cut an interval in two.
-#[derive(Drop)]
+#[derive(Clone, Copy)]
 pub enum Rule {
     Fixed(bool),
     Letter(u32),
@@ -27,7 +29,7 @@ pub enum Rule {
 
 // How the cells of a block stand: one line; lines of intervals by their starts; rows of triples by their starts, in lines by
 // their lengths.
-#[derive(Drop)]
+#[derive(Clone, Copy)]
 pub enum Form {
     Line,
     Intervals,
@@ -35,7 +37,7 @@ pub enum Form {
 }
 
 // Variables from `first` on; its parts' truth from `left` and from `right` on. A block of one line has as many as its points.
-#[derive(Drop)]
+#[derive(Clone, Copy)]
 pub struct Block {
     pub rule: Rule,
     pub points: u32,
@@ -46,7 +48,7 @@ pub struct Block {
 
 // Where a gate stands in its block: a duration's level, i and j - i of an interval; i, j - i and m - i of a triple; a place of a line.
 // The cells of its row before it count 1, 2, .. from each line's first on: as the intervals before an interval have triples.
-#[derive(Drop)]
+#[derive(Clone, Copy)]
 pub struct Position {
     pub row: u32,
     pub line: u32,

@@ -1,6 +1,8 @@
 // The clause table of a formula, written to lent arrays block by block.
+#![tactic(auto)]
+
 ghost use Rattle.std.specs.Prelude.{◌≡◌, ◌+◌, ◌≤◌, ◌<◌, length};
-ghost use Rattle.moments.specs.Moments.{old, new, over};
+ghost use Rattle.moments.specs.Moments.{over};
 ghost use Rattle.paper_grammar.specs.Limits.{max_nodes, max_channels};
 ghost use Rattle.interval.specs.Limits.{max_steps};
 ghost use Rattle.interval.specs.Rows.{RowsOf};
@@ -32,7 +34,7 @@ fn put_nodes(
 ) -> usize
     requires room { Room variables.old marks.old 0 (nodes_places c k table firsts.now) }
     requires c_le_max_channels { (c ≤ max_channels) × (k ≤ max_steps) × (table.count ≤ max_nodes) × Low firsts.now × RowsOf k rows.now }
-    ensures { Writes variables marks 0 (nodes_places c k table (old firsts)) result }
+    ensures { Writes variables marks 0 (nodes_places c k table firsts.now) result }
 {
     let mut at = 0;
     for x in 0..table.count {
@@ -60,7 +62,7 @@ fn put_table(
 ) -> usize
     requires room { Room variables.old marks.old 0 (table_places c k table firsts.now) }
     requires c_le_max_channels { (c ≤ max_channels) × (k ≤ max_steps) × (table.count ≤ max_nodes) × Low firsts.now }
-    ensures { Writes variables marks 0 (table_places c k table (old firsts)) result }
+    ensures { Writes variables marks 0 (table_places c k table firsts.now) result }
 {
     let mut rows = [0; Interval::MAX_ROWS];
     Interval::put_rows(&mut rows, k);
@@ -80,7 +82,7 @@ pub fn ask_room(literals: u32, sizes: usize, variables: usize, marks: usize) -> 
 // The five sizes.
 pub fn put_sizes(sizes: &mut [u32], s: Sizes)
     requires { 5 ≤ length sizes.old }
-    ensures { new sizes ≡ over (five_of s) (old sizes) }
+    ensures { sizes.new ≡ over (five_of s) sizes.old }
 {
     table_literals::put_numbers(
         sizes,
@@ -99,7 +101,7 @@ fn write_table(
     marks: &mut [u8],
 ) -> Written
     requires { (c ≤ max_channels) × (k ≤ max_steps) × (table.count ≤ max_nodes) }
-    ensures { (f : Tree Formula) → table ≡ node_table_of f → left result sizes variables marks ≡ tabled_by c k f (old sizes) (old variables) (old marks) }
+    ensures { (f : Tree Formula) → table ≡ node_table_of f → left result sizes variables marks ≡ tabled_by c k f sizes.old variables.old marks.old }
 {
     let layout = table_layout::layout_of(table, c, k);
     let s = layout.sizes;
@@ -120,7 +122,7 @@ pub fn table(
     variables: &mut [u32],
     marks: &mut [u8],
 ) -> Written
-    ensures { left result sizes variables marks ≡ tabled c k (old text) (old sizes) (old variables) (old marks) }
+    ensures { left result sizes variables marks ≡ tabled c k text.now sizes.old variables.old marks.old }
 {
     let tabled = node_calls::node_table(text, c, k);
     let reply = tabled.reply;

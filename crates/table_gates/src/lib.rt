@@ -1,4 +1,6 @@
 // The clauses of a gate, written to a table in memory: its Tseitin encoding, both sides of the equivalence.
+#![tactic(auto)]
+
 ghost use Rattle.paper_clauses.specs.Clauses.{clauses_of};
 ghost use Rattle.paper_clauses.specs.Entries.{flat};
 ghost use Rattle.table_literals.specs.Written.{Room};

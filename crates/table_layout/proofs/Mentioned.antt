@@ -7,7 +7,7 @@ use Prim.Native.Nat.{ℕ, ◌+◌, ◌<◌}
 use native.Mathlib.Omega.{arith}
 use lib.ListN.{length, length-map}
 use Rattle.lists.specs.Listing.{rows, tab, sum, All}
-use Rattle.lists.proofs.Listing.{sum_lt, length_rows, get_d_rows, length_tab, get_d_tab}
+use Rattle.lists.proofs.Listing.{sum_lt, length_rows, get_or_rows, length_tab, get_or_tab}
 use Rattle.paper_grammar.specs.Trees.{Tree, Letters}
 use Rattle.paper_grammar.specs.declared.Sort.TheVariants.{Formula}
 use Rattle.paper_grammar.specs.Nodes.{Node, nodes_of}
@@ -31,7 +31,7 @@ use Rattle.table_layout.proofs.Known.{known, variables_known}
 pub row_mentioned : (D : ℕ → List Definition) {n x : ℕ} → x < n → {l : ℕ} → AllMentioned l (rows n D) → AllMentioned l (D x)
 row_mentioned D {n} {x} h {l} a y g =
     let w : ℕ → ℕ = λ i. length (D i) in
-    subst (Mentioned l) (get_d_rows D w (λ i. refl) n x y (define 0 (Constant false)) h g) (a (sum w x + y) (omega (arith, length_rows D w (λ i. refl) n, sum_lt w n x y h g)))
+    subst (Mentioned l) (get_or_rows D w (λ i. refl) n x y (define 0 (Constant false)) h g) (a (sum w x + y) (omega (arith, length_rows D w (λ i. refl) n, sum_lt w n x y h g)))
 
 inputs_in : (n : ℕ) (g : Gate) → All (From 1 n) (inputs_of g) → InputsIn n g
 unfolding inputs_of
@@ -41,7 +41,7 @@ inputs_in n (Inverse x) a = omega (arith, a.0)
 inputs_in n (Both x y) a = (omega (arith, a.0), omega (arith, a.1.0))
 inputs_in n (Either x y) a = (omega (arith, a.0), omega (arith, a.1.0))
 inputs_in n (AnyOf w m) a = λ e h.
-    let f = subst (From 1 n) (get_d_tab m (λ e. w + e) e 0 h) (all_at (From 1 n) (tab m (λ e. w + e)) 0 a e (omega (arith, length_tab m (λ e. w + e)))) in omega arith
+    let f = subst (From 1 n) (get_or_tab m (λ e. w + e) e 0 h) (all_at (From 1 n) (tab m (λ e. w + e)) 0 a e (omega (arith, length_tab m (λ e. w + e)))) in omega arith
 inputs_in n (Step p q s) a = (omega (arith, a.0), omega (arith, a.1.0), omega (arith, a.1.1.0))
 
 module _ (C k : ℕ) (f : Tree Formula) where

@@ -1,6 +1,7 @@
 // How a formula's clause table is laid out, by its node table: its sizes, each node's first variable, and each node's block.
+#![tactic(auto)]
+
 ghost use Rattle.std.specs.Prelude.{◌≡◌, ℕ, ◌+◌, ◌≤◌, ◌<◌, length, get_or};
-ghost use Rattle.moments.specs.Moments.{old, new};
 ghost use Rattle.interval.specs.Limits.{max_steps};
 ghost use Rattle.paper_grammar.specs.Limits.{max_nodes, max_channels};
 ghost use Rattle.table_blocks.specs.Blocks.{bound};
@@ -13,7 +14,7 @@ use paper_grammar::MAX_NODES;
 use table_blocks::Block;
 
 // C, k, V, M and L.
-#[derive(Drop)]
+#[derive(Clone, Copy)]
 pub struct Sizes {
     pub channels: u32,
     pub steps: u32,
@@ -23,7 +24,7 @@ pub struct Sizes {
 }
 
 // A formula's sizes, and the first variable of each node.
-#[derive(Drop)]
+#[derive(Clone, Copy)]
 pub struct Layout {
     pub sizes: Sizes,
     pub firsts: [u32; MAX_NODES],
@@ -31,7 +32,7 @@ pub struct Layout {
 
 // The number at a place, and 0 past the end.
 pub fn number_at(numbers: &[u32], at: usize) -> u32
-    ensures { result ≡ get_or (old numbers) at 0 }
+    ensures { result ≡ get_or numbers.now at 0 }
 {
     if at < numbers.len() { numbers[at] } else { 0 }
 }
@@ -45,7 +46,7 @@ pub fn seat<'a>(
     y: usize,
 ) -> u32
     requires { (k ≤ max_steps) × Low firsts.now }
-    ensures { (result ≡ seat_by (old kinds) (old numbers) (old firsts) k y) × (result < bound) }
+    ensures { (result ≡ seat_by kinds.now numbers.now firsts.now k y) × (result < bound) }
 {
     let first = number_at(firsts, y);
     if node_rows::byte_at(kinds, y) == node_rows::FORMULA_DURATION {
@@ -64,7 +65,7 @@ pub fn put_seats<'a>(
     seats: &mut [u32; MAX_NODES],
 )
     requires { (k ≤ max_steps) × Low firsts.now × (length seats.old ≡ max_nodes) }
-    ensures { Seated (old kinds) (old numbers) (old firsts) k (new seats) max_nodes }
+    ensures { Seated kinds.now numbers.now firsts.now k seats.new max_nodes }
 {
     for y in 0..MAX_NODES {
         seats[y] = seat(kinds, numbers, firsts, k, y);
@@ -81,7 +82,7 @@ pub fn block_at<'a>(
     x: usize,
 ) -> Block
     requires { (k ≤ max_steps) × (x < max_nodes) × Low firsts.now }
-    ensures value { result ≡ block_by (old kinds) (old numbers) (old sizes) (old firsts) k x }
+    ensures value { result ≡ block_by kinds.now numbers.now sizes.now firsts.now k x }
     ensures by_index { (c : ℕ) → c ≤ max_channels → Fine c k result }
 {
     let kind = node_rows::byte_at(kinds, x);
@@ -106,7 +107,7 @@ fn sizes_of<'a>(
     firsts: &mut [u32; MAX_NODES],
 ) -> Sizes
     requires { (c ≤ max_channels) × (k ≤ max_steps) × (count ≤ max_nodes) × (length firsts.old ≡ max_nodes) × Low firsts.old }
-    ensures { Measured c k (old kinds) (old numbers) count (new firsts) result }
+    ensures { Measured c k kinds.now numbers.now count firsts.new result }
 {
     let clauses = table_sizes::sums(kinds, numbers, count, k, table_sizes::clauses(), 1, firsts);
     let literals = table_sizes::sums(kinds, numbers, count, k, table_sizes::literals(), 1, firsts);

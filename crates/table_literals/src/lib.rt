@@ -1,7 +1,8 @@
 // Literals written to a table in memory: two parallel arrays, variable numbers and marks.
+#![tactic(auto)]
+
 ghost use Rattle.std.specs.Prelude.{◌≡◌, List, ◌+◌, ◌≤◌, length};
 ghost use Rattle.std.proofs.lemmas.List.Edits.{sets};
-ghost use Rattle.moments.specs.Moments.{old, new};
 ghost use Rattle.lists.specs.Listing.{rows};
 ghost use Rattle.paper_clauses.specs.Entries.{Entry, variables_in, marks_in, flat};
 ghost use Rattle.paper_circuit.specs.declared.Gate.TheVariants.{AnyOf};
@@ -15,7 +16,7 @@ use paper_clauses::{LAST_NEGATED, LAST_PLAIN, NEGATED, PLAIN};
 // Stores numbers from a place on.
 pub fn put_numbers(variables: &mut [u32], at: usize, more: &[u32])
     requires { at + length more.now ≤ length variables.old }
-    ensures { new variables ≡ sets (old variables) at (old more) }
+    ensures { variables.new ≡ sets variables.old at more.now }
 {
     for e in 0..more.len() {
         variables[at + e] = more[e];
@@ -25,7 +26,7 @@ pub fn put_numbers(variables: &mut [u32], at: usize, more: &[u32])
 // Stores bytes from a place on.
 pub fn put_bytes(bytes: &mut [u8], at: usize, more: &[u8])
     requires { at + length more.now ≤ length bytes.old }
-    ensures { new bytes ≡ sets (old bytes) at (old more) }
+    ensures { bytes.new ≡ sets bytes.old at more.now }
 {
     for e in 0..more.len() {
         bytes[at + e] = more[e];
@@ -35,7 +36,7 @@ pub fn put_bytes(bytes: &mut [u8], at: usize, more: &[u8])
 // Numbers and their marks, from a place on; the place after them. The numbers go before the marks, so that each are stored together.
 pub fn put(variables: &mut [u32], marks: &mut [u8], at: usize, n: &[u32], m: &[u8]) -> usize
     requires { (at + length n.now ≤ length variables.old) × (at + length m.now ≤ length marks.old) }
-    ensures { (F : List Entry) → variables_in F ≡ old n → marks_in F ≡ old m → Writes variables marks at F result }
+    ensures { (F : List Entry) → variables_in F ≡ n.now → marks_in F ≡ m.now → Writes variables marks at F result }
 {
     put_numbers(variables, at, n);
     put_bytes(marks, at, m);

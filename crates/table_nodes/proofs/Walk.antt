@@ -12,7 +12,7 @@ use Rattle.interval.specs.Limits.{max_steps, max_count}
 use Rattle.interval.specs.Places.{count_of, triple_count_of}
 use Rattle.interval.specs.Rows.{RowsOf}
 use Rattle.interval.specs.declared.Triple.{Triple}
-use Rattle.interval.proofs.Shape.{place, get_d_per}
+use Rattle.interval.proofs.Shape.{place, get_or_per}
 use Rattle.interval.proofs.Counts.{triple_count_le}
 use Rattle.interval.proofs.Laws.{triples_numbered}
 use Rattle.paper_circuit.specs.Circuit.{Definition, define}
@@ -134,7 +134,7 @@ module _ (C k : ℕ) (block : Block) {x a i d : ℕ} (p : Placed block.points k 
       let s = shape_of block.points k block.rule in
       let at = p.at in
       ap (definition_in (defined_by C k block)) at
-      ∙ get_d_per s (λ e. define (block.first + place s e) (gate_of C k block (place s e) e.0 e.1.0 e.1.1)) (a, (i, d)) (define 0 (Constant false)) p.inside
+      ∙ get_or_per s (λ e. define (block.first + place s e) (gate_of C k block (place s e) e.0 e.1.0 e.1.1)) (a, (i, d)) (define 0 (Constant false)) p.inside
       ∙ ap₂ (λ (y : ℕ) (g : Gate). define (block.first + y) g) (sym at) (ap (λ (y : ℕ). gate_of C k block y a i d) (sym at) ∙ sym g)
 
   pub defined_at : Bounded C k block → DefinedAt C k block x gate

@@ -1,4 +1,6 @@
 // The clauses of a node's blocks, written position after position to a table in memory.
+#![tactic(auto)]
+
 pub mod cursor;
 
 ghost use Rattle.std.specs.Prelude.{◌≡◌, ◌+◌, ◌≤◌};

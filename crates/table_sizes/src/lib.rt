@@ -1,6 +1,7 @@
 // What gates weigh: how many variables, clauses and literals the blocks of a formula have.
+#![tactic(auto)]
+
 ghost use Rattle.std.specs.Prelude.{◌≡◌, ◌≤◌, ◌*◌, ◌^◌, length};
-ghost use Rattle.moments.specs.Moments.{old, new};
 ghost use Rattle.interval.specs.Limits.{max_steps, max_count};
 ghost use Rattle.interval.specs.Places.{count_of};
 ghost use Rattle.paper_grammar.specs.Limits.{max_nodes};
@@ -12,7 +13,7 @@ use paper_grammar::MAX_NODES;
 use table_blocks::Rule;
 
 // What gates count: of a copy or an inverse, for each input of the others, and of a step.
-#[derive(Drop)]
+#[derive(Clone, Copy)]
 pub struct Weight {
     pub copy: u32,
     pub each: u32,
@@ -116,7 +117,7 @@ pub fn sums<'a>(
 ) -> u32
     requires small { Small w k }
     requires count_le_max_nodes { (count ≤ max_nodes) × (start ≤ 2 ^ 20) × (length out.old ≡ max_nodes) }
-    ensures { Summed w k (old kinds) (old numbers) start count (old out) (new out) result }
+    ensures { Summed w k kinds.now numbers.now start count out.old out.new result }
 {
     let mut total = start;
     for x in 0..count {

@@ -1,6 +1,7 @@
 // Whether a recording satisfies a formula on [i, j]: the questions, and the truth that the formula's table has there.
+#![tactic(auto)]
+
 ghost use Rattle.std.specs.Prelude.{◌≡◌, ◌≤◌, length};
-ghost use Rattle.moments.specs.Moments.{old};
 ghost use Rattle.interval.specs.Limits.{max_steps, IntervalOf};
 ghost use Rattle.paper_grammar.specs.Limits.{max_channels};
 ghost use Rattle.paper_grammar.specs.declared.Sort.TheVariants.{Formula};
@@ -23,7 +24,7 @@ pub enum Verdict {
 // The formula's truth on an interval, from its node table.
 fn holds_on(table: NodeTable, recording: &[u8], v: Interval) -> bool
     requires { (length recording.now ≤ max_steps) × IntervalOf (length recording.now) v }
-    ensures { AtRow (old recording) table.kinds table.numbers table.sizes Formula 0 (λ f. result ≡ f v) }
+    ensures { AtRow recording.now table.kinds table.numbers table.sizes Formula 0 (λ f. result ≡ f v) }
 {
     let k = recording.len() as u32;
     let mut rows = [0; Interval::MAX_ROWS];
@@ -42,7 +43,7 @@ fn holds_on(table: NodeTable, recording: &[u8], v: Interval) -> bool
 // What an accepted formula and an interval answer: questions 10 and 11, then the truth. Only a recording of k bytes is asked the last.
 fn verdict_on(table: NodeTable, c: u32, k: u32, recording: &[u8], v: Interval) -> Verdict
     requires { (c ≤ max_channels) × (k ≤ max_steps) × IntervalOf k v }
-    ensures { AtRow (old recording) table.kinds table.numbers table.sizes Formula 0 (λ f. result ≡ judged c k (old recording) (f v)) }
+    ensures { AtRow recording.now table.kinds table.numbers table.sizes Formula 0 (λ f. result ≡ judged c k recording.now (f v)) }
 {
     if let Reply::No(r) = recording_questions::ask_recording(k, recording) {
         return Verdict::Refused(r);
@@ -59,7 +60,7 @@ fn verdict_on(table: NodeTable, c: u32, k: u32, recording: &[u8], v: Interval) -
 
 // Whether the recording satisfies the formula on [i, j].
 pub fn evaluate(text: &[u8], c: u32, k: u32, i: u32, j: u32, recording: &[u8]) -> Verdict
-    ensures { result ≡ evaluated c k i j (old text) (old recording) }
+    ensures { result ≡ evaluated c k i j text.now recording.now }
 {
     let tabled = node_calls::node_table(text, c, k);
     let reply = tabled.reply;

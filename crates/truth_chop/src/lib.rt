@@ -1,7 +1,8 @@
 // The table of a chop, from those of its parts: rows of Q's table are added to rows of the chop's, and those that add nothing skipped.
+#![tactic(auto)]
+
 ghost use Rattle.std.specs.Prelude.{◌≡◌, Bool, ℕ, suc, ◌-◌, ◌≤◌, ◌<◌, length, get_or};
 ghost use Rattle.std.specs.Int.Bits.{bit_or};
-ghost use Rattle.moments.specs.Moments.{old, new};
 ghost use Rattle.interval.specs.Limits.{max_steps};
 ghost use Rattle.interval.specs.Places.{count_of};
 ghost use Rattle.interval.specs.Rows.{start_of, RowsOf};
@@ -16,7 +17,7 @@ use interval::Interval;
 // Each byte of `from` onto that of `row`.
 fn or_onto(row: &mut [u8], from: &[u8])
     requires { length row.old ≡ length from.now }
-    ensures { (d : ℕ) → d < length (old row) → get_or (new row) d 0 ≡ bit_or (get_or (old row) d 0) (get_or (old from) d 0) }
+    ensures { (d : ℕ) → d < length row.old → get_or row.new d 0 ≡ bit_or (get_or row.old d 0) (get_or from.now d 0) }
 {
     for d in 0..from.len() {
         row[d] |= from[d];
@@ -36,7 +37,7 @@ fn chop_row(
 )
     requires k_le_max_steps { (k ≤ max_steps) × (i ≤ k) × (start ≡ start_of k i) × (length row.old ≡ suc k - i) × AllZero row.old }
     requires k_in_bounds { (count_of k ≤ length p.now) × (count_of k ≤ length q.now) × NextRows k nexts.now × RowsOf k rows.now }
-    ensures { (f g : Interval → Bool) → TableOf k f (old p) → TableOf k g (old q) → Within k g (old nexts) → RowOf i (chops f g) (new row) }
+    ensures { (f g : Interval → Bool) → TableOf k f p.now → TableOf k g q.now → Within k g nexts.now → RowOf i (chops f g) row.new }
 {
     let mut d = 0;
     while d < row.len() {
@@ -60,7 +61,7 @@ pub fn chop_table(
     k: usize,
 ) -> [u8; Interval::MAX_COUNT]
     requires { (k ≤ max_steps) × RowsOf k rows.now }
-    ensures { (f g : Interval → Bool) → TableOf k f (old p) → TableOf k g (old q) → TableOf k (chops f g) result }
+    ensures { (f g : Interval → Bool) → TableOf k f p.now → TableOf k g q.now → TableOf k (chops f g) result }
 {
     let nexts = truth_skips::next_rows(q, rows, k);
     let mut t = truth_table::all_of(0);

@@ -1,6 +1,7 @@
 // A word for each state assertion and a table for each formula, from the parts up.
+#![tactic(auto)]
+
 ghost use Rattle.std.specs.Prelude.{◌≤◌, length};
-ghost use Rattle.moments.specs.Moments.{old};
 ghost use Rattle.interval.specs.Limits.{max_steps};
 ghost use Rattle.interval.specs.Rows.{RowsOf};
 ghost use Rattle.paper_grammar.specs.declared.Sort.TheVariants.{State, Formula};
@@ -23,7 +24,7 @@ fn word_at<'a>(
     x: usize,
 ) -> u32
     requires { length recording.now ≤ max_steps }
-    ensures { AtRow (old recording) (old kinds) (old numbers) (old sizes) State x (λ f. WordOf (length (old recording)) f result) }
+    ensures { AtRow recording.now kinds.now numbers.now sizes.now State x (λ f. WordOf (length recording.now) f result) }
 {
     let kind = byte_at(kinds, x);
     match kind {
@@ -54,7 +55,7 @@ pub fn table_at<'a>(
     x: usize,
 ) -> [u8; Interval::MAX_COUNT]
     requires { (length recording.now ≤ max_steps) × RowsOf (length recording.now) rows.now }
-    ensures { AtRow (old recording) (old kinds) (old numbers) (old sizes) Formula x (λ f. TableOf (length (old recording)) f result) }
+    ensures { AtRow recording.now kinds.now numbers.now sizes.now Formula x (λ f. TableOf (length recording.now) f result) }
 {
     let k = recording.len();
     let kind = byte_at(kinds, x) % node_rows::FORMULA;

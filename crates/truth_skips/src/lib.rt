@@ -1,7 +1,8 @@
 // Which rows of Q's table a chop can skip: those that are within one before them.
+#![tactic(auto)]
+
 ghost use Rattle.std.specs.Prelude.{◌≡◌, Bool, cond, ℕ, ◌≤◌, ◌<◌, eqb, length, get_or};
 ghost use Rattle.std.specs.Int.Bits.{bit_and, bit_xor};
-ghost use Rattle.moments.specs.Moments.{old};
 ghost use Rattle.interval.specs.Limits.{max_steps};
 ghost use Rattle.interval.specs.Places.{count_of};
 ghost use Rattle.interval.specs.Rows.{RowsOf};
@@ -14,7 +15,7 @@ use interval::Interval;
 // What a row has that another lacks: 0 for nothing.
 fn beyond(row: &[u8], other: &[u8]) -> u8
     requires { length row.now ≡ length other.now }
-    ensures { result ≡ 0 → (d : ℕ) → d < length (old row) → bit_and (get_or (old row) d 0) (bit_xor (get_or (old other) d 0) 1) ≡ 0 }
+    ensures { result ≡ 0 → (d : ℕ) → d < length row.now → bit_and (get_or row.now d 0) (bit_xor (get_or other.now d 0) 1) ≡ 0 }
 {
     let mut more: u8 = 0;
     for d in 0..row.len() {
@@ -33,7 +34,7 @@ fn next_row(more: u8, m: usize, later: usize) -> usize
 // For each row of Q's table a later one, such that those between are within it: k + 1 where all that follow are.
 pub fn next_rows(q: &[u8], rows: &[u32], k: usize) -> [usize; Interval::MAX_ENDS]
     requires { (k ≤ max_steps) × (count_of k ≤ length q.now) × RowsOf k rows.now }
-    ensures { NextRows k result × ((g : Interval → Bool) → TableOf k g (old q) → Within k g result) }
+    ensures { NextRows k result × ((g : Interval → Bool) → TableOf k g q.now → Within k g result) }
 {
     let mut nexts = [k + 1; Interval::MAX_ENDS];
     let mut m = k;

@@ -1,6 +1,7 @@
 // The truth of a formula on every interval of k steps: an array by value, a row for each start, filled from its parts.
+#![tactic(auto)]
+
 ghost use Rattle.std.specs.Prelude.{◌≡◌, Bool, not, ℕ, suc, ◌+◌, ◌≤◌, length, replicate};
-ghost use Rattle.moments.specs.Moments.{old, new};
 ghost use Rattle.interval.specs.Limits.{max_steps, max_count};
 ghost use Rattle.interval.specs.Places.{count_of};
 ghost use Rattle.interval.specs.Rows.{RowsOf};
@@ -13,7 +14,7 @@ use interval::Interval;
 
 // What is asked of a state assertion S on an interval: `#S>=n`, that it is true at n of its instants or more; `[S]`, at every one,
 // of at least one.
-#[derive(Drop)]
+#[derive(Clone, Copy)]
 pub enum Measure {
     AtLeast(u8),
     Throughout,
@@ -78,7 +79,7 @@ fn measured_row(
     i: usize,
 )
     requires { (i + length row.old ≤ suc max_steps) × Lows lows.now }
-    ensures { RowOf i (measured measure (bit_at word)) (new row) }
+    ensures { RowOf i (measured measure (bit_at word)) row.new }
 {
     for d in 0..row.len() {
         row[d] = measured_on(measure, lows, word, i, i + d);
@@ -104,7 +105,7 @@ pub fn measured_table(measure: Measure, word: u32, k: usize) -> [u8; Interval::M
 // The table of `!`, in the place of its part's.
 pub fn inverse(p: &mut [u8], rows: &[u32], k: usize)
     requires { (k ≤ max_steps) × (count_of k ≤ length p.old) × RowsOf k rows.now }
-    ensures { (f : Interval → Bool) → TableOf k f (old p) → TableOf k (λ v. not (f v)) (new p) }
+    ensures { (f : Interval → Bool) → TableOf k f p.old → TableOf k (λ v. not (f v)) p.new }
 {
     for x in 0..Interval::all(rows, k as u32) as usize {
         p[x] ^= 1;
@@ -121,7 +122,7 @@ pub fn joined_byte(both: bool, a: u8, b: u8) -> u8
 // The table of `&`, where `both`, or of `|`, from those of its parts, in the place of the first.
 pub fn join(both: bool, p: &mut [u8], q: &[u8], rows: &[u32], k: usize)
     requires { (k ≤ max_steps) × (count_of k ≤ length p.old) × (count_of k ≤ length q.now) × RowsOf k rows.now }
-    ensures { (f g : Interval → Bool) → TableOf k f (old p) → TableOf k g (old q) → TableOf k (λ v. joined both (f v) (g v)) (new p) }
+    ensures { (f g : Interval → Bool) → TableOf k f p.old → TableOf k g q.now → TableOf k (λ v. joined both (f v) (g v)) p.new }
 {
     for x in 0..Interval::all(rows, k as u32) as usize {
         p[x] = joined_byte(both, p[x], q[x]);

@@ -1,6 +1,7 @@
 // A state assertion's truth at the instants of a recording as one word, instant t in bit t, so that a duration is a count of ones.
+#![tactic(auto)]
+
 ghost use Rattle.std.specs.Prelude.{◌≡◌, Bool, not, ℕ, ◌-◌, ◌^◌, ◌≤◌, ◌<◌, length};
-ghost use Rattle.moments.specs.Moments.{old};
 ghost use Rattle.interval.specs.Limits.{max_steps};
 ghost use Rattle.paper_grammar.specs.Limits.{max_channels};
 ghost use Rattle.paper_meaning.specs.Meaning.{bit, bit_at, channel_at, highs};
@@ -58,7 +59,7 @@ pub fn bit_of(byte: u8, c: usize) -> u8
 // Bit c of each of k bytes as one word: a letter's, by its channel, from a recording; by bit 0 that of truths kept as bytes, 0 or 1.
 pub fn word_of(bytes: &[u8], c: usize, k: usize) -> u32
     requires { (k ≤ length bytes.now) × (k ≤ max_steps) × (c < max_channels) }
-    ensures { WordOf k (channel_at (old bytes) c) result }
+    ensures { WordOf k (channel_at bytes.now c) result }
 {
     let mut word: u32 = 0;
     for t in 0..k {

@@ -1,7 +1,8 @@
 // The calls for C, on numbers and slices. Each answers with one number: its low half says what, its high half the place or the
 // value; include/tuvenikar.h has the same for C.
+#![tactic(auto)]
+
 ghost use Rattle.std.specs.Prelude.{◌≡◌, [], ◌∷◌};
-ghost use Rattle.moments.specs.Moments.{old, new};
 ghost use Rattle.truth_calls.specs.Evaluation.{evaluated};
 ghost use Rattle.node_calls.specs.Calls.{node_place_of};
 ghost use Rattle.table_calls.specs.Table.{tabled};
@@ -17,7 +18,7 @@ use table_layout::Sizes;
 // Whether the recording satisfies the formula on [i, j]: questions 1 to 7 and 9 to 11.
 #[unsafe(no_mangle)]
 pub extern "C" fn tuv_evaluate(text: &[u8], c: u32, k: u32, i: u32, j: u32, recording: &[u8]) -> u64
-    ensures { result ≡ pack_verdict (evaluated c k i j (old text) (old recording)) }
+    ensures { result ≡ pack_verdict (evaluated c k i j text.now recording.now) }
 {
     answers::pack_verdict(truth_calls::evaluate(text, c, k, i, j, recording))
 }
@@ -25,7 +26,7 @@ pub extern "C" fn tuv_evaluate(text: &[u8], c: u32, k: u32, i: u32, j: u32, reco
 // Where a node's own text is in the lent text: questions 1 to 8.
 #[unsafe(no_mangle)]
 pub extern "C" fn tuv_node_text(text: &[u8], c: u32, k: u32, node: u32) -> u64
-    ensures { result ≡ pack_located (node_place_of c k node (old text)) }
+    ensures { result ≡ pack_located (node_place_of c k node text.now) }
 {
     answers::pack_located(node_calls::node_place(text, c, k, node))
 }
@@ -40,7 +41,7 @@ pub extern "C" fn tuv_table(
     variables: &mut [u32],
     marks: &mut [u8],
 ) -> u64
-    ensures { TableLeft (tabled c k (old text) (old sizes) (old variables) (old marks)) result (new sizes) (new variables) (new marks) }
+    ensures { TableLeft (tabled c k text.now sizes.old variables.old marks.old) result sizes.new variables.new marks.new }
 {
     answers::pack_written(table_calls::table(text, c, k, sizes, variables, marks))
 }
@@ -54,7 +55,7 @@ pub extern "C" fn tuv_extend(
     recording: &[u8],
     assignment: &mut [u8],
 ) -> u64
-    ensures { AssignmentLeft (extended c k (old text) (old recording) (old assignment)) result (new assignment) }
+    ensures { AssignmentLeft (extended c k text.now recording.now assignment.old) result assignment.new }
 {
     answers::pack_written(extend_calls::extend(text, c, k, recording, assignment))
 }
@@ -68,7 +69,7 @@ pub extern "C" fn tuv_check(
     assignment: &[u8],
     recording: &mut [u8],
 ) -> u64
-    ensures { RecordingLeft (proposed c k (old text) (old assignment) (old recording)) result (new recording) }
+    ensures { RecordingLeft (proposed c k text.now assignment.now recording.old) result recording.new }
 {
     answers::pack_checked(check_calls::check(text, c, k, assignment, recording))
 }
@@ -86,7 +87,7 @@ pub extern "C" fn tuv_search(
     trail: &mut [u32],
     recording: &mut [u8],
 ) -> u64
-    ensures { let before = arrays (old variables) (old marks) (old values) (old trail) (old recording) in
+    ensures { let before = arrays variables.old marks.old values.old trail.old recording.old in
         let after = arrays (new variables) (new marks) (new values) (new trail) (new recording) in
         SearchLeft (searchedWith c k (old text) limit before) result before after }
 {
@@ -98,7 +99,7 @@ pub extern "C" fn tuv_search(
 // A recording's strip for the lab notebook: questions 1, 2, 10, 11 and 18.
 #[unsafe(no_mangle)]
 pub extern "C" fn tuv_strip(c: u32, k: u32, recording: &[u8], strip: &mut [u8]) -> u64
-    ensures { StripLeft (stripped c k (old recording) (old strip)) result (new strip) }
+    ensures { StripLeft (stripped c k recording.now strip.old) result strip.new }
 {
     answers::pack_printed(strip_calls::strip(c, k, recording, strip))
 }
@@ -115,7 +116,7 @@ pub extern "C" fn tuv_write_file(
     marks: &[u8],
     file: &mut [u8],
 ) -> u64
-    ensures { FileLeft (file_written (sizes_by (c ∷ k ∷ v ∷ m ∷ l ∷ [])) (old variables) (old marks) (old file)) result (new file) }
+    ensures { FileLeft (file_written (sizes_by (c ∷ k ∷ v ∷ m ∷ l ∷ [])) variables.now marks.now file.old) result file.new }
 {
     let s = Sizes {
         channels: c,
@@ -135,7 +136,7 @@ pub extern "C" fn tuv_read_file(
     variables: &mut [u32],
     marks: &mut [u8],
 ) -> u64
-    ensures { TableLeft (file_read (old file) (old sizes) (old variables) (old marks)) result (new sizes) (new variables) (new marks) }
+    ensures { TableLeft (file_read file.now sizes.old variables.old marks.old) result sizes.new variables.new marks.new }
 {
     answers::pack_written(file_calls::read(file, sizes, variables, marks))
 }

@@ -1,19 +1,14 @@
 -- Where the last row ends, as many intervals stand before
 -- as there are.
 use native.Mathlib.Omega.{arith}
-use borrow.Author.Rules.{rules}
 use Prim.Native.Nat.{◌+◌}
 use native.Mathlib.Numerals.{add-one}
 use mathlib.Core.Path.{ap}
 use Rattle.interval.specs.Rows.{start_of}
 use Rattle.interval.proofs.Counts.{intervals_count, few_intervals}
-use Rattle.interval.proofs.Interval.all.Statement.{statement}
-use Rattle.interval.proofs.Interval.all.Tie as tie
+use Rattle.interval.proofs.Interval.all.Goals as goal
 
-returns : tie.Need-returns
+pub returns : goal.returns
 returns c =
-    let s = c.before in let k = s.args.k in
+    let s = c in let k = s.args.k in
     omega (arith, s.requires.1.at (k + 1) (omega arith), ap (start_of k) (add-one k), intervals_count k, few_intervals k s.requires.0)
-
-pub all-spec : {M : Type 1} → statement M
-all-spec = tie.close (tie.spec (λ c. search rules) (λ c. search rules) (λ c. search rules) returns)

@@ -2,26 +2,21 @@
 -- and the shorter ones of its row.
 use Prim.Native.Nat.{◌+◌}
 use native.Mathlib.Omega.{arith}
-use borrow.Author.Rules.{rules}
 use Rattle.interval.specs.Limits.{IntervalOf}
 use Rattle.interval.proofs.Rows.{place_in_row, row_small}
 use Rattle.interval.proofs.Counts.{few_intervals}
 use Rattle.interval.proofs.Laws.{intervals_numbered}
-use Rattle.interval.proofs.Interval.place.Statement.{statement}
-use Rattle.interval.proofs.Interval.place.Tie as tie
+use Rattle.interval.proofs.Interval.place.Goals as goal
 
-add-result : tie.Need-overflow-add-result
-add-result c =
-    let s = c.before in let a = s.args in
+pub overflow_add-result : goal.overflow_add-result
+overflow_add-result c =
+    let s = c in let a = s.args in
     omega (arith, s.requires, s.requires.2.at a.i (omega (arith, s.requires)), row_small a.k a.i s.requires.1 (omega (arith, s.requires)))
 
-returns : tie.Need-returns
+pub returns : goal.returns
 returns c =
-    let s = c.before in let a = s.args in
+    let s = c in let a = s.args in
     let o : IntervalOf a.k (record { i = a.i; j = a.i + a.steps }) = omega (arith, s.requires) in
     let e = place_in_row a.k (record { i = a.i; j = a.i + a.steps }) o in
     let r = s.requires.2.at a.i (omega (arith, s.requires)) in
     (omega (arith, r, e), omega (arith, r, e, (intervals_numbered a.k).below (record { i = a.i; j = a.i + a.steps }) o, few_intervals a.k s.requires.1))
-
-pub place-spec : {M : Type 1} → statement M
-place-spec = tie.close (tie.spec (λ c. search rules) (λ c. search rules) add-result returns)

@@ -1,0 +1,27 @@
+-- `Interval::new` asks 2, then 9, and goes on where the reply is yes: so does the definition,
+-- once each reply is put in.
+use mathlib.Core.Path.{sym, ◌∙◌}
+use Rattle.interval.specs.Limits.{made_of}
+use Rattle.interval.proofs.Interval.new.Goals as goal
+
+pub returns-in-No : goal.returns-in-No
+unfolding made_of
+returns-in-No c = simp (sym c.ask_steps.ensures ∙ c.r-1.given.1)
+
+pub returns-in-No-ask_interval : goal.returns-in-No-ask_interval
+unfolding made_of
+returns-in-No-ask_interval c =
+    let a = c in let e = a in
+    simp (
+      sym e.ask_steps.ensures ∙ e.enum_told-1.given.1,
+      sym a.ask_interval.ensures ∙ c.r-in-No-ask_interval-1.given.1,
+    )
+
+pub returns : goal.returns
+unfolding made_of
+returns c =
+    let a = c in let e = a in
+    simp (
+      sym e.ask_steps.ensures ∙ e.enum_told-1.given.1,
+      sym a.ask_interval.ensures ∙ c.enum_told-in_default-ask_interval-1.given.1,
+    )
