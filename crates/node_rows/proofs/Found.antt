@@ -32,7 +32,7 @@ Known t w = StandsNode t w × NumbersNode max_number w
 pub node_chosen : (t : List ℕ) (C k y : ℕ) → accept_of C k t ≡ Yes → y < length (nodes_in t) → Chosen (Known t) (nodes_in t) y
 node_chosen t C k y e h =
     let a = accepted C k t e in
-    let r = each_node (Known t) (both_pass (stands_pass t) (numbers_pass max_number)) a.root 0 (root_stands t a.root a.reads, a.numbers) in
+    let r = each_node (Known t) (both_pass (StandsNode t) (NumbersNode max_number) (stands_pass t) (numbers_pass max_number)) a.root 0 (root_stands t a.root a.reads, a.numbers) in
     choose (Known t) (nodes_in t) y (subst (Each (Known t)) (sym (nodes_read_lem t a.root a.reads)) r) h
 
 -- the rows of which those from x on are found

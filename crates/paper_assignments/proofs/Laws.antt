@@ -2,7 +2,7 @@
 -- The extension's values stand where the gates look for them; the channels and the gates leave no other; the last clause asks for the root.
 use mathlib.Core.Path.{◌≡◌, sym, ap, ◌∙◌, subst}
 use mathlib.Core.Logic.{◌↔◌}
-use mathlib.Core.Bool.{true, false, ◌||◌, and-true, or_false, and-eq-true_iff}
+use mathlib.Core.Bool.{true, false, ◌||◌, and-true, or-false, and-eq-true_iff}
 use mathlib.Core.List.{List}
 use Prim.Native.Nat.{ℕ, ◌+◌, ◌-◌, ◌*◌, ◌^◌, ◌<◌}
 use native.Mathlib.Omega.{arith}
@@ -78,7 +78,7 @@ module _ (C k : ℕ) (f : Tree Formula) where
   extension_last recording =
       let a = extension C k recording (nodes_of f 0) in
       let root = part_true a k recording f (1 + k * C) (both_spelled C k recording (nodes_of f 0)).1 in
-      or_false _ ∙ on_intervals a k (1 + k * C + truth_of k f) (truth recording f) root (record { i = 0; j = k }) (omega arith)
+      or-false _ ∙ on_intervals a k (1 + k * C + truth_of k f) (truth recording f) root (record { i = 0; j = k }) (omega arith)
 
   module _ (L : Letters C f) (recording : List ℕ) where
     -- an assignment that extends the recording and meets all clauses but the last has the extension's values, from variable 1 to V

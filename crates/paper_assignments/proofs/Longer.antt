@@ -1,7 +1,7 @@
 -- An interval that is not empty is one shorter and its last instant; so `[S]` and each level of a duration are what their gates make of the
 -- shorter interval and that instant, and the counts behind them add one term at their end.
 use mathlib.Core.Path.{◌≡◌, refl, sym, ap₂, ◌∙◌}
-use mathlib.Core.Bool.{Bool, true, false, ◌&&◌, ◌||◌, or_false, or-true}
+use mathlib.Core.Bool.{Bool, true, false, ◌&&◌, ◌||◌, or-false, or-true}
 use Prim.Native.Nat.{ℕ, zero, suc, ◌+◌, ◌-◌, ◌<◌}
 use native.Mathlib.Nat.{add-zero}
 use native.Mathlib.Omega.{arith}
@@ -17,9 +17,9 @@ one_more c h b = go (leb c h) refl b
   where
     go : (x : Bool) → leb c h ≡ x → (b : Bool) → leb (suc c) (h + bit b) ≡ (leb (suc c) h || x && b)
     go true e true = le-leb (suc c) (h + 1) (omega (arith, leb-true c h e)) ∙ sym (or-true (leb (suc c) h))
-    go false e true = lt-leb (suc c) (h + 1) (omega (arith, leb-false c h e)) ∙ sym (or_false (leb (suc c) h) ∙ lt-leb (suc c) h (omega (arith, leb-false c h e)))
-    go true e false = rw add-zero (sym (or_false (leb (suc c) h)))
-    go false e false = rw add-zero (sym (or_false (leb (suc c) h)))
+    go false e true = lt-leb (suc c) (h + 1) (omega (arith, leb-false c h e)) ∙ sym (or-false (leb (suc c) h) ∙ lt-leb (suc c) h (omega (arith, leb-false c h e)))
+    go true e false = rw add-zero (sym (or-false (leb (suc c) h)))
+    go false e false = rw add-zero (sym (or-false (leb (suc c) h)))
 
 module _ (f : ℕ → Bool) (v : Interval) where
   module _ (h : v.i ≡ v.j) where

@@ -75,13 +75,13 @@ numbers_pass N s (pair l x y) at n = n
 numbers_pass N s (duration x m) at n = state_numbers N x
 numbers_pass N s (throughout x) at n = state_numbers N x
 
-pub both_pass : {P Q : Node → Type 0} → Passes P → Passes Q → Passes (λ w. P w × Q w)
-both_pass f g s (constant v) at p = tt
-both_pass f g s (letter c) at p = tt
-both_pass f g s (negation x) at p = (f _ (negation x) at p.0, g _ (negation x) at p.1)
-both_pass f g s (pair l x y) at p = let a = f _ (pair l x y) at p.0 in let b = g _ (pair l x y) at p.1 in ((a.0, b.0), (a.1, b.1))
-both_pass f g s (duration x n) at p = (f _ (duration x n) at p.0, g _ (duration x n) at p.1)
-both_pass f g s (throughout x) at p = (f _ (throughout x) at p.0, g _ (throughout x) at p.1)
+pub both_pass : (P Q : Node → Type 0) → Passes P → Passes Q → Passes (λ w. P w × Q w)
+both_pass P Q f g s (constant v) at p = tt
+both_pass P Q f g s (letter c) at p = tt
+both_pass P Q f g s (negation x) at p = (f _ (negation x) at p.0, g _ (negation x) at p.1)
+both_pass P Q f g s (pair l x y) at p = let a = f _ (pair l x y) at p.0 in let b = g _ (pair l x y) at p.1 in ((a.0, b.0), (a.1, b.1))
+both_pass P Q f g s (duration x n) at p = (f _ (duration x n) at p.0, g _ (duration x n) at p.1)
+both_pass P Q f g s (throughout x) at p = (f _ (throughout x) at p.0, g _ (throughout x) at p.1)
 
 -- ---- the nodes from a node on
 
@@ -112,7 +112,7 @@ parts_begin l n (duration x c) at b = record { later = b.later; is = drop_front 
 parts_begin l n (throughout x) at b = record { later = b.later; is = drop_front l n (_ ∷ []) _ b.is }
 
 any_pass : Passes (λ w. Unit)
-any_pass s x at p = parts_map (λ u b. tt) (λ u w b d. tt) x at (parts_begin (nodes_of x at) 0 x at (begins_whole x at))
+any_pass s x at p = parts_map {P = Begins (drop (0 + 1) (nodes_of x at))} {Q = λ u. Begins (drop (0 + 1 + length (nodes_of u.part u.first)) (nodes_of x at))} (λ u b. tt) (λ u w b d. tt) x at (parts_begin (nodes_of x at) 0 x at (begins_whole x at))
 
 module _ (P : Node → Type 0) where
   -- P is so of each node, and the nodes from it on begin with its own

@@ -1,7 +1,7 @@
 -- `[S]` as a lesson puts it: S never fails and there is an instant, so no `#!S>=1`; and what `[S]` says of an interval it says of both parts that
 -- it is chopped into, if each has an instant.
 use mathlib.Core.Path.{◌≡◌, refl, sym, ap, ap₂, ◌∙◌}
-use mathlib.Core.Bool.{Bool, true, false, not, ◌&&◌, and-true, and_false}
+use mathlib.Core.Bool.{Bool, true, false, not, ◌&&◌, and-true, and-false}
 use mathlib.Core.List.{List}
 use Prim.Native.Nat.{ℕ, zero, suc, ◌+◌, ◌-◌, ◌≤◌, ◌<◌}
 use native.Mathlib.Nat.{add-zero}
@@ -23,7 +23,7 @@ every_never f i (suc n) = ap (λ (b : Bool). b && f (i + n)) (every_never f i n)
   where
     go : (h : ℕ) (b : Bool) → (not (leb 1 h) && b) ≡ not (leb 1 (h + bit (not b)))
     go h true = and-true (not (leb 1 h)) ∙ rw add-zero refl
-    go h false = and_false (not (leb 1 h)) ∙ ap not (sym (le-leb 1 (h + 1) (omega arith)))
+    go h false = and-false (not (leb 1 h)) ∙ ap not (sym (le-leb 1 (h + 1) (omega arith)))
 
 same : (a b : Bool) → (a ≡ true → b ≡ true) → (b ≡ true → a ≡ true) → a ≡ b
 same true b f g = sym (f refl)

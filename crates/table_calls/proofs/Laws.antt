@@ -51,7 +51,7 @@ module _ (C : ℕ) (h : C ≤ max_channels) where
 
   low_numbers : {s : Sort} (x : Tree s) (at : ℕ) → Letters C x → Numbers max_number x → All LowNumber (nodes_of x at)
   low_numbers x at L N =
-      each_all Limited LowNumber (λ w p. low_number w.part p.0 p.1) (nodes_of x at) (each_node Limited (both_pass (letters_pass C) (numbers_pass max_number)) x at (L, N))
+      each_all Limited LowNumber (λ w p. low_number w.part p.0 p.1) (nodes_of x at) (each_node Limited (both_pass (LettersNode C) (NumbersNode max_number) (letters_pass C) (numbers_pass max_number)) x at (L, N))
 
 module _ (w : Weight) (k : ℕ) (h : Small w k) where
   few_points : (kind : ℕ) → points_by k kind ≤ max_count

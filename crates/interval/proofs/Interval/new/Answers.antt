@@ -6,15 +6,15 @@ use Rattle.interval.proofs.Interval.new.Goals as goal
 
 pub returns-in-No : goal.returns-in-No
 unfolding made_of
-returns-in-No c = simp (sym c.ask_steps.ensures ∙ c.r-1.given.1)
+returns-in-No c = simp (sym c.ask_steps.ensures ∙ c.in-No.is)
 
 pub returns-in-No-ask_interval : goal.returns-in-No-ask_interval
 unfolding made_of
 returns-in-No-ask_interval c =
     let a = c in let e = a in
     simp (
-      sym e.ask_steps.ensures ∙ e.enum_told-1.given.1,
-      sym a.ask_interval.ensures ∙ c.r-in-No-ask_interval-1.given.1,
+      sym e.ask_steps.ensures ∙ e.in_default.is,
+      sym a.ask_interval.ensures ∙ c.in-No-ask_interval.is,
     )
 
 pub returns : goal.returns
@@ -22,6 +22,6 @@ unfolding made_of
 returns c =
     let a = c in let e = a in
     simp (
-      sym e.ask_steps.ensures ∙ e.enum_told-1.given.1,
-      sym a.ask_interval.ensures ∙ c.enum_told-in_default-ask_interval-1.given.1,
+      sym e.ask_steps.ensures ∙ e.in_default.is,
+      sym a.ask_interval.ensures ∙ c.in_default-ask_interval.is,
     )
