@@ -9,5 +9,5 @@ returns-then-begins c = rw (ap begins (sym c.lead_of.ensures) ∙ sym c.begins.e
 
 pub returns-else-begins : goal.returns-else-begins
 returns-else-begins c =
-    let e1 = c in let b = e1 in
-    rw (ap begins (sym b.lead_of.ensures) ∙ sym b.begins.ensures ∙ e1.if-begins.false) (c.begins-else-begins.ensures ∙ ap begins c.lead_of-else-begins.ensures)
+    
+    rw (ap begins (sym c.lead_of.ensures) ∙ sym c.begins.ensures ∙ c.if-begins.false) (c.begins-else-begins.ensures ∙ ap begins c.lead_of-else-begins.ensures)

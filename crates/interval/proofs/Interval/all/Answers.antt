@@ -10,5 +10,5 @@ use Rattle.interval.proofs.Interval.all.Goals as goal
 
 pub returns : goal.returns
 returns c =
-    let s = c in let k = s.args.k in
-    omega (arith, s.requires.1.at (k + 1) (omega arith), ap (start_of k) (add-one k), intervals_count k, few_intervals k s.requires.0)
+    let k = c.args.k in
+    omega (arith, c.requires.1.at (k + 1) (omega arith), ap (start_of k) (add-one k), intervals_count k, few_intervals k c.requires.0)

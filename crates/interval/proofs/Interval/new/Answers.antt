@@ -11,17 +11,17 @@ returns-in-No c = simp (sym c.ask_steps.ensures ∙ c.in-No.is)
 pub returns-in-No-ask_interval : goal.returns-in-No-ask_interval
 unfolding made_of
 returns-in-No-ask_interval c =
-    let a = c in let e = a in
+    
     simp (
-      sym e.ask_steps.ensures ∙ e.in_default.is,
-      sym a.ask_interval.ensures ∙ c.in-No-ask_interval.is,
+      sym c.ask_steps.ensures ∙ c.in_default.is,
+      sym c.ask_interval.ensures ∙ c.in-No-ask_interval.is,
     )
 
 pub returns : goal.returns
 unfolding made_of
 returns c =
-    let a = c in let e = a in
+    
     simp (
-      sym e.ask_steps.ensures ∙ e.in_default.is,
-      sym a.ask_interval.ensures ∙ c.in_default-ask_interval.is,
+      sym c.ask_steps.ensures ∙ c.in_default.is,
+      sym c.ask_interval.ensures ∙ c.in_default-ask_interval.is,
     )

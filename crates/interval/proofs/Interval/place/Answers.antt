@@ -10,13 +10,13 @@ use Rattle.interval.proofs.Interval.place.Goals as goal
 
 pub overflow_add-result : goal.overflow_add-result
 overflow_add-result c =
-    let s = c in let a = s.args in
-    omega (arith, s.requires, s.requires.2.at a.i (omega (arith, s.requires)), row_small a.k a.i s.requires.1 (omega (arith, s.requires)))
+    let a = c.args in
+    omega (arith, c.requires, c.requires.2.at a.i (omega (arith, c.requires)), row_small a.k a.i c.requires.1 (omega (arith, c.requires)))
 
 pub returns : goal.returns
 returns c =
-    let s = c in let a = s.args in
-    let o : IntervalOf a.k (record { i = a.i; j = a.i + a.steps }) = omega (arith, s.requires) in
+    let a = c.args in
+    let o : IntervalOf a.k (record { i = a.i; j = a.i + a.steps }) = omega (arith, c.requires) in
     let e = place_in_row a.k (record { i = a.i; j = a.i + a.steps }) o in
-    let r = s.requires.2.at a.i (omega (arith, s.requires)) in
-    (omega (arith, r, e), omega (arith, r, e, (intervals_numbered a.k).below (record { i = a.i; j = a.i + a.steps }) o, few_intervals a.k s.requires.1))
+    let r = c.requires.2.at a.i (omega (arith, c.requires)) in
+    (omega (arith, r, e), omega (arith, r, e, (intervals_numbered a.k).below (record { i = a.i; j = a.i + a.steps }) o, few_intervals a.k c.requires.1))

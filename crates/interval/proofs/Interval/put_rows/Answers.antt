@@ -19,20 +19,20 @@ loop-i-init c =
 
 pub overflow_add-start-in-loop-i : goal.overflow_add-start-in-loop-i
 overflow_add-start-in-loop-i c =
-    let l = c in let k = l.args.k in
-    omega (arith, l.loop-i.invariant.1, row_small k l.loop-i.i l.requires.0 l.loop-i.invariant.0, l.requires.0)
+    let k = c.args.k in
+    omega (arith, c.loop-i.invariant.1, row_small k c.loop-i.i c.requires.0 c.loop-i.invariant.0, c.requires.0)
 
 here : (c : In-loop-i) → c.loop-i.i + 1 < length c.loop-i.rows
-here c = let l = c in omega (arith, l.loop-i.invariant.2, length-set l.args.rows.now 0 0, l.requires.1, c.loop-i-test.true)
+here c = omega (arith, c.loop-i.invariant.2, length-set c.args.rows.now 0 0, c.requires.1, c.loop-i-test.true)
 
 pub bounds-rows-i : goal.bounds-rows-i
 bounds-rows-i c = here (goal.at.bounds-rows-i c).In-loop-i
 
 pub loop-i-preserved : goal.loop-i-preserved
 loop-i-preserved c =
-    let l = c in let k = l.args.k in let v = l.loop-i.invariant in
-    let e : l.loop-i.start + (k + 1 - l.loop-i.i) ≡ start_of k (l.loop-i.i + 1) = omega (arith, v.1, row_next k l.loop-i.i) in
-    (omega (arith, c.loop-i-test.true), e, length-set l.loop-i.rows _ _ ∙ v.2, one_more _ v.3 (here (goal.at.loop-i-preserved c).In-loop-i) e)
+    let k = c.args.k in let v = c.loop-i.invariant in
+    let e : c.loop-i.start + (k + 1 - c.loop-i.i) ≡ start_of k (c.loop-i.i + 1) = omega (arith, v.1, row_next k c.loop-i.i) in
+    (omega (arith, c.loop-i-test.true), e, length-set c.loop-i.rows _ _ ∙ v.2, one_more _ v.3 (here (goal.at.loop-i-preserved c).In-loop-i) e)
 
 pub shape_of-rows : goal.shape_of-rows
 shape_of-rows c = c.loop-i.invariant.2 ∙ length-set c.args.rows.now 0 0

@@ -15,21 +15,21 @@ use Rattle.interval.proofs.Triple.place.Goals.{After-all}
 -- what is read from the two tables, and the place that it makes
 last_rows : (c : After-all) → let a = c.args in get_or a.rows.now (a.k + 1 - a.steps) 0 ≡ start_of a.k (suc a.k - a.steps)
 last_rows c =
-    let s = c in let a = s.args in let e : a.k + 1 - a.steps ≡ suc a.k - a.steps = omega arith in
-    s.requires.3.at (a.k + 1 - a.steps) (omega arith) ∙ ap (start_of a.k) e
+    let a = c.args in let e : a.k + 1 - a.steps ≡ suc a.k - a.steps = omega arith in
+    c.requires.3.at (a.k + 1 - a.steps) (omega arith) ∙ ap (start_of a.k) e
 
 placed : (c : After-all) → let a = c.args in let r = get_or a.starts.now a.i 0 + (c.all.result - get_or a.rows.now (a.k + 1 - a.steps) 0) + a.cut in
     (r ≡ triple_place_of a.k (record { i = a.i; m = a.i + a.cut; j = a.i + a.steps })) × (r < triple_count_of a.k)
 placed c =
-    let s = c in let a = s.args in
+    let a = c.args in
     let t : Triple = record { i = a.i; m = a.i + a.cut; j = a.i + a.steps } in
-    let e = triple_in_row a.k a.i a.steps a.cut s.requires.0 s.requires.1 in
-    let r = s.requires.4.at a.i (omega (arith, s.requires)) in
-    let b = (triples_numbered a.k).below t (omega (arith, s.requires)) in
+    let e = triple_in_row a.k a.i a.steps a.cut c.requires.0 c.requires.1 in
+    let r = c.requires.4.at a.i (omega (arith, c.requires)) in
+    let b = (triples_numbered a.k).below t (omega (arith, c.requires)) in
     (omega (arith, e, r, last_rows c, c.all.ensures), omega (arith, e, r, last_rows c, c.all.ensures, b))
 
 pub overflow_sub-shorter-2 : goal.overflow_sub-shorter-2
-overflow_sub-shorter-2 c = let s = c in let a = s.args in omega (arith, last_rows (goal.at.overflow_sub-shorter-2 c).After-all, c.all.ensures, split_count a.k (suc a.k - a.steps) (omega arith))
+overflow_sub-shorter-2 c = let a = c.args in omega (arith, last_rows (goal.at.overflow_sub-shorter-2 c).After-all, c.all.ensures, split_count a.k (suc a.k - a.steps) (omega arith))
 
 pub overflow_add-result : goal.overflow_add-result
 overflow_add-result c = omega (arith, placed (goal.at.overflow_add-result c).After-all, counts_at_32 c.args.k c.requires.2)

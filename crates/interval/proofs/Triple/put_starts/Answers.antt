@@ -24,9 +24,9 @@ ahead c =
 pub loop-i-init : goal.loop-i-init
 unfolding sum
 loop-i-init c =
-    let s = c in let old = s.args.starts.now in
-    let z = starts_are s.args.k 0 (omega arith) in
-    (omega arith, sym z, refl, begun _ (omega (arith, length-set old 0 0, s.requires.1)) (get_or-set_same old 0 0 0 (omega (arith, s.requires.1)) ∙ sym z))
+    let old = c.args.starts.now in
+    let z = starts_are c.args.k 0 (omega arith) in
+    (omega arith, sym z, refl, begun _ (omega (arith, length-set old 0 0, c.requires.1)) (get_or-set_same old 0 0 0 (omega (arith, c.requires.1)) ∙ sym z))
 
 pub overflow_sub-start : goal.overflow_sub-start
 overflow_sub-start c = omega (arith, ahead (goal.at.overflow_sub-start c).After-place, c.loop-i.invariant)
@@ -46,10 +46,10 @@ loop-i-preserved c =
     (omega (arith, c.loop-i-test.true), e, length-set l.starts _ _ ∙ v.2, one_more _ v.3 (here (goal.at.loop-i-preserved c).After-place) e)
 
 pub shape_of-starts : goal.shape_of-starts
-shape_of-starts c = let l = c in l.loop-i.invariant.2 ∙ length-set l.args.starts.now 0 0
+shape_of-starts c = c.loop-i.invariant.2 ∙ length-set c.args.starts.now 0 0
 
 pub returns : goal.returns
 returns c =
-    let l = c in let k = l.args.k in
-    let e : l.loop-i.i + 1 ≡ suc k = omega (arith, l.loop-i.invariant.0, c.loop-i-test.false) in
-    subst (λ (n : ℕ). Begins (triple_start k) n l.loop-i.starts) e l.loop-i.invariant.3
+    let k = c.args.k in
+    let e : c.loop-i.i + 1 ≡ suc k = omega (arith, c.loop-i.invariant.0, c.loop-i-test.false) in
+    subst (λ (n : ℕ). Begins (triple_start k) n c.loop-i.starts) e c.loop-i.invariant.3

@@ -1,0 +1,48 @@
+-- The nodes' clauses are asked about first, numbered by the sums along the node table;
+-- then comes the root's, whose number is the sum of all (Table.antt).
+use Rattle.check_calls.proofs.Table.{row_number, nodes_unmet, root_met, root_unmet}
+use Rattle.paper_assignments.specs.Extension.{value_in}
+use Rattle.table_sizes.specs.Weights.{weight_to}
+use Rattle.table_sizes.specs.declared.Weight.{Weight}
+use Rattle.table_sizes.proofs.Rows.{small, all_low}
+use Rattle.table_layout.proofs.Measure.{zeros_low}
+use mathlib.Core.Path.{refl, ap, ◌∙◌}
+use Prim.Native.Nat.{◌+◌}
+use native.Mathlib.Omega.{arith}
+use Rattle.check_calls.proofs.ask_table.Goals as goal
+
+pub sums-last-requires : goal.sums-last-requires
+sums-last-requires c =
+    let p = c.requires.0 in record { small = small c.clauses.ensures (omega arith) (omega arith) (omega arith) p.1; count_le_max_nodes = (p.2, omega arith, refl) }
+
+pub ask_nodes-requires : goal.ask_nodes-requires
+ask_nodes-requires c =
+    let a = c.args in let p = c.requires.0 in
+    let sums = c.sums-last.ensures in record { c_le_max_channels = (p.0, p.1, p.2, p.3, all_low sums zeros_low, c.put_rows.ensures); by_index = λ x h. sums.below x h ∙ ap (λ (w : Weight). 0 + weight_to w a.k a.t2.kinds a.t2.numbers x) c.clauses.ensures; all_mentioned = c.requires.1.0 }
+
+pub returns-in-No : goal.returns-in-No
+returns-in-No c = nodes_unmet _ _ _ c.ask_nodes.ensures c.in-No.is
+
+pub seat-requires : goal.seat-requires
+seat-requires c = let p = c.requires.0 in (p.1, p.3)
+
+pub overflow_add-root : goal.overflow_add-root
+overflow_add-root c = omega (arith, c.seat.ensures.1, c.requires.0.1)
+
+pub high-requires : goal.high-requires
+high-requires c = omega (arith, c.requires.1.1, c.seat.ensures.0)
+
+pub returns-then-high : goal.returns-then-high
+returns-then-high c =
+    let a = c.args in
+    root_met _ _ _ c.ask_nodes.ensures c.in_default.is
+    (c.high.ensures ∙ ap (λ v. value_in a.assignment.now (v + a.k)) c.seat.ensures.0) c.if-high.true
+
+pub returns : goal.returns
+returns c =
+    
+    let a = c.args in
+    let last = c.sums-last.ensures.total ∙ ap (λ (w : Weight). 0 + weight_to w a.k a.t2.kinds a.t2.numbers a.t2.count) c.clauses.ensures in
+    root_unmet _ _ _ c.ask_nodes.ensures c.in_default.is
+    (c.high.ensures ∙ ap (λ v. value_in a.assignment.now (v + a.k)) c.seat.ensures.0) c.if-high.false
+    (row_number a.c a.k a.t2.kinds a.t2.numbers a.t2.sizes a.firsts.now a.t2.count last)

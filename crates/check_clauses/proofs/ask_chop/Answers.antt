@@ -1,0 +1,36 @@
+-- The triples' block is asked, then the intervals', as the definition lists them; the triples' clauses come before
+-- the intervals', so these are numbered from past how many those are (Walk.antt).
+use Rattle.table_nodes.proofs.Mentioned.{triples_mentioned, intervals_mentioned}
+use Rattle.check_clauses.proofs.Walk.{triples_no, intervals_asked}
+use Rattle.table_nodes.proofs.Nodes.{halves, triples_bounded, intervals_bounded}
+use Rattle.table_sizes.proofs.Rows.{small}
+use native.Mathlib.Omega.{arith}
+use Rattle.check_clauses.proofs.ask_chop.Goals as goal
+
+pub ask_block-requires : goal.ask_block-requires
+ask_block-requires c =
+    let h = halves c.args.block c.beyond-w.ensures c.triples_of-triples.ensures c.intervals_of-intervals.ensures in let s = c.requires in
+    record { bounded = (triples_bounded _ h s.0.0, omega (arith, s.0.1), s.0.2); all_mentioned = triples_mentioned _ h s.1 }
+
+pub returns-in-No : goal.returns-in-No
+returns-in-No c =
+    
+    triples_no _ (halves c.args.block c.beyond-w.ensures c.triples_of-triples.ensures c.intervals_of-intervals.ensures) _ _ c.ask_block.ensures
+    c.in-No.is
+
+pub weigh-before-requires : goal.weigh-before-requires
+weigh-before-requires c =
+    let s = c.requires.fine.0 in
+    record { small = small c.clauses.ensures (omega arith) (omega arith) (omega arith) s.bounded.steps; points = s.points; number = omega arith }
+
+pub ask_block-requires-2 : goal.ask_block-requires-2
+ask_block-requires-2 c =
+    
+    let h = halves c.args.block c.beyond-w.ensures c.triples_of-triples.ensures c.intervals_of-intervals.ensures in let s = c.requires in
+    record { bounded = (intervals_bounded _ h s.0.0, omega (arith, s.0.1, c.weigh-before.ensures.1), s.0.2); all_mentioned = intervals_mentioned _ h s.1 }
+
+pub returns : goal.returns
+returns c =
+    
+    intervals_asked _ (halves c.args.block c.beyond-w.ensures c.triples_of-triples.ensures c.intervals_of-intervals.ensures) _ _
+    c.ask_block.ensures c.in_default.is c.clauses.ensures c.weigh-before.ensures.0 c.ask_block-2.ensures

@@ -1,0 +1,36 @@
+-- `put_channels` fills one part a turn with the channels of the next instant,
+-- and each part has a byte for each channel (Parts.antt of extend_triples).
+use mathlib.Core.Path.{◌≡◌, refl, ap, ◌∙◌}
+use Prim.Native.Nat.{ℕ, ◌+◌, ◌-◌}
+use Rattle.lists.specs.Listing.{tab}
+use Rattle.lists.proofs.Listing.{length_tab}
+use Rattle.paper_meaning.specs.Meaning.{bit, channel_at}
+use Rattle.paper_assignments.specs.Extension.{channel_values}
+use Rattle.extend_triples.proofs.Parts.{begun_even, room, part_length, turn, done}
+use native.Mathlib.Omega.{arith}
+use Rattle.extend_blocks.proofs.put_channels.Goals as goal
+
+pub loop-t-init : goal.loop-t-init
+loop-t-init c = (refl, begun_even (λ t. length_tab _ _) c.requires.2)
+
+pub overflow_add-end : goal.overflow_add-end
+overflow_add-end c = omega (arith, room c.loop-t.invariant.1 (omega arith))
+
+pub slice_bounds-put_instant-end : goal.slice_bounds-put_instant-end
+slice_bounds-put_instant-end c = omega (arith, room c.loop-t.invariant.1 (omega arith))
+
+pub put_instant-requires : goal.put_instant-requires
+put_instant-requires c =
+    let a = c.args in let l = c.loop-t in
+    omega (arith, part_length l.invariant.1 (omega arith) (l.at + a.c) (omega arith))
+
+pub loop-t-preserved : goal.loop-t-preserved
+unfolding channel_at
+loop-t-preserved c =
+    let a = c.args in let l = c.loop-t in
+    let n = part_length l.invariant.1 (omega arith) (l.at + a.c) (omega arith) in
+    (l.invariant.0, turn l.invariant.1 (omega arith) _ (omega arith) (c.put_instant.ensures ∙ ap (λ (n : ℕ). tab n (λ x. bit (channel_at a.recording.now x l.t))) n))
+
+pub returns : goal.returns
+unfolding channel_values
+returns c = done c.loop-t.invariant.1 (omega arith)

@@ -1,0 +1,36 @@
+-- After each turn the values of all nodes from row x on are written, the last node's first;
+-- a node's block is handed what its parts' truth makes of it, and these stand after it (Rows.antt).
+use Rattle.extend_calls.proofs.Rows.{extending_begun, extending_done, block_fits, extending_turn}
+use native.Mathlib.Omega.{arith}
+use borrow.Author.Rules.{rules}
+use Rattle.extend_calls.proofs.put_nodes.Goals as goal
+
+pub loop-x-init : goal.loop-x-init
+loop-x-init c = extending_begun c.requires.room.2
+
+pub block_at-block-requires : goal.block_at-block-requires
+block_at-block-requires c =
+    
+    let p = c.requires in (p.0.0, omega (arith, p.0.1, c.loop-x.invariant.turns, c.loop-x-test.true), p.0.3)
+
+pub put_node-requires : goal.put_node-requires
+put_node-requires c =
+    let p = c.requires in let e = c.block_at-block.ensures in
+    let f = block_fits c.loop-x.invariant (search rules) e.0 p.1.0 p.1.1 (e.1 0 (omega arith)) in
+    (p.0.0, f, p.0.4)
+
+pub overflow_sub-end : goal.overflow_sub-end
+overflow_sub-end c =
+    let p = c.requires in let e = c.block_at-block.ensures in
+    (block_fits c.loop-x.invariant (search rules) e.0 p.1.0 p.1.1 (e.1 0 (omega arith))).0
+
+pub loop-x-preserved : goal.loop-x-preserved
+loop-x-preserved c =
+    let p = c.requires in
+    extending_turn c.loop-x.invariant (search rules) c.block_at-block.ensures.value p.1.0 p.1.1 p.0.2 (search rules) c.put_node.ensures
+
+pub shape_of-assignment : goal.shape_of-assignment
+shape_of-assignment c = c.loop-x.invariant.long
+
+pub returns : goal.returns
+returns c = extending_done c.loop-x.invariant (omega (arith, c.loop-x-test.false))

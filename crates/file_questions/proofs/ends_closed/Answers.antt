@@ -1,0 +1,10 @@
+-- Without marks there is nothing to close;
+-- otherwise the last one decides.
+use borrow.Author.Tests.{eq-eqb, ne_eqb}
+use Rattle.file_questions.proofs.ends_closed.Goals as goal
+
+pub returns-then-n-eq0 : goal.returns-then-n-eq0
+returns-then-n-eq0 c = rw (eq-eqb _ 0 c.if-n-eq0.true)
+
+pub returns : goal.returns
+returns c = rw (ne_eqb _ 0 c.if-n-eq0.false)

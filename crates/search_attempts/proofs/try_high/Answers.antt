@@ -1,0 +1,13 @@
+-- Undoing gives the set before the try low,
+-- of which the variable at that place of the trail is open.
+use Rattle.search_fanout.proofs.Ground.{ground_still}
+use Rattle.search_attempts.proofs.Attempts.{undone_ready, undone_tried}
+use Rattle.search_attempts.proofs.try_high.Goals as goal
+
+pub try_literal-requires : goal.try_literal-requires
+try_literal-requires c =
+    let p = c.requires in let u = c.undo in
+    record { on_ground = (ground_still u.kept.0 p.0.0, p.0.1); ready = undone_ready u.ensures p.1 }
+
+pub returns : goal.returns
+returns c = undone_tried c.undo.ensures c.try_literal.ensures

@@ -1,0 +1,26 @@
+-- The tree of tries comes to what the limit leaves of the tree,
+-- and the recording is read from the values found (Drawn.antt).
+use mathlib.Core.Path.{ap}
+use Prim.Native.Nat.{ℕ, ◌*◌}
+use borrow.Author.Rules.{rules}
+use Rattle.search_draw.proofs.Drawn.{drawn_none, drawn_found, drawn_spent}
+use Rattle.search_draw.proofs.draw.Goals as goal
+
+pub start-below-requires : goal.start-below-requires
+start-below-requires c = let p = c.requires in record { on_ground = p.0; trailing = (p.1.0, p.1.1) }
+
+pub put_recording-requires : goal.put_recording-requires
+put_recording-requires c =
+    let g = c.requires.ground_of.0 in let n = c.requires.values_in_bounds.2 in
+    search (g.channels, g.steps, g.total, n, ap (λ (n : ℕ). n * c.args.c) n, c.start-below.kept.0, rules)
+
+pub returns-in-Dead : goal.returns-in-Dead
+returns-in-Dead c = drawn_none c.start-below.ensures _ _ _ c.in-Dead.is
+
+pub returns-in-Found : goal.returns-in-Found
+returns-in-Found c =
+    
+    drawn_found c.start-below.ensures _ _ c.args.recording.now c.in-Found.is c.requires.values_in_bounds.2 c.put_recording.ensures
+
+pub returns-in-Spent : goal.returns-in-Spent
+returns-in-Spent c = drawn_spent c.start-below.ensures _ _ _ c.in-Spent.is

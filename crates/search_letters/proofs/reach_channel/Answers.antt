@@ -1,0 +1,25 @@
+-- The number less one is C times the instant and the channel.
+-- The letters of that channel at that instant are all that reads it.
+use mathlib.Core.Path.{◌≡◌, ◌∙◌}
+use Prim.Native.Nat.{ℕ, suc, ◌-◌, ◌*◌, ◌<◌}
+use native.Mathlib.Omega.{arith}
+use Rattle.search_fanout.proofs.Cover.{reached}
+use Rattle.search_fanout.proofs.Letters.{channel_suffices}
+use Rattle.search_letters.proofs.Rows.{some_channel, instant_below, channel_is}
+use Rattle.search_letters.proofs.reach_channel.Goals as goal
+
+pub cell_at-at-requires : goal.cell_at-at-requires
+cell_at-at-requires c = let p = c.requires.le_u in some_channel c.args.c c.args.k (c.args.u - 1) (omega (arith, p.0, p.1))
+
+pub reach_letters-requires : goal.reach_letters-requires
+reach_letters-requires c =
+    let a = c.args in let p = c.requires in
+    record { on_ground = p.0; t_lt_k = (instant_below a.c a.k (a.u - 1) (omega (arith, p.1.0, p.1.1)) c.Cell-at.ensures, p.1.2) }
+
+pub returns : goal.returns
+returns c =
+    let a = c.args in
+    let p = c.requires in let g = p.0.0 in let x : ℕ = a.u - 1 in let h : x < a.k * a.c = omega (arith, p.1.0, p.1.1) in
+    let e : a.u ≡ suc x = omega (arith, p.1.0) in let o = c.Cell-at.ensures in let at = c.Cell-at.result in
+    reached (channel_suffices a.c a.k a.u at.line at.cell (instant_below a.c a.k x h o) o.inside
+    (e ∙ channel_is a.c a.k x h o) g.grid g.some) c.reach_letters.ensures

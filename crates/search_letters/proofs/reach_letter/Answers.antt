@@ -1,0 +1,31 @@
+-- A row is told to be a letter of the channel by its rule; its block is then one line, which has the gate at the instant.
+-- Of any other row nothing is visited.
+use mathlib.Core.Path.{refl, ap, ◌∙◌}
+use native.Mathlib.Omega.{arith}
+use Rattle.search_fanout.specs.Fanout.{speaks}
+use Rattle.search_fanout.proofs.Letters.{letter_speaks, letter_visited, letter_passed}
+use Rattle.search_letters.proofs.Rows.{node_at, speaks_line, visited_done}
+use Rattle.search_letters.proofs.reach_letter.Goals as goal
+
+pub visit_line-requires : goal.visit_line-requires
+visit_line-requires c =
+    
+    let a = c.args in let p = c.requires in let b = c.Block-of.ensures in
+    let n = node_at a.x p.0.0 refl p.1.0 b.0 (b.1 a.c p.0.0.channels) p.0.1 in
+    let l = speaks_line a.c a.k c.Block-of.result a.e c.Block-of.result.rule
+    (letter_speaks a.c a.k a.kinds.now a.numbers.now a.sizes.now a.firsts.now a.t a.e a.x
+    (c.speaks_of.ensures ∙ ap (speaks a.e) c.rule_of-rule.ensures) c.if-speaks_of.true b.0) n.laid.voiced in
+    (n, l.0, omega (arith, l.1, p.1.1))
+
+pub returns-then-speaks_of : goal.returns-then-speaks_of
+returns-then-speaks_of c =
+    
+    let a = c.args in
+    letter_visited a.c a.k a.kinds.now a.numbers.now a.sizes.now a.firsts.now a.t a.e a.x
+    (c.speaks_of.ensures ∙ ap (speaks a.e) c.rule_of-rule.ensures) c.if-speaks_of.true c.Block-of.ensures.0 c.visit_line.ensures
+
+pub returns : goal.returns
+returns c =
+    let a = c.args in
+    visited_done c.done.ensures (letter_passed a.c a.k a.kinds.now a.numbers.now a.sizes.now a.firsts.now a.t a.e a.x
+    (c.speaks_of.ensures ∙ ap (speaks a.e) c.rule_of-rule.ensures) c.if-speaks_of.false c.requires.on_ground.1)

@@ -1,0 +1,14 @@
+-- A chop's block is its intervals and then its triples.
+-- Both lie as the two functions ask.
+use mathlib.Core.Path.{◌≡◌}
+use Prim.Native.Nat.{◌+◌, ◌-◌}
+use native.Mathlib.Omega.{arith}
+use Rattle.interval.specs.Places.{count_of}
+use Rattle.search_fanout.proofs.Cover.{reached_there}
+use Rattle.search_own_chop.proofs.reach_chop.Goals as goal
+
+pub returns : goal.returns
+returns c =
+    
+    let a = c.args in
+    let e : a.block.first + count_of a.k + (a.x - a.all) ≡ a.block.first + a.x = omega (arith, c.if-x-all.false, c.requires.tables) in reached_there e c.reach_triple.ensures

@@ -1,0 +1,33 @@
+-- The interval in place x is decoded; the triples before its own are those of the starts before and of the shorter intervals of its start.
+-- Of a chop only its own gate mentions the variable.
+use mathlib.Core.Path.{refl}
+use native.Mathlib.Omega.{arith}
+use Rattle.table_nodes.proofs.Nodes.{halves}
+use Rattle.search_visits.proofs.Parts.{visited_named}
+use Rattle.search_fanout.proofs.Cover.{reached}
+use Rattle.search_fanout.proofs.Chops.{interval_suffices}
+use Rattle.search_fanout.proofs.Stands.{intervals_stand}
+use Rattle.search_own_chop.proofs.Places.{interval_here, before_at, interval_clauses}
+use Rattle.search_own_chop.proofs.reach_interval.Goals as goal
+
+pub place-requires : goal.place-requires
+place-requires c =
+    let o = c.interval_at-v.ensures.0 in
+    let p = c.requires in (omega arith, omega (arith, o.starts, o.ends), p.0.fine.bounded.steps, p.3.rows_of, p.3.starts_of)
+
+pub visit_at-requires : goal.visit_at-requires
+visit_at-requires c =
+    let a = c.args in let p = c.requires in
+    let v = c.interval_at-v.result in let o = c.interval_at-v.ensures in
+    let b = a.block in
+    let h = halves b c.beyond.ensures refl c.intervals_of-whole.ensures in record { standing = (intervals_stand p.0 p.2 h, p.1, p.3.rows_of); placed = (
+        interval_here a.k b c.beyond.result c.intervals_of-whole.ensures v o,
+        before_at a.k b c.beyond.result c.intervals_of-whole.ensures v o.0 c.place.ensures.0,
+      ) }
+
+pub returns : goal.returns
+returns c =
+    
+    let a = c.args in let p = c.requires in
+    reached (interval_suffices a.c a.k _ a.block p.2 p.0.laid refl p.4)
+    (visited_named (interval_clauses a.c a.k a.block a.x c.beyond.ensures c.intervals_of-whole.ensures) c.visit_at.ensures)

@@ -1,0 +1,58 @@
+-- The three places are those of the interval, of the one a step longer, and of that one a level up (After.antt).
+-- Visited one after another they are all that the definition lists, and a clash ends the list early.
+use native.Mathlib.Omega.{arith}
+use Rattle.search_visits.proofs.Parts.{visited_named, visited_stop, visited_then}
+use Rattle.search_walks.proofs.Places.{place_small, stands}
+use Rattle.search_own_level.proofs.After.{interval_here, longer_placed, above_placed, after_one, after_two, after_three, after_first, after_second}
+use Rattle.search_own_level.proofs.visit_after.Goals as goal
+
+pub visit_level-r-requires : goal.visit_level-r-requires
+visit_level-r-requires c = let s = c.requires in record { standing = (s.0.0, s.0.1, (_, s.0.2)); placed = s.1 }
+
+pub returns-then-r : goal.returns-then-r
+returns-then-r c =
+    
+    let R = after_first _ _ _ _ _ c.args.p in visited_named R.1 (visited_stop c.visit_level-r.ensures R.0 c.if-r.true)
+
+pub overflow_add-i : goal.overflow_add-i
+overflow_add-i c = omega (arith, interval_here c.requires.standing.2 c.requires.placed, c.requires.standing.0.bounded.steps)
+
+pub returns-then-i-d : goal.returns-then-i-d
+returns-then-i-d c = visited_named (after_one _ _ _ _ _ c.args.p c.if-i-d.true) c.visit_level-r.ensures
+
+pub overflow_add-next : goal.overflow_add-next
+overflow_add-next c = omega (arith, place_small c.requires.standing.0 c.requires.placed)
+
+pub visit_level-s-requires : goal.visit_level-s-requires
+visit_level-s-requires c =
+    let s = c.requires in let v = c.visit_level-r in
+    record { standing = (stands s.0.0 v.kept.0 v.ensures.grown.trailing, s.0.1, (_, s.0.2)); placed = longer_placed s.0.2 s.1 c.if-i-d.false }
+
+pub returns-then-s : goal.returns-then-s
+returns-then-s c =
+    
+    let R = after_second _ _ _ _ _ c.args.p c.if-i-d.left in
+    visited_named R.1 (visited_stop (visited_then c.visit_level-r.ensures _ c.if-r.left c.visit_level-s.ensures) R.0 c.if-s.true)
+
+pub returns-then-a-levels : goal.returns-then-a-levels
+returns-then-a-levels c =
+    
+    visited_named (after_two _ _ _ _ _ c.args.p c.if-i-d.left c.if-a-levels.true)
+    (visited_then c.visit_level-r.ensures _ c.if-r.left c.visit_level-s.ensures)
+
+pub overflow_add-next-2 : goal.overflow_add-next-2
+overflow_add-next-2 c =
+    
+    let s = c.requires in omega (arith, place_small s.0.0 (above_placed s.0.2 s.1 c.if-i-d.left s.0.1 c.if-a-levels.left))
+
+pub visit_level-t-requires : goal.visit_level-t-requires
+visit_level-t-requires c =
+    
+    let s = c.requires in let v = c.visit_level-r in let w = c.visit_level-s in record { standing = (stands (stands s.0.0 v.kept.0 v.ensures.grown.trailing) w.kept.0 w.ensures.grown.trailing, s.0.1, (_, s.0.2)); placed = above_placed s.0.2 s.1 c.if-i-d.left s.0.1 c.if-a-levels.left }
+
+pub returns : goal.returns
+returns c =
+    
+    
+    visited_named (after_three _ _ _ _ _ c.args.p c.if-i-d.left c.requires.standing.1 c.if-a-levels.left)
+    (visited_then (visited_then c.visit_level-r.ensures _ c.if-r.left c.visit_level-s.ensures) _ c.if-s.left c.visit_level-t.ensures)

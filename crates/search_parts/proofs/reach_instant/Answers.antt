@@ -1,0 +1,33 @@
+-- S at instant t is read by the intervals that end a step later.
+-- Any other variable of another node is read by none.
+use mathlib.Core.Path.{refl}
+use native.Mathlib.Omega.{arith}
+use Rattle.search_fanout.proofs.Cover.{reached, unread}
+use Rattle.search_fanout.proofs.Levels.{instant_suffices}
+use Rattle.search_fanout.proofs.Stands.{whole_stands}
+use Rattle.search_lines.proofs.Places.{rising_known}
+use Rattle.search_part_chop.proofs.Chop.{stopped}
+use Rattle.search_parts.proofs.Part.{level_away}
+use Rattle.search_parts.proofs.reach_instant.Goals as goal
+
+pub returns-then-not-among : goal.returns-then-not-among
+returns-then-not-among c =
+    let p = c.requires in let b = c.args.block in
+    stopped c.done.ensures (unread (level_away c.args.c c.args.k c.args.u b p.0.0.laid p.0.2 b.rule refl p.1.0 p.1.1
+    (c.among.ensures.away c.if-not-among.true)) p.0.0.trailing)
+
+pub overflow_sub-u : goal.overflow_sub-u
+overflow_sub-u c = omega (arith, c.among.ensures.here c.if-not-among.left)
+
+pub visit_instant-requires : goal.visit_instant-requires
+visit_instant-requires c =
+    let p = c.requires in
+    let f = c.among.ensures.here c.if-not-among.left in
+    (whole_stands p.0.0 p.1.1, p.0.1, rising_known c.args.block.rule p.1.0 p.1.1 c.rise_of-rise.ensures, omega (arith, f), p.1.2)
+
+pub returns : goal.returns
+returns c =
+    
+    let p = c.requires in let b = c.args.block in let f = c.among.ensures.here c.if-not-among.left in
+    reached (instant_suffices c.args.c c.args.k c.args.u b (rising_known b.rule p.1.0 p.1.1 c.rise_of-rise.ensures) p.0.0.laid
+    (omega (arith, f)) (omega (arith, f))) c.visit_instant.ensures

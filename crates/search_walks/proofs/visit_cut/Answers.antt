@@ -1,0 +1,43 @@
+-- The triple's gate goes by the places of its two parts (Gates.antt);
+-- the second begins where the first ends.
+use mathlib.Core.Path.{ap, ◌∙◌}
+use Prim.Native.Nat.{ℕ, ◌+◌}
+use native.Mathlib.Omega.{arith}
+use Rattle.interval.specs.Places.{place_of}
+use Rattle.table_blocks.proofs.Positions.{triple_position}
+use Rattle.search_walks.proofs.Places.{place_small}
+use Rattle.search_walks.proofs.Gates.{cut_gate, variable_here, inputs_here, visited_here}
+use Rattle.search_walks.proofs.visit_cut.Goals as goal
+
+pub overflow_add-v : goal.overflow_add-v
+overflow_add-v c = let p = c.requires in omega (arith, place_small p.0.0 p.1, p.0.0.bounded.first)
+
+pub place-requires : goal.place-requires
+place-requires c = let p = c.requires in let q = triple_position p.1 p.0.2 in (omega (arith, q), p.0.0.bounded.steps, p.0.1)
+
+pub overflow_add-i : goal.overflow_add-i
+overflow_add-i c = let p = c.requires in omega (arith, triple_position p.1 p.0.2, p.0.0.bounded.steps)
+
+pub overflow_sub-d : goal.overflow_sub-d
+overflow_sub-d c = let p = c.requires in omega (arith, triple_position p.1 p.0.2)
+
+pub place-requires-2 : goal.place-requires-2
+place-requires-2 c = let p = c.requires in let q = triple_position p.1 p.0.2 in (omega (arith, q), p.0.0.bounded.steps, p.0.1)
+
+pub settle_both-requires : goal.settle_both-requires
+settle_both-requires c =
+    let a = c.args in
+    let p = c.requires in (
+      p.0.0.trailing,
+      variable_here p.0.0 p.1,
+      inputs_here p.0.0 p.1 (cut_gate _ _ _ _ _ _ _ p.0.2 c.place.ensures.0
+          (c.place-2.ensures.0 ∙ ap (λ (j : ℕ). place_of a.k (record { i = a.i + a.e; j = j })) (omega (arith, triple_position p.1 p.0.2)))),
+    )
+
+pub returns : goal.returns
+returns c =
+    
+    let a = c.args in let p = c.requires in
+    visited_here p.0.0 p.1 (cut_gate _ _ _ _ _ _ _ p.0.2 c.place.ensures.0
+    (c.place-2.ensures.0 ∙ ap (λ (j : ℕ). place_of a.k (record { i = a.i + a.e; j = j })) (omega (arith, triple_position p.1 p.0.2))))
+    c.settle_both.ensures

@@ -1,0 +1,25 @@
+-- The gate goes by its pattern and its inputs, and the clauses of the pattern are those in its place (Gates.antt).
+-- They are settled.
+use mathlib.Core.Path.{refl}
+use native.Mathlib.Omega.{arith}
+use Rattle.search_patterns.proofs.Steps.{settled_named}
+use Rattle.search_walks.proofs.Places.{place_small}
+use Rattle.search_walks.proofs.Gates.{variable_here, inputs_here, visited_here}
+use Rattle.search_walks.proofs.visit_line.Goals as goal
+
+pub overflow_add-v : goal.overflow_add-v
+overflow_add-v c = let p = c.requires in omega (arith, place_small p.0.0 p.1, p.0.0.bounded.first)
+
+pub inputs_of-i-requires : goal.inputs_of-i-requires
+inputs_of-i-requires c = let p = c.requires in (p.0.0.bounded, omega (arith, place_small p.0.0 p.1), p.0.1)
+
+pub settle_by-requires : goal.settle_by-requires
+settle_by-requires c =
+    let p = c.requires in let g = c.inputs_of-i.ensures in
+    let v = variable_here p.0.0 p.1 in let i = g.inputs _ v (inputs_here p.0.0 p.1 refl) in
+    record { trailing = (p.0.0.trailing, g.gate); four = (v, i.0, i.1, v) }
+
+pub returns : goal.returns
+returns c =
+    
+    let p = c.requires in visited_here p.0.0 p.1 refl (settled_named c.inputs_of-i.ensures.clauses c.settle_by.ensures)

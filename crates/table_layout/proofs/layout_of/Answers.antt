@@ -1,0 +1,11 @@
+-- The sizes are the sums along the node table,
+-- and the first variables are put to a new column.
+use mathlib.Core.Path.{refl}
+use Rattle.table_layout.proofs.Measure.{zeros_low}
+use Rattle.table_layout.proofs.layout_of.Goals as goal
+
+pub sizes_of-sizes-requires : goal.sizes_of-sizes-requires
+sizes_of-sizes-requires c = let p = c.requires in (p.0, p.1, p.2, refl, zeros_low)
+
+pub returns : goal.returns
+returns c = c.sizes_of-sizes.ensures

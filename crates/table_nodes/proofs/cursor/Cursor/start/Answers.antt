@@ -1,0 +1,15 @@
+-- Position 0 is that of place 0, and a block has as many gates as variables:
+-- what `weigh` answers for variables (Walk.antt).
+use native.Mathlib.Omega.{arith}
+use mathlib.Core.Path.{refl}
+use Rattle.table_nodes.proofs.Walk.{begins, light}
+use Rattle.table_nodes.proofs.cursor.Cursor.start.Goals as goal
+
+pub weigh-requires : goal.weigh-requires
+weigh-requires c = light c.requires.on_ground c.variables.ensures (omega arith) (omega arith) (omega arith)
+
+pub all-requires : goal.all-requires
+all-requires c = let p = c.requires in (p.0.steps, p.1)
+
+pub returns : goal.returns
+returns c = (begins c.variables.ensures c.weigh.ensures.0 c.weigh.ensures.1 c.all.ensures.0, refl)
