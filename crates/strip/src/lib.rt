@@ -14,7 +14,7 @@ pub const LOW: u8 = b'_';
 pub const BLANK: u8 = b' ';
 
 // A line of the strip: the ruler, or that of a channel.
-#[derive(Drop)]
+#[derive(Clone, Copy)]
 pub enum Line {
     Ruler,
     Channel(usize),
