@@ -14,7 +14,7 @@ pub loop-x-init : goal.loop-x-init
 loop-x-init c = (omega arith, none_met _ _)
 
 pub block_at-block-requires : goal.block_at-block-requires
-block_at-block-requires c = let p = c.requires.c_le_max_channels in (p.1, omega (arith, p.2, c.loop-x-test.taken), p.3)
+block_at-block-requires c = let p = c.requires.c_le_max_channels in (p.1, omega (arith, p.2, c.loop-x-test.true), p.3)
 
 pub ask_node-requires : goal.ask_node-requires
 ask_node-requires c =
@@ -25,19 +25,19 @@ pub returns-in-No : goal.returns-in-No
 returns-in-No c =
     let a = c.args in
     let l = c.loop-x in
-    row_unmet (row_definitions a.c a.k a.t2.kinds a.t2.numbers a.t2.sizes a.firsts.now) {n = a.t2.count} c.loop-x-test.taken
+    row_unmet (row_definitions a.c a.k a.t2.kinds a.t2.numbers a.t2.sizes a.firsts.now) {n = a.t2.count} c.loop-x-test.true
     (value_in a.assignment.now) (row_number a.c a.k a.t2.kinds a.t2.numbers a.t2.sizes a.firsts.now l.x
-    (c.requires.by_index l.x c.loop-x-test.taken)) l.invariant.1
+    (c.requires.by_index l.x c.loop-x-test.true)) l.invariant.1
     (block_asked a.c a.k c.block_at-block.ensures.value (value_in a.assignment.now) _ c.ask_node.ensures) c.in-No.is
 
 pub loop-x-preserved : goal.loop-x-preserved
 loop-x-preserved c =
     let a = c.args in
     let l = c.loop-x in (
-      omega (arith, c.loop-x-test.taken),
-      row_met (row_definitions a.c a.k a.t2.kinds a.t2.numbers a.t2.sizes a.firsts.now) {n = a.t2.count} (omega (arith, c.loop-x-test.taken))
+      omega (arith, c.loop-x-test.true),
+      row_met (row_definitions a.c a.k a.t2.kinds a.t2.numbers a.t2.sizes a.firsts.now) {n = a.t2.count} (omega (arith, c.loop-x-test.true))
           (value_in a.assignment.now) (row_number a.c a.k a.t2.kinds a.t2.numbers a.t2.sizes a.firsts.now l.x
-          (c.requires.by_index l.x (omega (arith, c.loop-x-test.taken)))) l.invariant.1
+          (c.requires.by_index l.x (omega (arith, c.loop-x-test.true)))) l.invariant.1
           (block_asked a.c a.k c.block_at-block.ensures.value (value_in a.assignment.now) _ c.ask_node.ensures) c.in_default.is,
     )
 

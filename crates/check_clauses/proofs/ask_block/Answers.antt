@@ -17,48 +17,48 @@ gate_at-gate-requires c = gate_asked c.requires.bounded.0.0 c.loop-cursor.invari
 
 pub overflow_add-block : goal.overflow_add-block
 overflow_add-block c =
-    omega (arith, c.loop-cursor.invariant.0.few, c.loop-cursor-test.taken, c.requires.bounded.0.0.first)
+    omega (arith, c.loop-cursor.invariant.0.few, c.loop-cursor-test.true, c.requires.bounded.0.0.first)
 
 pub ask_gate-requires : goal.ask_gate-requires
 ask_gate-requires c =
     let p = c.requires in let i = c.loop-cursor.invariant in
-    gate_asks p.0.0 i.0 i.1 c.loop-cursor-test.taken (gate_defined p.0.0.0 i.0 c.loop-cursor-test.taken c.gate_at-gate.ensures) p.1 p.0.1
+    gate_asks p.0.0 i.0 i.1 c.loop-cursor-test.true (gate_defined p.0.0.0 i.0 c.loop-cursor-test.true c.gate_at-gate.ensures) p.1 p.0.1
 
 pub returns-in-No : goal.returns-in-No
 returns-in-No c =
     
     let i = c.loop-cursor.invariant in
-    block_stopped c.requires.bounded.0 i.0 i.1 c.loop-cursor-test.taken (gate_defined c.requires.bounded.0.0 i.0 c.loop-cursor-test.taken c.gate_at-gate.ensures)
+    block_stopped c.requires.bounded.0 i.0 i.1 c.loop-cursor-test.true (gate_defined c.requires.bounded.0.0 i.0 c.loop-cursor-test.true c.gate_at-gate.ensures)
     c.ask_gate.ensures c.in-No.is
 
 pub clause_count-m-requires : goal.clause_count-m-requires
 clause_count-m-requires c =
     
-    let i = c.loop-cursor.invariant in (gate_few c.requires.bounded.0 i.0 i.1 c.loop-cursor-test.taken (gate_defined c.requires.bounded.0.0 i.0 c.loop-cursor-test.taken c.gate_at-gate.ensures)).0
+    let i = c.loop-cursor.invariant in (gate_few c.requires.bounded.0 i.0 i.1 c.loop-cursor-test.true (gate_defined c.requires.bounded.0.0 i.0 c.loop-cursor-test.true c.gate_at-gate.ensures)).0
 
 pub overflow_add-m : goal.overflow_add-m
 overflow_add-m c =
     let i = c.loop-cursor.invariant in
     omega (
       arith,
-      (gate_few c.requires.bounded.0 i.0 i.1 c.loop-cursor-test.taken
-          (gate_defined c.requires.bounded.0.0 i.0 c.loop-cursor-test.taken c.gate_at-gate.ensures)).1,
+      (gate_few c.requires.bounded.0 i.0 i.1 c.loop-cursor-test.true
+          (gate_defined c.requires.bounded.0.0 i.0 c.loop-cursor-test.true c.gate_at-gate.ensures)).1,
       c.clause_count-m.ensures,
       c.requires.bounded.1,
     )
 
 pub next-cursor-requires : goal.next-cursor-requires
-next-cursor-requires c = let s = c.requires.bounded.0 in (walkable s.0 s.1, c.loop-cursor.invariant.0, c.loop-cursor-test.taken)
+next-cursor-requires c = let s = c.requires.bounded.0 in (walkable s.0 s.1, c.loop-cursor.invariant.0, c.loop-cursor-test.true)
 
 pub loop-cursor-smaller : goal.loop-cursor-smaller
-loop-cursor-smaller c = one_less c.loop-cursor.invariant.0 c.loop-cursor-test.taken c.next-cursor.ensures.0 c.next-cursor.ensures.1
+loop-cursor-smaller c = one_less c.loop-cursor.invariant.0 c.loop-cursor-test.true c.next-cursor.ensures.0 c.next-cursor.ensures.1
 
 pub loop-cursor-preserved : goal.loop-cursor-preserved
 loop-cursor-preserved c =
     
     let i = c.loop-cursor.invariant in let e = c.next-cursor.ensures in (
       e.0,
-      block_turn c.requires.bounded.0 i.0 i.1 c.loop-cursor-test.taken (gate_defined c.requires.bounded.0.0 i.0 c.loop-cursor-test.taken c.gate_at-gate.ensures)
+      block_turn c.requires.bounded.0 i.0 i.1 c.loop-cursor-test.true (gate_defined c.requires.bounded.0.0 i.0 c.loop-cursor-test.true c.gate_at-gate.ensures)
           c.ask_gate.ensures c.in_default.is c.clause_count-m.ensures e.1,
     )
 

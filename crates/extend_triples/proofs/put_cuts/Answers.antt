@@ -30,7 +30,7 @@ loop-e-preserved c =
     let b = cut_byte (omega arith) l.invariant.2 c.place-first.ensures.0 (omega arith) c.requires.3 c.requires.4 in (
       l.invariant.0,
       turn l.invariant.1 (omega arith) b,
-      ⊎_elim (λ w. next_cut (omega arith) l.invariant.2 w.0.taken w.1) (λ w. last_cut (omega arith) l.invariant.2 w.0.left) c.if-e-steps.branch,
+      ⊎_elim (λ w. next_cut (omega arith) l.invariant.2 w.0.true w.1) (λ w. last_cut (omega arith) l.invariant.2 w.0.left) c.if-e-steps.branch,
     )
 
 pub returns : goal.returns

@@ -17,7 +17,7 @@ loop-i-preserved-then-not-is_start c =
 pub bounds-table-x : goal.bounds-table-x
 bounds-table-x c =
     let a = c.requires in
-    begun_room a.0 a.1 _ a.2 _ _ _ c.loop-i.invariant c.loop-i-test.taken _ c.code_after-code.ensures
+    begun_room a.0 a.1 _ a.2 _ _ _ c.loop-i.invariant c.loop-i-test.true _ c.code_after-code.ensures
     (sym c.is_start.ensures ∙ c.if-not-is_start.false)
 
 pub overflow_cast-table : goal.overflow_cast-table
@@ -28,20 +28,20 @@ overflow_cast-table c =
 pub bounds-table-x-in-loop-i : goal.bounds-table-x-in-loop-i
 bounds-table-x-in-loop-i c =
     let a = c.requires in
-    begun_room a.0 a.1 _ a.2 _ _ _ c.loop-i.invariant c.loop-i-test.taken _ c.code_after-code.ensures
+    begun_room a.0 a.1 _ a.2 _ _ _ c.loop-i.invariant c.loop-i-test.true _ c.code_after-code.ensures
     (sym c.is_start.ensures ∙ c.if-not-is_start.false)
 
 pub overflow_add-table : goal.overflow_add-table
 overflow_add-table c =
     let a = c.requires in
-    let m = begun_room a.0 a.1 _ a.2 _ _ _ c.loop-i.invariant c.loop-i-test.taken _ c.code_after-code.ensures
+    let m = begun_room a.0 a.1 _ a.2 _ _ _ c.loop-i.invariant c.loop-i-test.true _ c.code_after-code.ensures
     (sym c.is_start.ensures ∙ c.if-not-is_start.false) in
     search rules
 
 pub loop-i-preserved : goal.loop-i-preserved
 loop-i-preserved c =
     let a = c.requires in
-    begun_more a.0 a.1 _ a.2 _ _ _ c.loop-i.invariant c.loop-i-test.taken _ c.code_after-code.ensures
+    begun_more a.0 a.1 _ a.2 _ _ _ c.loop-i.invariant c.loop-i-test.true _ c.code_after-code.ensures
     (sym c.is_start.ensures ∙ c.if-not-is_start.false)
 
 pub returns : goal.returns

@@ -15,39 +15,39 @@ row_at-row-requires c =
 pub bounds-table-x : goal.bounds-table-x
 bounds-table-x c =
     let a = c.requires in
-    found_room a.0 a.1 _ a.2 _ _ c.loop-x.invariant c.loop-x-test.taken
+    found_room a.0 a.1 _ a.2 _ _ c.loop-x.invariant c.loop-x-test.true
 
 pub bounds-table-x-in-loop-x : goal.bounds-table-x-in-loop-x
 bounds-table-x-in-loop-x c =
     let a = c.requires in
-    found_room a.0 a.1 _ a.2 _ _ c.loop-x.invariant c.loop-x-test.taken
+    found_room a.0 a.1 _ a.2 _ _ c.loop-x.invariant c.loop-x-test.true
 
 pub overflow_cast-table : goal.overflow_cast-table
 overflow_cast-table c =
     let a = c.requires in
-    let m = found_fits a.0 a.1 _ a.2 _ _ c.loop-x.invariant c.loop-x-test.taken _ c.row_at-row.ensures in
+    let m = found_fits a.0 a.1 _ a.2 _ _ c.loop-x.invariant c.loop-x-test.true _ c.row_at-row.ensures in
     search rules
 
 pub bounds-table-x-in-loop-x-2 : goal.bounds-table-x-in-loop-x-2
 bounds-table-x-in-loop-x-2 c =
     let a = c.requires in
-    found_room a.0 a.1 _ a.2 _ _ c.loop-x.invariant c.loop-x-test.taken
+    found_room a.0 a.1 _ a.2 _ _ c.loop-x.invariant c.loop-x-test.true
 
 pub overflow_cast-table-in-loop-x : goal.overflow_cast-table-in-loop-x
 overflow_cast-table-in-loop-x c =
     let a = c.requires in
-    let m = found_fits a.0 a.1 _ a.2 _ _ c.loop-x.invariant c.loop-x-test.taken _ c.row_at-row.ensures in
+    let m = found_fits a.0 a.1 _ a.2 _ _ c.loop-x.invariant c.loop-x-test.true _ c.row_at-row.ensures in
     search rules
 
 pub bounds-table-x-in-loop-x-3 : goal.bounds-table-x-in-loop-x-3
 bounds-table-x-in-loop-x-3 c =
     let a = c.requires in
-    found_room a.0 a.1 _ a.2 _ _ c.loop-x.invariant c.loop-x-test.taken
+    found_room a.0 a.1 _ a.2 _ _ c.loop-x.invariant c.loop-x-test.true
 
 pub loop-x-preserved : goal.loop-x-preserved
 loop-x-preserved c =
     let a = c.requires in
-    found_more a.0 a.1 _ a.2 _ _ c.loop-x.invariant c.loop-x-test.taken _ c.row_at-row.ensures
+    found_more a.0 a.1 _ a.2 _ _ c.loop-x.invariant c.loop-x-test.true _ c.row_at-row.ensures
 
 pub returns : goal.returns
 returns c = found_all _ _ _ c.loop-x.invariant c.loop-x-test.false

@@ -22,33 +22,33 @@ overflow_mul-table c =
 
 pub overflow_add-table : goal.overflow_add-table
 overflow_add-table c =
-    let i = c.loop-x.invariant in let h = c.loop-x-test.taken in let o = i.4 h in omega (arith, o.0, c.requires.0)
+    let i = c.loop-x.invariant in let h = c.loop-x-test.true in let o = i.4 h in omega (arith, o.0, c.requires.0)
 
 pub overflow_cast-table : goal.overflow_cast-table
 overflow_cast-table c =
-    let i = c.loop-x.invariant in let h = c.loop-x-test.taken in let o = i.4 h in omega (arith, o.0, c.requires.0)
+    let i = c.loop-x.invariant in let h = c.loop-x-test.true in let o = i.4 h in omega (arith, o.0, c.requires.0)
 
 pub offset_bounds-table-x : goal.offset_bounds-table-x
 offset_bounds-table-x c =
-    let i = c.loop-x.invariant in let h = c.loop-x-test.taken in let o = i.4 h in
+    let i = c.loop-x.invariant in let h = c.loop-x-test.true in let o = i.4 h in
     let g : c.loop-x.x < length c.args.table.now = omega (arith, h, i.1, c.requires.1) in search (g, rules)
 
 pub bounds-table-x : goal.bounds-table-x
 bounds-table-x c =
     
-    let i = c.loop-x.invariant in let h = c.loop-x-test.taken in let o = i.4 h in omega (arith, h, i.0, i.1, c.requires.1)
+    let i = c.loop-x.invariant in let h = c.loop-x-test.true in let o = i.4 h in omega (arith, h, i.0, i.1, c.requires.1)
 
 pub next-v-requires : goal.next-v-requires
 next-v-requires c =
-    let i = c.loop-x.invariant in let h = c.loop-x-test.taken in let o = i.4 h in (o.0, c.requires.0)
+    let i = c.loop-x.invariant in let h = c.loop-x-test.true in let o = i.4 h in (o.0, c.requires.0)
 
 pub loop-x-smaller : goal.loop-x-smaller
-loop-x-smaller c = let i = c.loop-x.invariant in let h = c.loop-x-test.taken in let o = i.4 h in omega (arith, h)
+loop-x-smaller c = let i = c.loop-x.invariant in let h = c.loop-x-test.true in let o = i.4 h in omega (arith, h)
 
 pub loop-x-preserved : goal.loop-x-preserved
 loop-x-preserved c =
     
-    let i = c.loop-x.invariant in let h = c.loop-x-test.taken in let o = i.4 h in let s = c.requires in (
+    let i = c.loop-x.invariant in let h = c.loop-x-test.true in let o = i.4 h in let s = c.requires in (
       length-set c.loop-x.table c.loop-x.x (c.loop-x.v.i * 128 + c.loop-x.v.j) ∙ i.0,
       i.1,
       omega (arith, h),

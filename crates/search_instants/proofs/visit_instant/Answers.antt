@@ -21,16 +21,16 @@ visit_rise-r-requires c =
 pub returns-then-r : goal.returns-then-r
 returns-then-r c =
     
-    let h = c.loop-i-test.taken in loop_stop _ _ c.loop-i.invariant.3 refl c.visit_rise-r.ensures _ (omega (arith, h)) c.if-r.true
+    let h = c.loop-i-test.true in loop_stop _ _ c.loop-i.invariant.3 refl c.visit_rise-r.ensures _ (omega (arith, h)) c.if-r.true
 
 pub overflow_step-i : goal.overflow_step-i
 overflow_step-i c =
-    let s = c.requires in omega (arith, s.3, s.0.bounded.steps, c.loop-i-test.taken)
+    let s = c.requires in omega (arith, s.3, s.0.bounded.steps, c.loop-i-test.true)
 
 pub loop-i-preserved : goal.loop-i-preserved
 loop-i-preserved c =
     let i = c.loop-i.invariant in let k = c.visit_rise-r.kept in
-    (k.0 ∙ i.0, k.1.0 ∙ i.1, omega (arith, c.loop-i-test.taken), loop_turn _ _ i.3 refl c.visit_rise-r.ensures c.if-r.false)
+    (k.0 ∙ i.0, k.1.0 ∙ i.1, omega (arith, c.loop-i-test.true), loop_turn _ _ i.3 refl c.visit_rise-r.ensures c.if-r.false)
 
 pub returns : goal.returns
 returns c = let i = c.loop-i.invariant in loop_done _ _ _ (omega (arith, i.2)) (omega (arith, c.loop-i-test.false)) i.3

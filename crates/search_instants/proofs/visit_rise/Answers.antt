@@ -34,21 +34,21 @@ pub settle_by-requires : goal.settle_by-requires
 settle_by-requires c =
     let s = c.requires in
     let v = variable_here s.0 (is_placed (goal.at.settle_by-requires c).Then-a-eq0) in
-    let u = inputs_here s.0 (is_placed (goal.at.settle_by-requires c).Then-a-eq0) (whole_copy _ _ _ s.2 s.3 s.4 c.if-a-eq0.taken c.place.ensures.0 c.if-i-t.true) in
+    let u = inputs_here s.0 (is_placed (goal.at.settle_by-requires c).Then-a-eq0) (whole_copy _ _ _ s.2 s.3 s.4 c.if-a-eq0.true c.place.ensures.0 c.if-i-t.true) in
     record { trailing = (s.0.trailing, omega arith); four = (v, u, v, v) }
 
 pub returns-then-i-t : goal.returns-then-i-t
 returns-then-i-t c =
     
     let s = c.requires in let e = c.place.ensures.0 in
-    visited_named (whole_clauses _ _ _ s.2 s.3 s.4 c.if-a-eq0.taken e)
-    (visited_here s.0 (is_placed (goal.at.returns-then-i-t c).Then-a-eq0) (whole_copy _ _ _ s.2 s.3 s.4 c.if-a-eq0.taken e c.if-i-t.true)
+    visited_named (whole_clauses _ _ _ s.2 s.3 s.4 c.if-a-eq0.true e)
+    (visited_here s.0 (is_placed (goal.at.returns-then-i-t c).Then-a-eq0) (whole_copy _ _ _ s.2 s.3 s.4 c.if-a-eq0.true e c.if-i-t.true)
     (settled_named (patterns _ _ 0 0).0 c.settle_by.ensures))
 
 pub overflow_sub-first : goal.overflow_sub-first
 overflow_sub-first c =
     
-    let s = c.requires in whole_some 0 _ c.args.block s.2 s.3 s.4 c.if-a-eq0.taken c.place.ensures.0
+    let s = c.requires in whole_some 0 _ c.args.block s.2 s.3 s.4 c.if-a-eq0.true c.place.ensures.0
 
 pub settle_both-requires : goal.settle_both-requires
 settle_both-requires c =
@@ -56,15 +56,15 @@ settle_both-requires c =
     let s = c.requires in (
       s.0.trailing,
       variable_here s.0 (is_placed (goal.at.settle_both-requires c).Then-a-eq0),
-      inputs_here s.0 (is_placed (goal.at.settle_both-requires c).Then-a-eq0) (whole_both _ _ _ s.2 s.3 s.4 c.if-a-eq0.taken c.place.ensures.0 c.if-i-t.false),
+      inputs_here s.0 (is_placed (goal.at.settle_both-requires c).Then-a-eq0) (whole_both _ _ _ s.2 s.3 s.4 c.if-a-eq0.true c.place.ensures.0 c.if-i-t.false),
     )
 
 pub returns-then-a-eq0 : goal.returns-then-a-eq0
 returns-then-a-eq0 c =
     
     let s = c.requires in let e = c.place.ensures.0 in
-    visited_named (whole_clauses _ _ _ s.2 s.3 s.4 c.if-a-eq0.taken e)
-    (visited_here s.0 (is_placed (goal.at.returns-then-a-eq0 c).Then-a-eq0) (whole_both _ _ _ s.2 s.3 s.4 c.if-a-eq0.taken e c.if-i-t.false) c.settle_both.ensures)
+    visited_named (whole_clauses _ _ _ s.2 s.3 s.4 c.if-a-eq0.true e)
+    (visited_here s.0 (is_placed (goal.at.returns-then-a-eq0 c).Then-a-eq0) (whole_both _ _ _ s.2 s.3 s.4 c.if-a-eq0.true e c.if-i-t.false) c.settle_both.ensures)
 
 pub overflow_add-v : goal.overflow_add-v
 overflow_add-v c =
@@ -89,23 +89,23 @@ overflow_add-block c = let s = c.requires in omega (arith, s, s.0.bounded.steps,
 pub settle_step-r-requires : goal.settle_step-r-requires
 settle_step-r-requires c =
     let s = c.requires in let i = c.loop-e.invariant in
-    let a = rise_asks i.3 s.1 c.loop-e-test.taken (stands s.0 i.0 i.4.grown.trailing) in
+    let a = rise_asks i.3 s.1 c.loop-e-test.true (stands s.0 i.0 i.4.grown.trailing) in
     (i.4.grown.trailing, a.0, a.1)
 
 pub returns-then-r : goal.returns-then-r
 returns-then-r c =
-    let i = c.loop-e.invariant in let h = c.loop-e-test.taken in
+    let i = c.loop-e.invariant in let h = c.loop-e-test.true in
     loop_stop _ _ i.4 (rise_clauses_lem i.3 c.requires.1 h _) (settled_visited c.settle_step-r.ensures) _ h c.if-r.true
 
 pub overflow_add-v-in-loop-e : goal.overflow_add-v-in-loop-e
 overflow_add-v-in-loop-e c =
     
-    omega (arith, rise_small c.loop-e.invariant.3 c.requires.1 c.loop-e-test.taken c.requires.0.bounded)
+    omega (arith, rise_small c.loop-e.invariant.3 c.requires.1 c.loop-e-test.true c.requires.0.bounded)
 
 pub loop-e-preserved : goal.loop-e-preserved
 loop-e-preserved c =
     
-    let i = c.loop-e.invariant in let k = c.settle_step-r.kept in let h = c.loop-e-test.taken in (
+    let i = c.loop-e.invariant in let k = c.settle_step-r.kept in let h = c.loop-e-test.true in (
       k.0 ∙ i.0,
       k.1.0 ∙ i.1,
       omega (arith, h),

@@ -21,10 +21,10 @@ pub returns-then-r : goal.returns-then-r
 returns-then-r c =
     let a = c.args in let i = c.loop-x.invariant in
     loop_stop (letter_at a.c a.k a.kinds.now a.numbers.now a.sizes.now a.firsts.now a.t a.e) _ i.3 refl c.reach_letter-r.ensures
-    a.count c.loop-x-test.taken c.if-r.true
+    a.count c.loop-x-test.true c.if-r.true
 
 pub loop-x-smaller : goal.loop-x-smaller
-loop-x-smaller c = omega (arith, c.loop-x-test.taken)
+loop-x-smaller c = omega (arith, c.loop-x-test.true)
 
 pub loop-x-preserved : goal.loop-x-preserved
 loop-x-preserved c =
@@ -32,7 +32,7 @@ loop-x-preserved c =
     let a = c.args in let i = c.loop-x.invariant in let q = c.reach_letter-r in (
       q.kept.0 ∙ i.0,
       q.kept.1.0 ∙ i.1,
-      omega (arith, c.loop-x-test.taken),
+      omega (arith, c.loop-x-test.true),
       loop_turn (letter_at a.c a.k a.kinds.now a.numbers.now a.sizes.now a.firsts.now a.t a.e) _ i.3 refl q.ensures c.if-r.false,
     )
 

@@ -111,7 +111,7 @@ overflow_add-i c =
     let p = c.requires in
     omega (
       arith,
-      (level_position p.1 (level_rule c.is_throughout.ensures p.0.2 c.if-is_throughout.left).1).0,
+      (level_position p.1 (level_rule c.is_throughout.ensures p.0.2 c.if-is_throughout.false).1).0,
       p.0.0.bounded.steps,
       p.0.0.bounded.left,
     )
@@ -121,7 +121,7 @@ overflow_add-left-2 c =
     let p = c.requires in
     omega (
       arith,
-      (level_position p.1 (level_rule c.is_throughout.ensures p.0.2 c.if-is_throughout.left).1).0,
+      (level_position p.1 (level_rule c.is_throughout.ensures p.0.2 c.if-is_throughout.false).1).0,
       p.0.0.bounded.steps,
       p.0.0.bounded.left,
     )
@@ -132,7 +132,7 @@ settle_step-requires c =
     let p = c.requires in (
       p.0.0.trailing,
       variable_here p.0.0 p.1,
-      inputs_here p.0.0 p.1 (level_gate_lem _ _ _ _ _ _ _ (level_rule c.is_throughout.ensures p.0.2 c.if-is_throughout.left).1 c.if-a-eq0.false
+      inputs_here p.0.0 p.1 (level_gate_lem _ _ _ _ _ _ _ (level_rule c.is_throughout.ensures p.0.2 c.if-is_throughout.false).1 c.if-a-eq0.false
           c.if-d-eq0-2.false refl (omega (arith, p.0.1)) refl),
     )
 

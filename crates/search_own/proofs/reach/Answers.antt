@@ -29,7 +29,7 @@ visit_line-requires c =
 pub reach_level-requires : goal.reach_level-requires
 reach_level-requires c =
     let p = c.requires in
-    let b = c.args.block in record { node = (p.0, p.1, subst (InBlock c.args.k b) (omega (arith, p.3)) p.3); rule_value = (sym c.form_of.ensures ∙ c.in-Intervals.is, sym c.is_chop.ensures ∙ c.if-is_chop.left, p.2.room, p.2.intervals_to) }
+    let b = c.args.block in record { node = (p.0, p.1, subst (InBlock c.args.k b) (omega (arith, p.3)) p.3); rule_value = (sym c.form_of.ensures ∙ c.in-Intervals.is, sym c.is_chop.ensures ∙ c.if-is_chop.false, p.2.room, p.2.intervals_to) }
 
 pub returns-in-Line : goal.returns-in-Line
 returns-in-Line c =

@@ -61,5 +61,5 @@ returns c =
     let t = c.triple_at-t.result in
     reached (triple_suffices a.c a.k _ a.block p.2 p.0.laid t c.triple_at-t.ensures.0
     (ap (λ (x : ℕ). a.block.first + count_of a.k + x) (sym c.triple_at-t.ensures.1)))
-    (both_visits a.c a.k a.block t c.triple_at-t.ensures c.beyond-w.ensures c.triples_of-triples.ensures c.if-r.left
+    (both_visits a.c a.k a.block t c.triple_at-t.ensures c.beyond-w.ensures c.triples_of-triples.ensures c.if-r.false
     c.visit_cut-r.ensures c.place.ensures.0 c.visit_one.ensures)

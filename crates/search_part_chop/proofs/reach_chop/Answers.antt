@@ -36,7 +36,7 @@ returns-then-among c =
     let p = c.requires in let b = c.args.block in let v = c.interval_at-v.result in
     let o = c.interval_at-v.ensures in
     reached (first_suffices c.args.c c.args.k c.args.u b p.0.2 p.0.0.laid v.i v.j o.0.starts o.0.ends
-    (omega (arith, c.among.ensures.here c.if-among.taken, o.1)))
+    (omega (arith, c.among.ensures.here c.if-among.true, o.1)))
     (visited_named (first_named c.args.c c.args.k b v.i v.j c.beyond.ensures c.triples_of-triples.ensures) c.visit_first.ensures)
 
 pub overflow_sub-u-then-among-2 : goal.overflow_sub-u-then-among-2
@@ -65,7 +65,7 @@ returns-then-among-2 c =
     let a = c.args in let p = c.requires in let b = a.block in let v = c.interval_at-v-then-among-2.result in
     let o = c.interval_at-v-then-among-2.ensures in
     reached (second_suffices a.c a.k a.u b p.0.2 p.0.0.laid v.i v.j o.0.starts o.0.ends
-    (omega (arith, c.among-2.ensures.here c.if-among-2.taken, o.1)))
+    (omega (arith, c.among-2.ensures.here c.if-among-2.true, o.1)))
     (visited_named (second_named a.c a.k b v.i v.j c.beyond.ensures c.triples_of-triples.ensures) c.visit_second.ensures)
 
 pub returns : goal.returns

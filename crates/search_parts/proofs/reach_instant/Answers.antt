@@ -17,17 +17,17 @@ returns-then-not-among c =
     (c.among.ensures.away c.if-not-among.true)) p.0.0.trailing)
 
 pub overflow_sub-u : goal.overflow_sub-u
-overflow_sub-u c = omega (arith, c.among.ensures.here c.if-not-among.left)
+overflow_sub-u c = omega (arith, c.among.ensures.here c.if-not-among.false)
 
 pub visit_instant-requires : goal.visit_instant-requires
 visit_instant-requires c =
     let p = c.requires in
-    let f = c.among.ensures.here c.if-not-among.left in
+    let f = c.among.ensures.here c.if-not-among.false in
     (whole_stands p.0.0 p.1.1, p.0.1, rising_known c.args.block.rule p.1.0 p.1.1 c.rise_of-rise.ensures, omega (arith, f), p.1.2)
 
 pub returns : goal.returns
 returns c =
     
-    let p = c.requires in let b = c.args.block in let f = c.among.ensures.here c.if-not-among.left in
+    let p = c.requires in let b = c.args.block in let f = c.among.ensures.here c.if-not-among.false in
     reached (instant_suffices c.args.c c.args.k c.args.u b (rising_known b.rule p.1.0 p.1.1 c.rise_of-rise.ensures) p.0.0.laid
     (omega (arith, f)) (omega (arith, f))) c.visit_instant.ensures

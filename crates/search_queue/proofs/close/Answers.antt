@@ -33,10 +33,10 @@ pub returns-then-r : goal.returns-then-r
 returns-then-r c = let i = c.loop-h.invariant in queue_clash i.2 i.3 c.reach-r.ensures c.if-r.true
 
 pub overflow_add-h : goal.overflow_add-h
-overflow_add-h c = let i = c.loop-h.invariant in omega (arith, pending_fits i.4, c.loop-h-test.taken)
+overflow_add-h c = let i = c.loop-h.invariant in omega (arith, pending_fits i.4, c.loop-h-test.true)
 
 pub loop-h-smaller : goal.loop-h-smaller
-loop-h-smaller c = let i = c.loop-h.invariant in omega (arith, i.0, pending_fits i.4, c.loop-h-test.taken)
+loop-h-smaller c = let i = c.loop-h.invariant in omega (arith, i.0, pending_fits i.4, c.loop-h-test.true)
 
 pub loop-h-preserved : goal.loop-h-preserved
 loop-h-preserved c =
@@ -46,7 +46,7 @@ loop-h-preserved c =
       q.kept.1.0 ∙ i.1,
       grown_more i.2 e.grown,
       e.same ∙ i.3,
-      pending_step i.4 (omega (arith, c.loop-h-test.taken)) e c.if-r.false,
+      pending_step i.4 (omega (arith, c.loop-h-test.true)) e c.if-r.false,
       i.5,
     )
 

@@ -31,27 +31,27 @@ pub gate_at-gate-requires : goal.gate_at-gate-requires
 gate_at-gate-requires c = gate_asked c.requires.bounded.0.0 c.loop-cursor.invariant.3 c.loop-cursor-test.true c.requires.bounded.2
 
 pub overflow_add-block : goal.overflow_add-block
-overflow_add-block c = omega (arith, c.loop-cursor.invariant.3.few, c.loop-cursor-test.taken, c.requires.bounded.0.0.first)
+overflow_add-block c = omega (arith, c.loop-cursor.invariant.3.few, c.loop-cursor-test.true, c.requires.bounded.0.0.first)
 
 pub visit-r-requires : goal.visit-r-requires
 visit-r-requires c =
     let i = c.loop-cursor.invariant in
     let D = defined_by c.args.c c.args.k c.args.block in
-    let a = asks_at (gate_defined c.requires.bounded.0.0 i.3 c.loop-cursor-test.taken c.gate_at-gate.ensures) (omega (arith, all_defined c.args.c i.3, c.loop-cursor-test.taken))
+    let a = asks_at (gate_defined c.requires.bounded.0.0 i.3 c.loop-cursor-test.true c.gate_at-gate.ensures) (omega (arith, all_defined c.args.c i.3, c.loop-cursor-test.true))
     (still D i.0 c.requires.all_mentioned) in
     (i.4.grown.trailing, a.0, a.1, a.2)
 
 pub returns-then-r : goal.returns-then-r
 returns-then-r c =
     let i = c.loop-cursor.invariant in
-    visited_named (whole_block _ i.3) (loop_stop _ _ i.4 (clauses_at_lem (gate_defined c.requires.bounded.0.0 i.3 c.loop-cursor-test.taken c.gate_at-gate.ensures))
-    c.visit-r.ensures _ c.loop-cursor-test.taken c.if-r.true)
+    visited_named (whole_block _ i.3) (loop_stop _ _ i.4 (clauses_at_lem (gate_defined c.requires.bounded.0.0 i.3 c.loop-cursor-test.true c.gate_at-gate.ensures))
+    c.visit-r.ensures _ c.loop-cursor-test.true c.if-r.true)
 
 pub next-cursor-requires : goal.next-cursor-requires
-next-cursor-requires c = let s = c.requires.bounded.0 in (walkable s.0 s.1, c.loop-cursor.invariant.3, c.loop-cursor-test.taken)
+next-cursor-requires c = let s = c.requires.bounded.0 in (walkable s.0 s.1, c.loop-cursor.invariant.3, c.loop-cursor-test.true)
 
 pub loop-cursor-smaller : goal.loop-cursor-smaller
-loop-cursor-smaller c = one_less c.loop-cursor.invariant.3 c.loop-cursor-test.taken c.next-cursor.ensures.0 c.next-cursor.ensures.1
+loop-cursor-smaller c = one_less c.loop-cursor.invariant.3 c.loop-cursor-test.true c.next-cursor.ensures.0 c.next-cursor.ensures.1
 
 pub loop-cursor-preserved : goal.loop-cursor-preserved
 loop-cursor-preserved c =
@@ -59,10 +59,10 @@ loop-cursor-preserved c =
     let i = c.loop-cursor.invariant in let k = c.visit-r.kept in let e = c.next-cursor.ensures in let s = c.args in (
       k.0 ∙ i.0,
       k.1.0 ∙ i.1,
-      omega (arith, c.loop-cursor-test.taken, i.3.whole, e.0.whole, e.1),
+      omega (arith, c.loop-cursor-test.true, i.3.whole, e.0.whole, e.1),
       e.0,
       visited_named (ap (λ (n : ℕ). rows n (clauses_at (defined_by s.c s.k s.block))) (sym e.1))
-          (loop_turn _ _ i.4 (clauses_at_lem (gate_defined c.requires.bounded.0.0 i.3 c.loop-cursor-test.taken c.gate_at-gate.ensures)) c.visit-r.ensures c.if-r.false),
+          (loop_turn _ _ i.4 (clauses_at_lem (gate_defined c.requires.bounded.0.0 i.3 c.loop-cursor-test.true c.gate_at-gate.ensures)) c.visit-r.ensures c.if-r.false),
     )
 
 pub returns : goal.returns

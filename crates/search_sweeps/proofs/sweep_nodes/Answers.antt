@@ -23,7 +23,7 @@ pub returns-then-r : goal.returns-then-r
 returns-then-r c =
     let i = c.loop-x.invariant in
     loop_stop _ _ i.3 (row_clauses_lem c.args.c c.args.k _ _ _ _ _ c.block_at-block.result c.block_at-block.ensures.value) c.sweep_node-r.ensures _
-    c.loop-x-test.taken c.if-r.true
+    c.loop-x-test.true c.if-r.true
 
 pub loop-x-preserved : goal.loop-x-preserved
 loop-x-preserved c =
@@ -31,7 +31,7 @@ loop-x-preserved c =
     let i = c.loop-x.invariant in let k = c.sweep_node-r.kept in (
       k.0 ∙ i.0,
       k.1.0 ∙ i.1,
-      omega (arith, c.loop-x-test.taken),
+      omega (arith, c.loop-x-test.true),
       loop_turn _ _ i.3 (row_clauses_lem c.args.c c.args.k _ _ _ _ _ c.block_at-block.result c.block_at-block.ensures.value) c.sweep_node-r.ensures
           c.if-r.false,
     )

@@ -52,34 +52,34 @@ overflow_add-y-in-loop-e c =
 pub settle_both-r-requires : goal.settle_both-r-requires
 settle_both-r-requires c =
     let i = c.loop-e.invariant in
-    let a = first_asks i.3 c.loop-e-test.taken (stands c.requires.0 i.0 i.4.grown.trailing) in
+    let a = first_asks i.3 c.loop-e-test.true (stands c.requires.0 i.0 i.4.grown.trailing) in
     (i.4.grown.trailing, a.0, a.1)
 
 pub returns-then-r : goal.returns-then-r
 returns-then-r c =
-    let i = c.loop-e.invariant in let h = c.loop-e-test.taken in
+    let i = c.loop-e.invariant in let h = c.loop-e-test.true in
     loop_stop _ _ i.4 (first_clauses_lem i.3 h _) (settled_visited c.settle_both-r.ensures) _ (omega (arith, h)) c.if-r.true
 
 pub overflow_add-v-in-loop-e : goal.overflow_add-v-in-loop-e
 overflow_add-v-in-loop-e c =
-    omega (arith, first_small c.loop-e.invariant.3 c.loop-e-test.taken c.requires.0.bounded)
+    omega (arith, first_small c.loop-e.invariant.3 c.loop-e-test.true c.requires.0.bounded)
 
 pub overflow_add-v-in-loop-e-2 : goal.overflow_add-v-in-loop-e-2
 overflow_add-v-in-loop-e-2 c =
-    omega (arith, first_small c.loop-e.invariant.3 c.loop-e-test.taken c.requires.0.bounded)
+    omega (arith, first_small c.loop-e.invariant.3 c.loop-e-test.true c.requires.0.bounded)
 
 pub overflow_add-v-in-loop-e-3 : goal.overflow_add-v-in-loop-e-3
 overflow_add-v-in-loop-e-3 c =
-    omega (arith, first_small c.loop-e.invariant.3 c.loop-e-test.taken c.requires.0.bounded)
+    omega (arith, first_small c.loop-e.invariant.3 c.loop-e-test.true c.requires.0.bounded)
 
 pub overflow_step-e : goal.overflow_step-e
 overflow_step-e c =
-    omega (arith, first_small c.loop-e.invariant.3 c.loop-e-test.taken c.requires.0.bounded)
+    omega (arith, first_small c.loop-e.invariant.3 c.loop-e-test.true c.requires.0.bounded)
 
 pub loop-e-preserved : goal.loop-e-preserved
 loop-e-preserved c =
     
-    let i = c.loop-e.invariant in let k = c.settle_both-r.kept in let h = c.loop-e-test.taken in (
+    let i = c.loop-e.invariant in let k = c.settle_both-r.kept in let h = c.loop-e-test.true in (
       k.0 ∙ i.0,
       k.1.0 ∙ i.1,
       omega (arith, h),

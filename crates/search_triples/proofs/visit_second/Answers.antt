@@ -43,58 +43,58 @@ overflow_add-y c =
 pub settle_both-r-requires : goal.settle_both-r-requires
 settle_both-r-requires c =
     let i = c.loop-i.invariant in
-    let a = second_asks i.3 (omega (arith, c.loop-i-test.taken)) (stands c.requires.0 i.0 i.4.grown.trailing) in
+    let a = second_asks i.3 (omega (arith, c.loop-i-test.true)) (stands c.requires.0 i.0 i.4.grown.trailing) in
     (i.4.grown.trailing, a.0, a.1)
 
 pub returns-then-r : goal.returns-then-r
 returns-then-r c =
-    let i = c.loop-i.invariant in let h = c.loop-i-test.taken in
+    let i = c.loop-i.invariant in let h = c.loop-i-test.true in
     loop_stop _ _ i.4 (second_clauses_lem i.3 (omega (arith, h)) _) (settled_visited c.settle_both-r.ensures) _ (omega (arith, h)) c.if-r.true
 
 pub overflow_add-v-in-loop-i : goal.overflow_add-v-in-loop-i
 overflow_add-v-in-loop-i c =
-    omega (arith, second_small c.loop-i.invariant.3 (omega (arith, c.loop-i-test.taken)) c.requires.0.bounded)
+    omega (arith, second_small c.loop-i.invariant.3 (omega (arith, c.loop-i-test.true)) c.requires.0.bounded)
 
 pub overflow_sub-v : goal.overflow_sub-v
 overflow_sub-v c =
-    omega (arith, second_small c.loop-i.invariant.3 (omega (arith, c.loop-i-test.taken)) c.requires.0.bounded)
+    omega (arith, second_small c.loop-i.invariant.3 (omega (arith, c.loop-i-test.true)) c.requires.0.bounded)
 
 pub overflow_add-v-in-loop-i-2 : goal.overflow_add-v-in-loop-i-2
 overflow_add-v-in-loop-i-2 c =
-    omega (arith, second_small c.loop-i.invariant.3 (omega (arith, c.loop-i-test.taken)) c.requires.0.bounded)
+    omega (arith, second_small c.loop-i.invariant.3 (omega (arith, c.loop-i-test.true)) c.requires.0.bounded)
 
 pub overflow_sub-v-in-loop-i : goal.overflow_sub-v-in-loop-i
 overflow_sub-v-in-loop-i c =
-    omega (arith, second_small c.loop-i.invariant.3 (omega (arith, c.loop-i-test.taken)) c.requires.0.bounded)
+    omega (arith, second_small c.loop-i.invariant.3 (omega (arith, c.loop-i-test.true)) c.requires.0.bounded)
 
 pub overflow_sub-x : goal.overflow_sub-x
 overflow_sub-x c =
-    omega (arith, second_small c.loop-i.invariant.3 (omega (arith, c.loop-i-test.taken)) c.requires.0.bounded)
+    omega (arith, second_small c.loop-i.invariant.3 (omega (arith, c.loop-i-test.true)) c.requires.0.bounded)
 
 pub overflow_add-x-in-loop-i : goal.overflow_add-x-in-loop-i
 overflow_add-x-in-loop-i c =
-    omega (arith, second_small c.loop-i.invariant.3 (omega (arith, c.loop-i-test.taken)) c.requires.0.bounded)
+    omega (arith, second_small c.loop-i.invariant.3 (omega (arith, c.loop-i-test.true)) c.requires.0.bounded)
 
 pub overflow_sub-row : goal.overflow_sub-row
 overflow_sub-row c =
-    omega (arith, second_small c.loop-i.invariant.3 (omega (arith, c.loop-i-test.taken)) c.requires.0.bounded)
+    omega (arith, second_small c.loop-i.invariant.3 (omega (arith, c.loop-i-test.true)) c.requires.0.bounded)
 
 pub overflow_add-row : goal.overflow_add-row
 overflow_add-row c =
-    omega (arith, second_small c.loop-i.invariant.3 (omega (arith, c.loop-i-test.taken)) c.requires.0.bounded)
+    omega (arith, second_small c.loop-i.invariant.3 (omega (arith, c.loop-i-test.true)) c.requires.0.bounded)
 
 pub overflow_sub-row-in-loop-i : goal.overflow_sub-row-in-loop-i
 overflow_sub-row-in-loop-i c =
-    omega (arith, second_small c.loop-i.invariant.3 (omega (arith, c.loop-i-test.taken)) c.requires.0.bounded)
+    omega (arith, second_small c.loop-i.invariant.3 (omega (arith, c.loop-i-test.true)) c.requires.0.bounded)
 
 pub overflow_step-i : goal.overflow_step-i
 overflow_step-i c =
-    omega (arith, second_small c.loop-i.invariant.3 (omega (arith, c.loop-i-test.taken)) c.requires.0.bounded)
+    omega (arith, second_small c.loop-i.invariant.3 (omega (arith, c.loop-i-test.true)) c.requires.0.bounded)
 
 pub loop-i-preserved : goal.loop-i-preserved
 loop-i-preserved c =
     
-    let i = c.loop-i.invariant in let k = c.settle_both-r.kept in let h = c.loop-i-test.taken in (
+    let i = c.loop-i.invariant in let k = c.settle_both-r.kept in let h = c.loop-i-test.true in (
       k.0 ∙ i.0,
       k.1.0 ∙ i.1,
       omega (arith, h),

@@ -12,22 +12,22 @@ pub loop-e-init : goal.loop-e-init
 loop-e-init c = (refl, refl, omega arith, loop_begun _ c.requires.0)
 
 pub overflow_add-w : goal.overflow_add-w
-overflow_add-w c = omega (arith, c.requires.2.0, c.loop-e-test.taken)
+overflow_add-w c = omega (arith, c.requires.2.0, c.loop-e-test.true)
 
 pub settle_by-r-requires : goal.settle_by-r-requires
 settle_by-r-requires c =
     let i = c.loop-e.invariant in let s = c.requires in let v = there i.0 s.1 in
-    record { trailing = (i.3.grown.trailing, omega arith); four = (v, there i.0 (s.2.1 _ c.loop-e-test.taken), v, v) }
+    record { trailing = (i.3.grown.trailing, omega arith); four = (v, there i.0 (s.2.1 _ c.loop-e-test.true), v, v) }
 
 pub returns-then-r : goal.returns-then-r
 returns-then-r c =
     
-    loop_stop _ _ c.loop-e.invariant.3 (raised_pattern _ _ _) (settled_visited c.settle_by-r.ensures) _ c.loop-e-test.taken c.if-r.true
+    loop_stop _ _ c.loop-e.invariant.3 (raised_pattern _ _ _) (settled_visited c.settle_by-r.ensures) _ c.loop-e-test.true c.if-r.true
 
 pub loop-e-preserved : goal.loop-e-preserved
 loop-e-preserved c =
     let i = c.loop-e.invariant in let k = c.settle_by-r.kept in
-    (k.0 ∙ i.0, k.1.0 ∙ i.1, omega (arith, c.loop-e-test.taken), loop_turn _ _ i.3 (raised_pattern _ _ _) (settled_visited c.settle_by-r.ensures) c.if-r.false)
+    (k.0 ∙ i.0, k.1.0 ∙ i.1, omega (arith, c.loop-e-test.true), loop_turn _ _ i.3 (raised_pattern _ _ _) (settled_visited c.settle_by-r.ensures) c.if-r.false)
 
 pub returns : goal.returns
 returns c = let i = c.loop-e.invariant in loop_done _ _ _ i.2 (omega (arith, c.loop-e-test.false)) i.3

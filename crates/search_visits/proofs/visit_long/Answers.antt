@@ -31,7 +31,7 @@ loop-e-preserved c =
     let i = c.loop-e.invariant in let o = sym c.opposed-in-loop-e.ensures in (
       omega (arith, c.loop-e-test.true),
       ⊎_elim (λ w. reading_moved w.2 w.3 w.4
-          (reading_first i.1 (o ∙ w.0.taken) w.1.left (c.requires.2.1 _ c.loop-e-test.true)))
+          (reading_first i.1 (o ∙ w.0.true) w.1.left (c.requires.2.1 _ c.loop-e-test.true)))
           (λ w. reading_moved w.1 w.2 w.3 (reading_same i.1 (o ∙ w.0.left))) c.if-not-opposed.branch,
     )
 

@@ -12,7 +12,7 @@ pub loop-x-init : goal.loop-x-init
 loop-x-init c = begun
 
 pub block_at-block-requires : goal.block_at-block-requires
-block_at-block-requires c = let p = c.requires.c_le_max_channels in (p.1, omega (arith, p.2, c.loop-x-test.taken), p.3)
+block_at-block-requires c = let p = c.requires.c_le_max_channels in (p.1, omega (arith, p.2, c.loop-x-test.true), p.3)
 
 pub put_node-at-requires : goal.put_node-at-requires
 put_node-at-requires c =

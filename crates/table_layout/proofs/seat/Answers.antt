@@ -16,7 +16,7 @@ overflow_add-result c =
 pub returns-then-byte_at-eq-FORMULA_DURATION : goal.returns-then-byte_at-eq-FORMULA_DURATION
 returns-then-byte_at-eq-FORMULA_DURATION c =
     (
-      seat_lasting _ _ _ _ _ c.number_at-first.ensures c.byte_at.ensures c.if-byte_at-eq-FORMULA_DURATION.taken c.byte_at-n.ensures c.count.ensures.0,
+      seat_lasting _ _ _ _ _ c.number_at-first.ensures c.byte_at.ensures c.if-byte_at-eq-FORMULA_DURATION.true c.byte_at-n.ensures c.count.ensures.0,
       omega (
         arith,
         level_low c.byte_at-n.result c.count.result (search rules) (search rules),

@@ -5,7 +5,7 @@ use Prim.Native.Nat.{◌-◌}
 use Rattle.table_literals.proofs.put_raised.Given as goal
 
 abbrev pub invariant-loop-e : goal.invariant-loop-e
-invariant-loop-e l = Sofar l.initial.variables l.initial.marks l.at (raised_of l.v l.w) l.n l.marks l.b l.e e
+invariant-loop-e l = Sofar l.initial.variables l.initial.marks l.at (raised_of l.v l.w) l.n l.variables l.marks l.b l.e
 
 abbrev pub decreases-loop-e : goal.decreases-loop-e
-decreases-loop-e l = l.n - e
+decreases-loop-e l = l.n - l.e

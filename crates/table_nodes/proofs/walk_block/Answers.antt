@@ -16,23 +16,23 @@ gate_at-gate-requires c = gate_asked c.requires.bounded.0 c.loop-cursor.invarian
 
 pub overflow_add-block : goal.overflow_add-block
 overflow_add-block c =
-    omega (arith, c.loop-cursor.invariant.walks.few, c.loop-cursor-test.taken, c.requires.bounded.0.first)
+    omega (arith, c.loop-cursor.invariant.walks.few, c.loop-cursor-test.true, c.requires.bounded.0.first)
 
 pub put_gate-b-requires : goal.put_gate-b-requires
 put_gate-b-requires c =
-    let w = c.loop-cursor.invariant in let h = c.loop-cursor-test.taken in
+    let w = c.loop-cursor.invariant in let h = c.loop-cursor-test.true in
     let g = gate_defined c.requires.bounded.0 w.walks h c.gate_at-gate.ensures in record { room = walk_room _ _ _ w h g c.requires.room; within = g.within }
 
 pub next-cursor-requires : goal.next-cursor-requires
-next-cursor-requires c = let p = c.requires.bounded in (walkable p.0 p.1, c.loop-cursor.invariant.walks, c.loop-cursor-test.taken)
+next-cursor-requires c = let p = c.requires.bounded in (walkable p.0 p.1, c.loop-cursor.invariant.walks, c.loop-cursor-test.true)
 
 pub loop-cursor-smaller : goal.loop-cursor-smaller
-loop-cursor-smaller c = one_less c.loop-cursor.invariant.walks c.loop-cursor-test.taken c.next-cursor.ensures.0 c.next-cursor.ensures.1
+loop-cursor-smaller c = one_less c.loop-cursor.invariant.walks c.loop-cursor-test.true c.next-cursor.ensures.0 c.next-cursor.ensures.1
 
 pub loop-cursor-preserved : goal.loop-cursor-preserved
 loop-cursor-preserved c =
     
-    let w = c.loop-cursor.invariant in let h = c.loop-cursor-test.taken in
+    let w = c.loop-cursor.invariant in let h = c.loop-cursor-test.true in
     walk_turn _ _ _ w h (gate_defined c.requires.bounded.0 w.walks h c.gate_at-gate.ensures) c.put_gate-b.ensures c.next-cursor.ensures
 
 pub shape_of-variables : goal.shape_of-variables

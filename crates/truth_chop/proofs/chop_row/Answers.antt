@@ -60,7 +60,7 @@ loop-d-smaller c =
 pub loop-d-preserved : goal.loop-d-preserved
 loop-d-preserved c =
     let l = c.loop-d in let o = row (goal.at.loop-d-preserved c).After-place-at in
-    turn_yes _ _ _ _ _ _ _ _ _ _ c.or_onto.new.0 l.invariant (omega arith) c.if-p-start-eq0.false c.requires.k_in_bounds.2 o.0 (omega arith) (search rules)
+    turn_yes _ _ _ _ _ _ _ _ _ _ c.or_onto.new.row l.invariant (omega arith) c.if-p-start-eq0.false c.requires.k_in_bounds.2 o.0 (omega arith) (search rules)
     c.or_onto.ensures
 
 pub returns : goal.returns

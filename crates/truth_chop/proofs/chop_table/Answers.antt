@@ -15,7 +15,7 @@ use Rattle.truth_chop.proofs.chop_table.Goals as goal
 
 pub next_rows-nexts-requires : goal.next_rows-nexts-requires
 unfolding count_of
-next_rows-nexts-requires c = (c.requires.0, omega (arith, count_le max_steps _ c.requires.0, c.next_rows-arg-1.given.0), c.requires.1)
+next_rows-nexts-requires c = (c.requires.0, omega (arith, count_le max_steps _ c.requires.0), c.requires.1)
 
 pub loop-i-init : goal.loop-i-init
 unfolding count_of
@@ -27,8 +27,8 @@ pub chop_row-requires : goal.chop_row-requires
 chop_row-requires c =
     let l = c.loop-i in
     let w = l.invariant.1 in record { k_le_max_steps = (search rules, omega arith, w.starts, row_length max_count _ _ _ _ _ w (omega arith), row_zeros max_count _ _ _ _ _ w); k_in_bounds = (
-        omega (arith, w.room, c.chop_row-arg-1.given.0),
-        omega (arith, w.room, c.chop_row-arg-in-loop-i-1.given.0),
+        omega (arith, w.room),
+        omega (arith, w.room),
         c.next_rows-nexts.ensures.0,
         c.requires.1,
       ) }
@@ -36,7 +36,7 @@ chop_row-requires c =
 pub loop-i-preserved : goal.loop-i-preserved
 loop-i-preserved c =
     let a = c.args in let l = c.loop-i in
-    let end = l.start + (a.k + 1 - l.i) in let row = c.chop_row.new.0 in
+    let end = l.start + (a.k + 1 - l.i) in let row = c.chop_row.new.row in
     let h : l.i ≤ a.k = omega (arith, l.invariant.0, c.loop-i-test.true) in
     let w = l.invariant.1 in let o : length row ≡ length (mid_of l.start (end - l.start) l.t) = search rules in
     let long : length row ≡ end - l.start = omega (arith, o, row_length max_count _ _ _ end _ w (omega arith)) in (

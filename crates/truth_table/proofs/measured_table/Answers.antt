@@ -23,7 +23,7 @@ measured_row-requires c =
 pub loop-i-preserved : goal.loop-i-preserved
 loop-i-preserved c =
     let a = c.args in let l = c.loop-i in
-    let end = l.start + (a.k + 1 - l.i) in let row = c.measured_row.new.0 in
+    let end = l.start + (a.k + 1 - l.i) in let row = c.measured_row.new.row in
     let w = l.invariant.1 in (
       omega arith,
       filled_turn max_count _ _ _ end _ row (omega arith) w (omega arith) (search rules),
