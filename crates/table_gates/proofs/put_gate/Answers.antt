@@ -34,7 +34,7 @@ put-requires-in-Either c =
 
 pub put_any-requires : goal.put_any-requires
 put_any-requires c =
-    let p = c.requires in let e = c.in-AnyOf.is in record { room = room_known _ e p.0; le_n = within_known e p.1 }
+    let e = c.in-AnyOf.is in record { room = room_known _ e c.requires.room; le_n = within_known e c.requires.within }
 
 pub put-requires-in-Step : goal.put-requires-in-Step
 put-requires-in-Step c =
