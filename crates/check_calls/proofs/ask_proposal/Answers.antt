@@ -7,11 +7,10 @@ use native.Mathlib.Omega.{arith}
 use Rattle.check_calls.proofs.ask_proposal.Goals as goal
 
 pub layout_of-layout-requires : goal.layout_of-layout-requires
-layout_of-layout-requires c = let p = c.requires in (p.0, p.1, p.2)
+layout_of-layout-requires c = (c.requires.0, c.requires.1, c.requires.2)
 
 pub returns-in-No : goal.returns-in-No
 returns-in-No c =
-    
     λ f e. length_no _ _ f e c.layout_of-layout.ensures _ _ (sym c.ask.ensures ∙ c.in-No.is)
 
 pub ask_below-requires : goal.ask_below-requires
@@ -21,30 +20,24 @@ ask_below-requires c =
 
 pub returns-in-No-ask_below : goal.returns-in-No-ask_below
 returns-in-No-ask_below c =
-    
     λ f e. values_no _ _ f e c.layout_of-layout.ensures _ _ (sym c.ask.ensures ∙ c.in_default.is)
     (sym c.ask_below.ensures ∙ c.in-No-ask_below.is)
 
 pub ask_table-requires : goal.ask_table-requires
 ask_table-requires c =
-    
-    let p = c.requires in let w = c.layout_of-layout.ensures in
-    let t = p.3 in (
-      (p.0, p.1, p.2, w.low),
+    let w = c.layout_of-layout.ensures in
+    let t = c.requires.3 in (
+      (c.requires.0, c.requires.1, c.requires.2, w.low),
       table_mentioned _ _ t.0 t.1.is w t.1.letters c.args.assignment.now
           (length_yes c.args.assignment.now _ (sym c.ask.ensures ∙ c.in_default.is)),
     )
 
 pub returns-in-No-ask_table : goal.returns-in-No-ask_table
 returns-in-No-ask_table c =
-    
-    
     λ f e. clauses_no _ _ f e c.layout_of-layout.ensures _ _ (sym c.ask.ensures ∙ c.in_default.is)
     (sym c.ask_below.ensures ∙ c.in_default-ask_below.is) (sym c.ask_table.ensures ∙ c.in-No-ask_table.is)
 
 pub returns : goal.returns
 returns c =
-    
-    
     λ f e. places_last _ _ f e c.layout_of-layout.ensures _ _ (sym c.ask.ensures ∙ c.in_default.is)
     (sym c.ask_below.ensures ∙ c.in_default-ask_below.is) (sym c.ask_table.ensures ∙ c.in_default-ask_table.is) c.ask-2.ensures

@@ -40,7 +40,6 @@ returns-then-high c =
 
 pub returns : goal.returns
 returns c =
-    
     let a = c.args in
     let last = c.sums-last.ensures.total ∙ ap (λ (w : Weight). 0 + weight_to w a.k a.t2.kinds a.t2.numbers a.t2.count) c.clauses.ensures in
     root_unmet _ _ _ c.ask_nodes.ensures c.in_default.is

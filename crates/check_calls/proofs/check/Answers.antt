@@ -16,22 +16,18 @@ ask_proposal-requires c =
 
 pub returns-in-No-ask_proposal : goal.returns-in-No-ask_proposal
 returns-in-No-ask_proposal c =
-    
     refused_later _ _ _ _ _ _ c.node_table-tabled.ensures c.in_default.is c.ask_proposal.ensures _ c.in-No-ask_proposal.is
 
 pub slice_bounds-put_recording-end : goal.slice_bounds-put_recording-end
 slice_bounds-put_recording-end c =
-    
     room _ _ _ _ c.args.recording.now _ c.node_table-tabled.ensures c.in_default.is c.ask_proposal.ensures c.in_default-ask_proposal.is
 
 pub slice_bounds-put_recording-end-2 : goal.slice_bounds-put_recording-end-2
 slice_bounds-put_recording-end-2 c =
-    
     sym (recorded_fits _ _ _ _ _ _ c.node_table-tabled.ensures c.in_default.is c.ask_proposal.ensures c.in_default-ask_proposal.is).0
 
 pub put_recording-requires : goal.put_recording-requires
 put_recording-requires c =
-    
     let l = limits _ _ _ _ c.node_table-tabled.ensures c.in_default.is in
     let f = recorded_fits _ _ _ _ c.args.recording.now _ c.node_table-tabled.ensures c.in_default.is c.ask_proposal.ensures
     c.in_default-ask_proposal.is in
@@ -39,5 +35,4 @@ put_recording-requires c =
 
 pub returns : goal.returns
 returns c =
-    
     accepted_last _ _ _ _ _ _ c.node_table-tabled.ensures c.in_default.is c.ask_proposal.ensures c.in_default-ask_proposal.is c.put_recording.ensures

@@ -21,19 +21,17 @@ overflow_add-block c =
 
 pub ask_gate-requires : goal.ask_gate-requires
 ask_gate-requires c =
-    let p = c.requires in let i = c.loop-cursor.invariant in
-    gate_asks p.0.0 i.0 i.1 c.loop-cursor-test.true (gate_defined p.0.0.0 i.0 c.loop-cursor-test.true c.gate_at-gate.ensures) p.1 p.0.1
+    let i = c.loop-cursor.invariant in
+    gate_asks c.requires.bounded.0 i.0 i.1 c.loop-cursor-test.true (gate_defined c.requires.bounded.0.0 i.0 c.loop-cursor-test.true c.gate_at-gate.ensures) c.requires.all_mentioned c.requires.bounded.1
 
 pub returns-in-No : goal.returns-in-No
 returns-in-No c =
-    
     let i = c.loop-cursor.invariant in
     block_stopped c.requires.bounded.0 i.0 i.1 c.loop-cursor-test.true (gate_defined c.requires.bounded.0.0 i.0 c.loop-cursor-test.true c.gate_at-gate.ensures)
     c.ask_gate.ensures c.in-No.is
 
 pub clause_count-m-requires : goal.clause_count-m-requires
 clause_count-m-requires c =
-    
     let i = c.loop-cursor.invariant in (gate_few c.requires.bounded.0 i.0 i.1 c.loop-cursor-test.true (gate_defined c.requires.bounded.0.0 i.0 c.loop-cursor-test.true c.gate_at-gate.ensures)).0
 
 pub overflow_add-m : goal.overflow_add-m
@@ -55,7 +53,6 @@ loop-cursor-smaller c = one_less c.loop-cursor.invariant.0 c.loop-cursor-test.tr
 
 pub loop-cursor-preserved : goal.loop-cursor-preserved
 loop-cursor-preserved c =
-    
     let i = c.loop-cursor.invariant in let e = c.next-cursor.ensures in (
       e.0,
       block_turn c.requires.bounded.0 i.0 i.1 c.loop-cursor-test.true (gate_defined c.requires.bounded.0.0 i.0 c.loop-cursor-test.true c.gate_at-gate.ensures)

@@ -9,12 +9,11 @@ use Rattle.check_clauses.proofs.ask_chop.Goals as goal
 
 pub ask_block-requires : goal.ask_block-requires
 ask_block-requires c =
-    let h = halves c.args.block c.beyond-w.ensures c.triples_of-triples.ensures c.intervals_of-intervals.ensures in let s = c.requires in
-    record { bounded = (triples_bounded _ h s.0.0, omega (arith, s.0.1), s.0.2); all_mentioned = triples_mentioned _ h s.1 }
+    let h = halves c.args.block c.beyond-w.ensures c.triples_of-triples.ensures c.intervals_of-intervals.ensures in 
+    record { bounded = (triples_bounded _ h c.requires.fine.0, omega (arith, c.requires.fine.1), c.requires.fine.2); all_mentioned = triples_mentioned _ h c.requires.all_mentioned }
 
 pub returns-in-No : goal.returns-in-No
 returns-in-No c =
-    
     triples_no _ (halves c.args.block c.beyond-w.ensures c.triples_of-triples.ensures c.intervals_of-intervals.ensures) _ _ c.ask_block.ensures
     c.in-No.is
 
@@ -25,12 +24,10 @@ weigh-before-requires c =
 
 pub ask_block-requires-2 : goal.ask_block-requires-2
 ask_block-requires-2 c =
-    
-    let h = halves c.args.block c.beyond-w.ensures c.triples_of-triples.ensures c.intervals_of-intervals.ensures in let s = c.requires in
-    record { bounded = (intervals_bounded _ h s.0.0, omega (arith, s.0.1, c.weigh-before.ensures.1), s.0.2); all_mentioned = intervals_mentioned _ h s.1 }
+    let h = halves c.args.block c.beyond-w.ensures c.triples_of-triples.ensures c.intervals_of-intervals.ensures in 
+    record { bounded = (intervals_bounded _ h c.requires.fine.0, omega (arith, c.requires.fine.1, c.weigh-before.ensures.1), c.requires.fine.2); all_mentioned = intervals_mentioned _ h c.requires.all_mentioned }
 
 pub returns : goal.returns
 returns c =
-    
     intervals_asked _ (halves c.args.block c.beyond-w.ensures c.triples_of-triples.ensures c.intervals_of-intervals.ensures) _ _
     c.ask_block.ensures c.in_default.is c.clauses.ensures c.weigh-before.ensures.0 c.ask_block-2.ensures

@@ -15,12 +15,10 @@ high-requires c = c.requires.3 _ c.loop-e-test.true
 
 pub returns-then-high-up : goal.returns-then-high-up
 returns-then-high-up c =
-    
     constants_stopped _ _ _ _ _ c.loop-e.invariant c.loop-e-test.true c.high.ensures (differ c.high.result c.args.up c.if-high-up.true refl)
 
 pub loop-e-preserved : goal.loop-e-preserved
 loop-e-preserved c =
-    
     constants_turn _ _ _ _ _ c.loop-e.invariant c.loop-e-test.true c.high.ensures ((beq_exactly c.high.result c.args.up).0 c.if-high-up.false)
 
 pub returns : goal.returns

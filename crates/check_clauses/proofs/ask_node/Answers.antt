@@ -9,7 +9,7 @@ use Rattle.check_clauses.proofs.ask_node.Goals as goal
 
 pub ask_chop-requires : goal.ask_chop-requires
 ask_chop-requires c =
-    let s = c.requires in record { fine = s.0; all_mentioned = subst (AllMentioned _) (sym (node_known _ _ c.args.block c.is_chop.ensures c.if-is_chop.true)) s.1 }
+    record { fine = c.requires.0; all_mentioned = subst (AllMentioned _) (sym (node_known _ _ c.args.block c.is_chop.ensures c.if-is_chop.true)) c.requires.1 }
 
 pub returns-then-is_chop : goal.returns-then-is_chop
 returns-then-is_chop c =
@@ -17,19 +17,16 @@ returns-then-is_chop c =
 
 pub ask_constants-requires : goal.ask_constants-requires
 ask_constants-requires c =
-    
     let d = subst (AllMentioned _) (sym (node_known _ _ c.args.block c.is_chop.ensures c.if-is_chop.false)) c.requires.1 in
     (c.requires.0.0.bounded.first, c.requires.0.0.points, omega (arith, c.requires.0.1), constants_mentioned _ _ c.args.block c.in-Fixed.is d)
 
 pub returns-in-Fixed : goal.returns-in-Fixed
 returns-in-Fixed c =
-    
     node_asked _ _ _ _ c.args.block c.is_chop.ensures c.if-is_chop.false (constants_asked _ _ c.args.block c.in-Fixed.is _ _ c.ask_constants.ensures)
 
 pub ask_block-requires : goal.ask_block-requires
 ask_block-requires c =
-    
-    let s = c.requires in record { bounded = ((s.0.0.bounded, s.0.0.points), omega (arith, s.0.1), s.0.2); all_mentioned = subst (AllMentioned _) (sym (node_known _ _ c.args.block c.is_chop.ensures c.if-is_chop.false)) s.1 }
+    record { bounded = ((c.requires.0.0.bounded, c.requires.0.0.points), omega (arith, c.requires.0.1), c.requires.0.2); all_mentioned = subst (AllMentioned _) (sym (node_known _ _ c.args.block c.is_chop.ensures c.if-is_chop.false)) c.requires.1 }
 
 pub returns : goal.returns
 returns c =

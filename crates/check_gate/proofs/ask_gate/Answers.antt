@@ -8,7 +8,6 @@ use Rattle.check_gate.proofs.ask_gate.Goals as goal
 
 pub returns-then-up-value : goal.returns-then-up-value
 returns-then-up-value c =
-    
     gate_met _ _ _ _ (sym c.high-up.ensures ∙ (beq_exactly c.high-up.result c.value.result).0 c.if-up-value.true ∙ c.value.ensures)
 
 pub overflow_add-result : goal.overflow_add-result
@@ -22,5 +21,4 @@ overflow_add-result c =
 
 pub returns : goal.returns
 returns c =
-    
     c.first_unmet.ensures _ _ c.high-up.ensures (differ c.high-up.result c.value.result c.if-up-value.false c.value.ensures)

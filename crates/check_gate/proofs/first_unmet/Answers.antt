@@ -12,7 +12,7 @@ pub high-requires-else-up-3 : goal.high-requires-else-up-3
 high-requires-else-up-3 c = (rw c.in-Either.is at c.requires.0).0
 
 pub first_high-requires : goal.first_high-requires
-first_high-requires c = let e = c.in-AnyOf.is in let p = c.requires in ((rw e at p.1).1, rw e at p.0)
+first_high-requires c = let e = c.in-AnyOf.is in ((rw e at c.requires.1).1, rw e at c.requires.0)
 
 pub high-requires-then-up-4 : goal.high-requires-then-up-4
 high-requires-then-up-4 c = let p = rw c.in-Step.is at c.requires.0 in search (p.1, p.2)

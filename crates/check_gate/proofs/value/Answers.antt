@@ -23,7 +23,7 @@ pub high-requires-in-Either-2 : goal.high-requires-in-Either-2
 high-requires-in-Either-2 c = (rw c.in-Either.is at c.requires.0).1
 
 pub first_high-requires : goal.first_high-requires
-first_high-requires c = let e = c.in-AnyOf.is in let p = c.requires in ((rw e at p.1).1, rw e at p.0)
+first_high-requires c = let e = c.in-AnyOf.is in ((rw e at c.requires.1).1, rw e at c.requires.0)
 
 pub high-requires-in-Step : goal.high-requires-in-Step
 high-requires-in-Step c = (rw c.in-Step.is at c.requires.0).0

@@ -14,7 +14,7 @@ loop-t-init c = begun refl
 
 pub recorded-requires : goal.recorded-requires
 recorded-requires c =
-    let p = c.requires in (p.0, omega (arith, p.1, c.loop-t-test.true), row_fits _ _ _ (search rules) p.2)
+    (c.requires.0, omega (arith, c.requires.1, c.loop-t-test.true), row_fits _ _ _ (search rules) c.requires.2)
 
 pub loop-t-preserved : goal.loop-t-preserved
 loop-t-preserved c = turn c.loop-t.invariant (search rules) c.recorded.ensures

@@ -32,7 +32,7 @@ pub put_joined-requires-in-Or : goal.put_joined-requires-in-Or
 put_joined-requires-in-Or c = (fits (goal.at.put_joined-requires-in-Or c).Start c.in-Or.is, c.requires.2, c.requires.3)
 
 pub put_chop-requires : goal.put_chop-requires
-put_chop-requires c = let p = c.requires in (p.0, fits (goal.at.put_chop-requires c).Start c.in-Chop.is, p.2, p.3, p.4)
+put_chop-requires c = (c.requires.0, fits (goal.at.put_chop-requires c).Start c.in-Chop.is, c.requires.2, c.requires.3, c.requires.4)
 
 pub put_levels-requires : goal.put_levels-requires
 put_levels-requires c =
@@ -49,7 +49,6 @@ put_table-requires-in-Cut c = fits (goal.at.put_table-requires-in-Cut c).Start c
 pub returns-in-Fixed : goal.returns-in-Fixed
 unfolding values_by
 returns-in-Fixed c =
-    
     values_by_lem _ _ _ _ _ c.in-Fixed.is (c.put_table.ensures ∙ same_values (fits (goal.at.returns-in-Fixed c).Start c.in-Fixed.is) c.all_of.ensures c.byte_of.ensures)
 
 pub returns-in-Letter : goal.returns-in-Letter
@@ -75,7 +74,6 @@ returns-in-Chop c = values_by_lem _ _ _ _ _ c.in-Chop.is c.put_chop.ensures
 pub returns-in-Duration : goal.returns-in-Duration
 unfolding values_by
 returns-in-Duration c =
-    
     values_by_lem _ _ _ _ _ c.in-Duration.is (c.put_levels.ensures _ (bits_word _ c.requires.2 c.word_of.ensures))
 
 pub returns-in-Throughout : goal.returns-in-Throughout
@@ -89,5 +87,4 @@ returns-in-Throughout c =
 pub returns-in-Cut : goal.returns-in-Cut
 unfolding values_by
 returns-in-Cut c =
-    
     values_by_lem _ _ _ _ _ c.in-Cut.is (c.put_table-in-Cut.ensures ∙ same_values (fits (goal.at.returns-in-Cut c).Start c.in-Cut.is) c.all_of-in-Cut.ensures refl)

@@ -10,24 +10,22 @@ loop-x-init c = extending_begun c.requires.room.2
 
 pub block_at-block-requires : goal.block_at-block-requires
 block_at-block-requires c =
-    
-    let p = c.requires in (p.0.0, omega (arith, p.0.1, c.loop-x.invariant.turns, c.loop-x-test.true), p.0.3)
+    (c.requires.room.0, omega (arith, c.requires.room.1, c.loop-x.invariant.turns, c.loop-x-test.true), c.requires.room.3)
 
 pub put_node-requires : goal.put_node-requires
 put_node-requires c =
-    let p = c.requires in let e = c.block_at-block.ensures in
-    let f = block_fits c.loop-x.invariant (search rules) e.0 p.1.0 p.1.1 (e.1 0 (omega arith)) in
-    (p.0.0, f, p.0.4)
+    let e = c.block_at-block.ensures in
+    let f = block_fits c.loop-x.invariant (search rules) e.0 c.requires.c_le_max_channels.0 c.requires.c_le_max_channels.1 (e.1 0 (omega arith)) in
+    (c.requires.room.0, f, c.requires.room.4)
 
 pub overflow_sub-end : goal.overflow_sub-end
 overflow_sub-end c =
-    let p = c.requires in let e = c.block_at-block.ensures in
-    (block_fits c.loop-x.invariant (search rules) e.0 p.1.0 p.1.1 (e.1 0 (omega arith))).0
+    let e = c.block_at-block.ensures in
+    (block_fits c.loop-x.invariant (search rules) e.0 c.requires.c_le_max_channels.0 c.requires.c_le_max_channels.1 (e.1 0 (omega arith))).0
 
 pub loop-x-preserved : goal.loop-x-preserved
 loop-x-preserved c =
-    let p = c.requires in
-    extending_turn c.loop-x.invariant (search rules) c.block_at-block.ensures.value p.1.0 p.1.1 p.0.2 (search rules) c.put_node.ensures
+    extending_turn c.loop-x.invariant (search rules) c.block_at-block.ensures.value c.requires.c_le_max_channels.0 c.requires.c_le_max_channels.1 c.requires.room.2 (search rules) c.put_node.ensures
 
 pub shape_of-assignment : goal.shape_of-assignment
 shape_of-assignment c = c.loop-x.invariant.long

@@ -9,16 +9,14 @@ use native.Mathlib.Omega.{arith}
 use Rattle.extend_calls.proofs.write_extension.Goals as goal
 
 pub layout_of-layout-requires : goal.layout_of-layout-requires
-layout_of-layout-requires c = let p = c.requires in (p.0, p.1, p.2)
+layout_of-layout-requires c = (c.requires.0, c.requires.1, c.requires.2)
 
 pub returns-in-No : goal.returns-in-No
 returns-in-No c =
-    
     λ f t. refused_known _ _ f t c.layout_of-layout.ensures _ _ _ (sym c.ask.ensures ∙ c.in-No.is)
 
 pub slice_bounds-put_channels-end : goal.slice_bounds-put_channels-end
 slice_bounds-put_channels-end c =
-    
     channels_fit c.layout_of-layout.ensures c.args.assignment.now (sym c.ask.ensures ∙ c.in_default.is)
 
 pub slice_bounds-put_channels-end-2 : goal.slice_bounds-put_channels-end-2
@@ -34,7 +32,6 @@ put_channels-requires c =
 
 pub put_nodes-requires : goal.put_nodes-requires
 put_nodes-requires c =
-    
     let w = c.layout_of-layout.ensures in
     let enough = places_enough c.layout_of-layout.result.sizes.variables (length c.args.assignment.now) (sym c.ask.ensures ∙ c.in_default.is) in
     let fit = channels_fit w c.args.assignment.now (sym c.ask.ensures ∙ c.in_default.is) in
@@ -43,7 +40,5 @@ put_nodes-requires c =
 
 pub returns : goal.returns
 returns c =
-    
-    
     λ f t. written_known c.args.c c.args.k f t c.layout_of-layout.ensures c.args.recording.now c.args.assignment.now
     (sym c.ask.ensures ∙ c.in_default.is) c.requires.3 c.put_channels.ensures refl c.put_nodes.ensures

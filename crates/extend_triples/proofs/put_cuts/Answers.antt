@@ -21,7 +21,6 @@ bounds-q-at c =
 
 pub overflow_add-at-then-e-steps : goal.overflow_add-at-then-e-steps
 overflow_add-at-then-e-steps c =
-    
     omega (arith, cut_small (omega arith) c.loop-e.invariant.2 c.place-first.ensures.0 (omega arith) (search rules))
 
 pub loop-e-preserved : goal.loop-e-preserved

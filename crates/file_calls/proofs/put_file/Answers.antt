@@ -23,7 +23,6 @@ put_numbers-end-requires c =
 
 pub put_bytes-requires : goal.put_bytes-requires
 put_bytes-requires c =
-    
     let a = c.args in let p = c.put_numbers-at.ensures in let q = c.put_numbers-end.ensures in
     omega (
       arith,
@@ -37,6 +36,5 @@ put_bytes-requires c =
 
 pub returns : goal.returns
 returns c =
-    
     let a = c.args in let p = c.put_numbers-at.ensures in let q = c.put_numbers-end.ensures in
     parts_stored (five_of a.s) a.variables.now a.marks.now a.file.now p.0 p.1 q.0 q.1 c.put_bytes.ensures

@@ -17,7 +17,6 @@ sizes_at-s-requires c = file_long _ (asked_file _ (sym c.ask_file.ensures ∙ c.
 
 pub returns-in-No-ask_room : goal.returns-in-No-ask_room
 returns-in-No-ask_room c =
-    
     read_short _ _ _ _ (sym c.ask_file.ensures ∙ c.in_default.is) c.sizes_at-s.ensures (sym c.ask_room.ensures ∙ c.in-No-ask_room.is)
 
 pub put_sizes-requires : goal.put_sizes-requires
@@ -32,12 +31,10 @@ read_numbers-requires c =
 
 pub marks_at-requires : goal.marks_at-requires
 marks_at-requires c =
-    
     file_held _ (asked_file _ (sym c.ask_file.ensures ∙ c.in_default.is)) c.sizes_at-s.ensures
 
 pub put_bytes-requires : goal.put_bytes-requires
 put_bytes-requires c =
-    
     omega (
       arith,
       ap length c.marks_at.ensures,
@@ -49,8 +46,6 @@ put_bytes-requires c =
 
 pub returns : goal.returns
 returns c =
-    
-    
     read_done _ _ _ _ (sym c.ask_file.ensures ∙ c.in_default.is) c.sizes_at-s.ensures
     (sym c.ask_room.ensures ∙ c.in_default-ask_room.is) c.put_sizes.ensures c.read_numbers.ensures c.marks_at.ensures
     c.put_bytes.ensures

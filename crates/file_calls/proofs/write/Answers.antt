@@ -10,16 +10,13 @@ returns-in-No c = write_refused _ _ _ _ (sym c.ask_arrays.ensures ∙ c.in-No.is
 
 pub returns-in-No-ask_bytes : goal.returns-in-No-ask_bytes
 returns-in-No-ask_bytes c =
-    
     write_short _ _ _ _ (sym c.ask_arrays.ensures ∙ c.in_default.is) (sym c.ask_bytes.ensures ∙ c.in-No-ask_bytes.is)
 
 pub put_file-requires : goal.put_file-requires
 put_file-requires c =
-    
     room_written _ _ _ (sym c.ask_arrays.ensures ∙ c.in_default.is) c.args.file.now
     (sym c.ask_bytes.ensures ∙ c.in_default-ask_bytes.is)
 
 pub returns : goal.returns
 returns c =
-    
     write_done _ _ _ _ (sym c.ask_arrays.ensures ∙ c.in_default.is) (sym c.ask_bytes.ensures ∙ c.in_default-ask_bytes.is) c.put_file.ensures

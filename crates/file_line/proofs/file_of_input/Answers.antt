@@ -18,7 +18,6 @@ slice_bounds-file_of_text-end c = (subst (PartsWithin c.args.input.now) c.in-Of.
 
 pub returns-in-Of : goal.returns-in-Of
 returns-in-Of c =
-    
     within_file _ (output_read _ c.in-Of.is c.read_line-p.ensures.0) c.file_of_text.ensures
 
 pub returns-in-Other : goal.returns-in-Other

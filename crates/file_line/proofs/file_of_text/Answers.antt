@@ -9,7 +9,6 @@ put_file-requires c = room _ _ _ _ c.table-w.ensures c.in-Done.is
 
 pub returns-in-Done : goal.returns-in-Done
 returns-in-Done c =
-    
     file_done _ _ _ _ c.table-w.ensures c.in-Done.is _ c.put_file-arg-1.given.0.1 c.put_file.ensures.0 c.put_file.ensures.1
 
 pub returns-in-Refused : goal.returns-in-Refused

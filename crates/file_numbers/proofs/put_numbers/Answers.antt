@@ -13,7 +13,6 @@ loop-e-init c = (copy_begun refl, omega arith)
 
 pub loop-e-preserved : goal.loop-e-preserved
 loop-e-preserved c =
-    
     let i = c.loop-e.invariant in (copy_turn i.0 4 four (search rules) i.1 c.put_number.ensures, omega (arith, i.1))
 
 pub returns : goal.returns

@@ -12,7 +12,6 @@ loop-e-init c = copy_begun (variables_count c.requires.0)
 
 pub loop-e-preserved : goal.loop-e-preserved
 loop-e-preserved c =
-    
     same_turn c.loop-e.invariant (omega (arith, c.loop-e.invariant.whole, c.loop-e-test.true)) (omega arith)
     (variable_at c.requires.0 c.loop-e.e (search rules) c.number_at.ensures)
 

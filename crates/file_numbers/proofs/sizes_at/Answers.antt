@@ -5,5 +5,4 @@ use Rattle.file_numbers.proofs.sizes_at.Goals as goal
 
 pub returns : goal.returns
 returns c =
-    
     sizes_are _ c.number_at.ensures c.number_at-2.ensures c.number_at-3.ensures c.number_at-4.ensures c.number_at-5.ensures

@@ -8,5 +8,4 @@ returns-in-No c = simp (sym c.ask_lengths.ensures ∙ c.in-No.is)
 
 pub returns : goal.returns
 returns c =
-    
     simp (sym c.ask_lengths.ensures ∙ c.in_default.is) (c.ask_table.ensures _ c.are_variables.ensures)

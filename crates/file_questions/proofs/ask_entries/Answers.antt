@@ -10,12 +10,10 @@ returns-then-not-in_limits c =
 
 pub returns-then-not-fit : goal.returns-then-not-fit
 returns-then-not-fit c =
-    
     λ variables e. entries_asked _ variables _ (sym (c.if-not-in_limits.false) ∙ c.in_limits.ensures)
     (sym (c.if-not-fit.true) ∙ e) refl c.ask-then-not-fit.ensures
 
 pub returns : goal.returns
 returns c =
-    
     λ variables e. entries_asked _ variables _ (sym (c.if-not-in_limits.false) ∙ c.in_limits.ensures) (sym (c.if-not-fit.false) ∙ e)
     c.are_marks.ensures c.ask-2.ensures

@@ -21,7 +21,6 @@ overflow_add-n c =
 
 pub loop-e-preserved : goal.loop-e-preserved
 loop-e-preserved c =
-    
     let l = c.loop-e in let b = closes (get_or c.args.marks.now l.e 0) in one_counted _ _ l.invariant (search rules) (byte_bit b) (byte_most b)
 
 pub returns : goal.returns

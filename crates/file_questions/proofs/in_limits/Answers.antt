@@ -9,10 +9,8 @@ returns-in-No c = unfold in_limits in simp (sym c.ask_channels.ensures ∙ c.in-
 
 pub returns-in-No-ask_steps : goal.returns-in-No-ask_steps
 returns-in-No-ask_steps c =
-    
     unfold in_limits in simp (sym c.ask_channels.ensures ∙ c.in_default.is, sym c.ask_steps.ensures ∙ c.in-No-ask_steps.is)
 
 pub returns : goal.returns
 returns c =
-    
     unfold in_limits in simp (sym c.ask_channels.ensures ∙ c.in_default.is, sym c.ask_steps.ensures ∙ c.in_default-ask_steps.is)

@@ -9,5 +9,4 @@ returns-then-begins c = rw (ap begins (sym c.lead_of.ensures) ∙ sym c.begins.e
 
 pub returns-else-begins : goal.returns-else-begins
 returns-else-begins c =
-    
     rw (ap begins (sym c.lead_of.ensures) ∙ sym c.begins.ensures ∙ c.if-begins.false) (c.begins-else-begins.ensures ∙ ap begins c.lead_of-else-begins.ensures)

@@ -12,12 +12,10 @@ loop-i-init c = (search rules, refl)
 
 pub returns-then-not-is_digit : goal.returns-then-not-is_digit
 returns-then-not-is_digit c =
-    
     omega (arith, digit_none c.args.text.now c.loop-i.i (search rules) (sym c.is_digit.ensures ∙ c.if-not-is_digit.true))
 
 pub loop-i-preserved : goal.loop-i-preserved
 loop-i-preserved c =
-    
     (search rules, omega (arith, digit_more c.args.text.now c.loop-i.i (search rules) (sym c.is_digit.ensures ∙ c.if-not-is_digit.false)))
 
 pub returns : goal.returns

@@ -8,12 +8,10 @@ use Rattle.formula_reader.proofs.joined_by.Goals as goal
 
 pub returns-then-is_joint : goal.returns-then-is_joint
 returns-then-is_joint c =
-    
     rw c.in-Good.is (sym (tested _ _ (is_joint c.args.s) c.if-n-text.true (sym c.is_joint.ensures ∙ c.if-is_joint.true)))
 
 pub returns-else-is_joint : goal.returns-else-is_joint
 returns-else-is_joint c =
-    
     rw c.in-Good.is (sym (tested _ _ (is_joint c.args.s) c.if-n-text.true (sym c.is_joint.ensures ∙ c.if-is_joint.false)))
 
 pub returns-else-n-text : goal.returns-else-n-text

@@ -12,13 +12,11 @@ returns-then-b-eq48 c = rw c.in-Good.is (sym (number_zero _ _ c.if-n-text.true c
 
 pub returns-then-is_digit : goal.returns-then-is_digit
 returns-then-is_digit c =
-    
     rw c.in-Good.is (ap Good c.digits_end.ensures ∙
     sym (number_other _ _ c.if-n-text.true (ne_eqb _ 48 c.if-b-eq48.false) (sym c.is_digit.ensures ∙ c.if-is_digit.true)))
 
 pub returns-else-is_digit : goal.returns-else-is_digit
 returns-else-is_digit c =
-    
     rw c.in-Good.is (sym (number_other _ _ c.if-n-text.true (ne_eqb _ 48 c.if-b-eq48.false) (sym c.is_digit.ensures ∙ c.if-is_digit.false)))
 
 pub returns-else-n-text : goal.returns-else-n-text

@@ -10,5 +10,4 @@ returns-then-text-i-ne35 c = (rw (ne_eqb _ 35 c.if-text-i-ne35.true), search rul
 
 pub returns : goal.returns
 returns c =
-    
     (above_find _ _ _ _ _ _ c.if-text-i-ne35.false c.number_of-n.ensures.0 c.number_of-n.ensures.1 c.find_if.ensures.0, search rules, search rules)

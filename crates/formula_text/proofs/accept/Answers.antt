@@ -12,13 +12,11 @@ returns-in-No c = simp (sym c.ask_channels.ensures ∙ c.in-No.is)
 pub returns-in-No-ask_steps : goal.returns-in-No-ask_steps
 unfolding accept_of
 returns-in-No-ask_steps c =
-    
     simp (sym c.ask_channels.ensures ∙ c.in_default.is, sym c.ask_steps.ensures ∙ c.in-No-ask_steps.is)
 
 pub returns-in-No-ask_length : goal.returns-in-No-ask_length
 unfolding accept_of
 returns-in-No-ask_length c =
-    
     simp (
       sym c.ask_channels.ensures ∙ c.in_default.is,
       sym c.ask_steps.ensures ∙ c.in_default-ask_steps.is,
@@ -31,7 +29,6 @@ ask_text-requires c = length_most _ (sym c.ask_length.ensures ∙ c.in_default-a
 pub returns : goal.returns
 unfolding accept_of
 returns c =
-    
     simp (
       sym c.ask_channels.ensures ∙ c.in_default.is,
       sym c.ask_steps.ensures ∙ c.in_default-ask_steps.is,

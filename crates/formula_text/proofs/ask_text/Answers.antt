@@ -10,19 +10,16 @@ returns-in-No c = simp (sym c.ask_grammar.ensures ∙ c.in-No.is)
 
 pub returns-in-No-ask_first : goal.returns-in-No-ask_first
 returns-in-No-ask_first c =
-    
     let g = sym c.ask_grammar.ensures ∙ c.in_default.is in
     simp (g, letters_asked _ _ g ∙ sym c.ask_first.ensures ∙ c.in-No-ask_first.is)
 
 pub returns-in-No-ask_first-2 : goal.returns-in-No-ask_first-2
 returns-in-No-ask_first-2 c =
-    
     let g = sym c.ask_grammar.ensures ∙ c.in_default.is in
     simp (g, letters_asked _ _ g ∙ sym c.ask_first.ensures ∙ c.in_default-ask_first.is, numbers_asked _ g ∙ sym c.ask_first-2.ensures ∙ c.in-No-ask_first-2.is)
 
 pub returns : goal.returns
 returns c =
-    
     let g = sym c.ask_grammar.ensures ∙ c.in_default.is in
     simp (
       g,

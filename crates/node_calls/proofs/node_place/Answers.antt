@@ -18,5 +18,4 @@ bounds-table-i-2 c = index_fits _ _ _ _ (sym c.ask_node-asked.ensures.reply_valu
 
 pub returns : goal.returns
 returns c =
-    
     place_made _ _ _ _ (sym c.ask_node-asked.ensures.reply_value ∙ c.in_default.is) _ c.ask_node-asked.ensures.table_value

@@ -10,7 +10,6 @@ use Rattle.search_attempts.proofs.lowest_open.Goals as goal
 
 pub returns-then-values-v-eq-OPEN : goal.returns-then-values-v-eq-OPEN
 returns-then-values-v-eq-OPEN c =
-    
     found_lowest c.args.values.now c.requires.1 c.loop-v.v c.loop-v.invariant.1 c.args.channels (omega arith) c.if-values-v-eq-OPEN.true
 
 pub loop-v-preserved : goal.loop-v-preserved

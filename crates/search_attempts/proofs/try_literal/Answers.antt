@@ -7,14 +7,13 @@ use Rattle.search_attempts.proofs.Attempts.{open_free, tried_to}
 use Rattle.search_attempts.proofs.try_literal.Goals as goal
 
 pub add-added-requires : goal.add-added-requires
-add-added-requires c = let p = c.requires in (p.1.from, p.1.to, p.1.trailing, open_free _ _ _ p.1.free)
+add-added-requires c = (c.requires.ready.from, c.requires.ready.to, c.requires.ready.trailing, open_free _ _ _ c.requires.ready.free)
 
 pub close-requires : goal.close-requires
 close-requires c =
-    let p = c.requires in let a = c.add-added.ensures in
-    record { on_ground = (ground_still (grown_length a.grown) p.0.0, p.0.1); pending = pending_start p.1.closed a }
+    let a = c.add-added.ensures in
+    record { on_ground = (ground_still (grown_length a.grown) c.requires.on_ground.0, c.requires.on_ground.1); pending = pending_start c.requires.ready.closed a }
 
 pub returns : goal.returns
 returns c =
-    
     tried_to c.requires.ready.free c.add-added.ensures c.close.ensures

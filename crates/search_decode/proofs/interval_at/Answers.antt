@@ -6,5 +6,4 @@ use Rattle.search_decode.proofs.interval_at.Goals as goal
 
 pub returns : goal.returns
 returns c =
-    
-    let s = c.requires in let a = c.args in subst (λ t. InPlace a.k a.p (unpacked t)) (sym c.wide-t.ensures) (s.2.each _ s.0)
+    let a = c.args in subst (λ t. InPlace a.k a.p (unpacked t)) (sym c.wide-t.ensures) (c.requires.2.each _ c.requires.0)

@@ -7,7 +7,7 @@ use lib.ListN.{get_or}
 use Rattle.search_decode.proofs.last_from.Goals as goal
 
 pub loop-low-init : goal.loop-low-init
-loop-low-init c = let s = c.requires in (s.0, omega arith, s.1, s.2, λ h. absurd (omega arith))
+loop-low-init c = (c.requires.0, omega arith, c.requires.1, c.requires.2, λ h. absurd (omega arith))
 
 pub returns : goal.returns
 returns c =

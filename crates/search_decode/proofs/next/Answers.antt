@@ -5,7 +5,7 @@ use Rattle.search_decode.proofs.Decode.{longer_next, later_next}
 use Rattle.search_decode.proofs.next.Goals as goal
 
 pub returns-then-v-k : goal.returns-then-v-k
-returns-then-v-k c = let s = c.requires in λ h. longer_next _ _ s.0 c.if-v-k.true
+returns-then-v-k c = λ h. longer_next _ _ c.requires.0 c.if-v-k.true
 
 pub returns : goal.returns
-returns c = let s = c.requires in λ h. later_next _ _ s.0 (omega (arith, c.if-v-k.false)) h
+returns c = λ h. later_next _ _ c.requires.0 (omega (arith, c.if-v-k.false)) h

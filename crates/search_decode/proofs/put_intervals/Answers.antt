@@ -35,7 +35,6 @@ offset_bounds-table-x c =
 
 pub bounds-table-x : goal.bounds-table-x
 bounds-table-x c =
-    
     let i = c.loop-x.invariant in let h = c.loop-x-test.true in let o = i.4 h in omega (arith, h, i.0, i.1, c.requires.1)
 
 pub next-v-requires : goal.next-v-requires
@@ -47,16 +46,14 @@ loop-x-smaller c = let i = c.loop-x.invariant in let h = c.loop-x-test.true in l
 
 pub loop-x-preserved : goal.loop-x-preserved
 loop-x-preserved c =
-    
-    let i = c.loop-x.invariant in let h = c.loop-x-test.true in let o = i.4 h in let s = c.requires in (
+    let i = c.loop-x.invariant in let h = c.loop-x-test.true in let o = i.4 h in (
       length-set c.loop-x.table c.loop-x.x (c.loop-x.v.i * 128 + c.loop-x.v.j) ∙ i.0,
       i.1,
       omega (arith, h),
-      one_more _ _ (omega (arith, s.0)) i.3 (omega (arith, h, i.0, i.1, s.1)) o,
+      one_more _ _ (omega (arith, c.requires.0)) i.3 (omega (arith, h, i.0, i.1, c.requires.1)) o,
       λ l. next_in _ _ _ o.1 c.next-v.ensures (omega (arith, l, i.1)),
     )
 
 pub returns : goal.returns
 returns c =
-    
     let i = c.loop-x.invariant in let e : c.loop-x.x ≡ count_of c.args.k = omega (arith, i.1, i.2, c.loop-x-test.false) in subst (IntervalsTo _ _) e i.3

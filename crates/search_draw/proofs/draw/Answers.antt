@@ -7,7 +7,7 @@ use Rattle.search_draw.proofs.Drawn.{drawn_none, drawn_found, drawn_spent}
 use Rattle.search_draw.proofs.draw.Goals as goal
 
 pub start-below-requires : goal.start-below-requires
-start-below-requires c = let p = c.requires in record { on_ground = p.0; trailing = (p.1.0, p.1.1) }
+start-below-requires c = record { on_ground = c.requires.ground_of; trailing = (c.requires.values_in_bounds.0, c.requires.values_in_bounds.1) }
 
 pub put_recording-requires : goal.put_recording-requires
 put_recording-requires c =
@@ -19,7 +19,6 @@ returns-in-Dead c = drawn_none c.start-below.ensures _ _ _ c.in-Dead.is
 
 pub returns-in-Found : goal.returns-in-Found
 returns-in-Found c =
-    
     drawn_found c.start-below.ensures _ _ c.args.recording.now c.in-Found.is c.requires.values_in_bounds.2 c.put_recording.ensures
 
 pub returns-in-Spent : goal.returns-in-Spent

@@ -10,49 +10,42 @@ use Rattle.search_gate.proofs.Known.{constant_known, visited_known}
 use Rattle.search_gate.proofs.visit.Goals as goal
 
 pub settle_by-requires : goal.settle_by-requires
-settle_by-requires c = let s = c.requires in record { trailing = (s.0, (constant_known 1 c.constant.ensures).0); four = (s.1, s.1, s.1, s.1) }
+settle_by-requires c = record { trailing = (c.requires.0, (constant_known 1 c.constant.ensures).0); four = (c.requires.1, c.requires.1, c.requires.1, c.requires.1) }
 
 pub settle_by-requires-in-Copy : goal.settle_by-requires-in-Copy
 settle_by-requires-in-Copy c =
-    
-    let s = c.requires in let i = subst (InputsIn _) c.in-Copy.is s.2 in record { trailing = (s.0, omega arith); four = (s.1, i, s.1, s.1) }
+    let i = subst (InputsIn _) c.in-Copy.is c.requires.2 in record { trailing = (c.requires.0, omega arith); four = (c.requires.1, i, c.requires.1, c.requires.1) }
 
 pub settle_by-requires-in-Inverse : goal.settle_by-requires-in-Inverse
 settle_by-requires-in-Inverse c =
-    
-    let s = c.requires in let i = subst (InputsIn _) c.in-Inverse.is s.2 in record { trailing = (s.0, omega arith); four = (s.1, i, s.1, s.1) }
+    let i = subst (InputsIn _) c.in-Inverse.is c.requires.2 in record { trailing = (c.requires.0, omega arith); four = (c.requires.1, i, c.requires.1, c.requires.1) }
 
 pub settle_both-requires : goal.settle_both-requires
 settle_both-requires c =
-    let s = c.requires in let i = subst (InputsIn _) c.in-Both.is s.2 in (s.0, s.1, i)
+    let i = subst (InputsIn _) c.in-Both.is c.requires.2 in (c.requires.0, c.requires.1, i)
 
 pub settle_by-requires-in-Either : goal.settle_by-requires-in-Either
 settle_by-requires-in-Either c =
-    
-    let s = c.requires in let i = subst (InputsIn _) c.in-Either.is s.2 in record { trailing = (s.0, omega arith); four = (s.1, i.0, i.1, s.1) }
+    let i = subst (InputsIn _) c.in-Either.is c.requires.2 in record { trailing = (c.requires.0, omega arith); four = (c.requires.1, i.0, i.1, c.requires.1) }
 
 pub visit_any-requires : goal.visit_any-requires
 visit_any-requires c =
-    
-    let s = c.requires in let i = subst (InputsIn _) c.in-AnyOf.is s.2 in (s.0, s.1, ((subst Within c.in-AnyOf.is s.3).1, i))
+    let i = subst (InputsIn _) c.in-AnyOf.is c.requires.2 in (c.requires.0, c.requires.1, ((subst Within c.in-AnyOf.is c.requires.3).1, i))
 
 pub settle_step-requires : goal.settle_step-requires
 settle_step-requires c =
-    let s = c.requires in let i = subst (InputsIn _) c.in-Step.is s.2 in (s.0, s.1, i)
+    let i = subst (InputsIn _) c.in-Step.is c.requires.2 in (c.requires.0, c.requires.1, i)
 
 pub returns-in-Constant : goal.returns-in-Constant
 returns-in-Constant c =
-    
     visited_known _ c.in-Constant.is (constant_known _ c.constant.ensures).1 (settled_visited c.settle_by.ensures)
 
 pub returns-in-Copy : goal.returns-in-Copy
 returns-in-Copy c =
-    
     visited_known _ c.in-Copy.is (patterns _ _ 0 0).0 (settled_visited c.settle_by-in-Copy.ensures)
 
 pub returns-in-Inverse : goal.returns-in-Inverse
 returns-in-Inverse c =
-    
     visited_known _ c.in-Inverse.is (patterns _ _ 0 0).1 (settled_visited c.settle_by-in-Inverse.ensures)
 
 pub returns-in-Both : goal.returns-in-Both
@@ -61,7 +54,6 @@ returns-in-Both c =
 
 pub returns-in-Either : goal.returns-in-Either
 returns-in-Either c =
-    
     visited_known _ c.in-Either.is (patterns _ _ _ 0).3 (settled_visited c.settle_by-in-Either.ensures)
 
 pub returns-in-AnyOf : goal.returns-in-AnyOf

@@ -8,24 +8,23 @@ use Rattle.search_walks.proofs.Places.{stands}
 use Rattle.search_instants.proofs.visit_instant.Goals as goal
 
 pub overflow_add-i-end : goal.overflow_add-i-end
-overflow_add-i-end c = let s = c.requires in omega (arith, s, s.0.bounded.steps)
+overflow_add-i-end c = omega (arith, c.requires, c.requires.0.bounded.steps)
 
 pub loop-i-init : goal.loop-i-init
 loop-i-init c = (refl, refl, omega arith, loop_begun _ c.requires.0.trailing)
 
 pub visit_rise-r-requires : goal.visit_rise-r-requires
 visit_rise-r-requires c =
-    let s = c.requires in let i = c.loop-i.invariant in
-    (stands s.0 i.0 i.3.grown.trailing, s.1, s.2, omega (arith, c.loop-i-test.true), s.3, s.4)
+    let i = c.loop-i.invariant in
+    (stands c.requires.0 i.0 i.3.grown.trailing, c.requires.1, c.requires.2, omega (arith, c.loop-i-test.true), c.requires.3, c.requires.4)
 
 pub returns-then-r : goal.returns-then-r
 returns-then-r c =
-    
     let h = c.loop-i-test.true in loop_stop _ _ c.loop-i.invariant.3 refl c.visit_rise-r.ensures _ (omega (arith, h)) c.if-r.true
 
 pub overflow_step-i : goal.overflow_step-i
 overflow_step-i c =
-    let s = c.requires in omega (arith, s.3, s.0.bounded.steps, c.loop-i-test.true)
+    omega (arith, c.requires.3, c.requires.0.bounded.steps, c.loop-i-test.true)
 
 pub loop-i-preserved : goal.loop-i-preserved
 loop-i-preserved c =

@@ -14,67 +14,60 @@ use Rattle.search_instants.proofs.visit_rise.Goals as goal
 use Rattle.search_instants.proofs.visit_rise.Goals.{Then-a-eq0}
 
 pub overflow_add-t : goal.overflow_add-t
-overflow_add-t c = let s = c.requires in omega (arith, s, s.0.bounded.steps)
+overflow_add-t c = omega (arith, c.requires, c.requires.0.bounded.steps)
 
 pub place-requires : goal.place-requires
-place-requires c = let s = c.requires in (omega (arith, s, s.0.bounded.steps), s.0.bounded.steps, s.5)
+place-requires c = (omega (arith, c.requires, c.requires.0.bounded.steps), c.requires.0.bounded.steps, c.requires.5)
 
 pub overflow_add-first : goal.overflow_add-first
 overflow_add-first c = omega (arith, c.place.ensures.1, c.requires.0.bounded.first)
 
 pub overflow_add-last : goal.overflow_add-last
-overflow_add-last c = let s = c.requires in omega (arith, s, s.0.bounded.steps, s.0.bounded.left)
+overflow_add-last c = omega (arith, c.requires, c.requires.0.bounded.steps, c.requires.0.bounded.left)
 
 -- of `[S]` the place that was computed is that of the interval
 is_placed : (c : Then-a-eq0)
     → (let a = c.args in Placed a.block.points a.k a.block.rule c.place.result 0 a.i (a.t + 1 - a.i))
-is_placed c = let s = c.requires in whole_placed 0 _ c.args.block s.2 s.3 s.4 c.if-a-eq0.true c.place.ensures.0
+is_placed c = whole_placed 0 _ c.args.block c.requires.2 c.requires.3 c.requires.4 c.if-a-eq0.true c.place.ensures.0
 
 pub settle_by-requires : goal.settle_by-requires
 settle_by-requires c =
-    let s = c.requires in
-    let v = variable_here s.0 (is_placed (goal.at.settle_by-requires c).Then-a-eq0) in
-    let u = inputs_here s.0 (is_placed (goal.at.settle_by-requires c).Then-a-eq0) (whole_copy _ _ _ s.2 s.3 s.4 c.if-a-eq0.true c.place.ensures.0 c.if-i-t.true) in
-    record { trailing = (s.0.trailing, omega arith); four = (v, u, v, v) }
+    let v = variable_here c.requires.0 (is_placed (goal.at.settle_by-requires c).Then-a-eq0) in
+    let u = inputs_here c.requires.0 (is_placed (goal.at.settle_by-requires c).Then-a-eq0) (whole_copy _ _ _ c.requires.2 c.requires.3 c.requires.4 c.if-a-eq0.true c.place.ensures.0 c.if-i-t.true) in
+    record { trailing = (c.requires.0.trailing, omega arith); four = (v, u, v, v) }
 
 pub returns-then-i-t : goal.returns-then-i-t
 returns-then-i-t c =
-    
-    let s = c.requires in let e = c.place.ensures.0 in
-    visited_named (whole_clauses _ _ _ s.2 s.3 s.4 c.if-a-eq0.true e)
-    (visited_here s.0 (is_placed (goal.at.returns-then-i-t c).Then-a-eq0) (whole_copy _ _ _ s.2 s.3 s.4 c.if-a-eq0.true e c.if-i-t.true)
+    let e = c.place.ensures.0 in
+    visited_named (whole_clauses _ _ _ c.requires.2 c.requires.3 c.requires.4 c.if-a-eq0.true e)
+    (visited_here c.requires.0 (is_placed (goal.at.returns-then-i-t c).Then-a-eq0) (whole_copy _ _ _ c.requires.2 c.requires.3 c.requires.4 c.if-a-eq0.true e c.if-i-t.true)
     (settled_named (patterns _ _ 0 0).0 c.settle_by.ensures))
 
 pub overflow_sub-first : goal.overflow_sub-first
 overflow_sub-first c =
-    
-    let s = c.requires in whole_some 0 _ c.args.block s.2 s.3 s.4 c.if-a-eq0.true c.place.ensures.0
+    whole_some 0 _ c.args.block c.requires.2 c.requires.3 c.requires.4 c.if-a-eq0.true c.place.ensures.0
 
 pub settle_both-requires : goal.settle_both-requires
 settle_both-requires c =
-    
-    let s = c.requires in (
-      s.0.trailing,
-      variable_here s.0 (is_placed (goal.at.settle_both-requires c).Then-a-eq0),
-      inputs_here s.0 (is_placed (goal.at.settle_both-requires c).Then-a-eq0) (whole_both _ _ _ s.2 s.3 s.4 c.if-a-eq0.true c.place.ensures.0 c.if-i-t.false),
+    (
+      c.requires.0.trailing,
+      variable_here c.requires.0 (is_placed (goal.at.settle_both-requires c).Then-a-eq0),
+      inputs_here c.requires.0 (is_placed (goal.at.settle_both-requires c).Then-a-eq0) (whole_both _ _ _ c.requires.2 c.requires.3 c.requires.4 c.if-a-eq0.true c.place.ensures.0 c.if-i-t.false),
     )
 
 pub returns-then-a-eq0 : goal.returns-then-a-eq0
 returns-then-a-eq0 c =
-    
-    let s = c.requires in let e = c.place.ensures.0 in
-    visited_named (whole_clauses _ _ _ s.2 s.3 s.4 c.if-a-eq0.true e)
-    (visited_here s.0 (is_placed (goal.at.returns-then-a-eq0 c).Then-a-eq0) (whole_both _ _ _ s.2 s.3 s.4 c.if-a-eq0.true e c.if-i-t.false) c.settle_both.ensures)
+    let e = c.place.ensures.0 in
+    visited_named (whole_clauses _ _ _ c.requires.2 c.requires.3 c.requires.4 c.if-a-eq0.true e)
+    (visited_here c.requires.0 (is_placed (goal.at.returns-then-a-eq0 c).Then-a-eq0) (whole_both _ _ _ c.requires.2 c.requires.3 c.requires.4 c.if-a-eq0.true e c.if-i-t.false) c.settle_both.ensures)
 
 pub overflow_add-v : goal.overflow_add-v
 overflow_add-v c =
-    
-    let s = c.requires in omega (arith, begun_small s.0.bounded.steps s.3 s.4 c.place.ensures.0 s.1, s.0.bounded.first)
+    omega (arith, begun_small c.requires.0.bounded.steps c.requires.3 c.requires.4 c.place.ensures.0 c.requires.1, c.requires.0.bounded.first)
 
 pub loop-e-init : goal.loop-e-init
 loop-e-init c =
-    
-    let s = c.requires in (refl, refl, omega arith, rise_begun s.2 c.if-a-eq0.false s.3 s.4 c.place.ensures.0 s.1, loop_begun _ s.0.trailing)
+    (refl, refl, omega arith, rise_begun c.requires.2 c.if-a-eq0.false c.requires.3 c.requires.4 c.place.ensures.0 c.requires.1, loop_begun _ c.requires.0.trailing)
 
 pub overflow_sub-p : goal.overflow_sub-p
 overflow_sub-p c = omega (arith, rise_small c.loop-e.invariant.3 c.requires.1 c.loop-e-test.true c.requires.0.bounded)
@@ -84,12 +77,12 @@ overflow_sub-p-in-loop-e c =
     omega (arith, rise_small c.loop-e.invariant.3 c.requires.1 c.loop-e-test.true c.requires.0.bounded)
 
 pub overflow_add-block : goal.overflow_add-block
-overflow_add-block c = let s = c.requires in omega (arith, s, s.0.bounded.steps, s.0.bounded.left)
+overflow_add-block c = omega (arith, c.requires, c.requires.0.bounded.steps, c.requires.0.bounded.left)
 
 pub settle_step-r-requires : goal.settle_step-r-requires
 settle_step-r-requires c =
-    let s = c.requires in let i = c.loop-e.invariant in
-    let a = rise_asks i.3 s.1 c.loop-e-test.true (stands s.0 i.0 i.4.grown.trailing) in
+    let i = c.loop-e.invariant in
+    let a = rise_asks i.3 c.requires.1 c.loop-e-test.true (stands c.requires.0 i.0 i.4.grown.trailing) in
     (i.4.grown.trailing, a.0, a.1)
 
 pub returns-then-r : goal.returns-then-r
@@ -99,12 +92,10 @@ returns-then-r c =
 
 pub overflow_add-v-in-loop-e : goal.overflow_add-v-in-loop-e
 overflow_add-v-in-loop-e c =
-    
     omega (arith, rise_small c.loop-e.invariant.3 c.requires.1 c.loop-e-test.true c.requires.0.bounded)
 
 pub loop-e-preserved : goal.loop-e-preserved
 loop-e-preserved c =
-    
     let i = c.loop-e.invariant in let k = c.settle_step-r.kept in let h = c.loop-e-test.true in (
       k.0 ∙ i.0,
       k.1.0 ∙ i.1,

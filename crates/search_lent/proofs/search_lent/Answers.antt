@@ -8,7 +8,7 @@ use Rattle.search_lent.proofs.Arrays.{root_rows, parts_fit, search_known}
 use Rattle.search_lent.proofs.search_lent.Goals as goal
 
 pub put_seats-requires : goal.put_seats-requires
-put_seats-requires c = let p = c.requires in (p.0.1, p.1.0.low, refl)
+put_seats-requires c = (c.requires.c_le_max_channels.1, c.requires.measured.low, refl)
 
 pub put_parents-requires : goal.put_parents-requires
 put_parents-requires c =
@@ -38,7 +38,6 @@ slice_bounds-draw-end-6 c = sym (length-take-le _ _ c.requires.variables_in_boun
 
 pub draw-requires : goal.draw-requires
 draw-requires c =
-    
     let p = c.requires.c_le_max_channels in let h = c.requires.variables_in_bounds in
     parts_fit _ _ p.3.0 p.3.1.is c.requires.measured c.args.values.now c.args.trail.now c.args.recording.now h.0 h.1 h.2
     (omega (arith, c.struct_known-1.given)) p.3.1.letters p.0 p.1 p.2 c.put_seats.ensures c.put_parents.ensures

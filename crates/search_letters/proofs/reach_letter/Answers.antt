@@ -9,17 +9,15 @@ use Rattle.search_letters.proofs.reach_letter.Goals as goal
 
 pub visit_line-requires : goal.visit_line-requires
 visit_line-requires c =
-    
-    let a = c.args in let p = c.requires in let b = c.Block-of.ensures in
-    let n = node_at a.x p.0.0 refl p.1.0 b.0 (b.1 a.c p.0.0.channels) p.0.1 in
+    let a = c.args in let b = c.Block-of.ensures in
+    let n = node_at a.x c.requires.on_ground.0 refl c.requires.x_lt_count.0 b.0 (b.1 a.c c.requires.on_ground.0.channels) c.requires.on_ground.1 in
     let l = speaks_line a.c a.k c.Block-of.result a.e c.Block-of.result.rule
     (letter_speaks a.c a.k a.kinds.now a.numbers.now a.sizes.now a.firsts.now a.t a.e a.x
     (c.speaks_of.ensures ∙ ap (speaks a.e) c.rule_of-rule.ensures) c.if-speaks_of.true b.0) n.laid.voiced in
-    (n, l.0, omega (arith, l.1, p.1.1))
+    (n, l.0, omega (arith, l.1, c.requires.x_lt_count.1))
 
 pub returns-then-speaks_of : goal.returns-then-speaks_of
 returns-then-speaks_of c =
-    
     let a = c.args in
     letter_visited a.c a.k a.kinds.now a.numbers.now a.sizes.now a.firsts.now a.t a.e a.x
     (c.speaks_of.ensures ∙ ap (speaks a.e) c.rule_of-rule.ensures) c.if-speaks_of.true c.Block-of.ensures.0 c.visit_line.ensures

@@ -14,8 +14,7 @@ loop-x-init c = (refl, refl, omega arith, loop_begun _ c.requires.on_ground.1)
 
 pub reach_letter-r-requires : goal.reach_letter-r-requires
 reach_letter-r-requires c =
-    
-    let p = c.requires in let i = c.loop-x.invariant in record { on_ground = (ground_still i.0 p.0.0, i.3.grown.trailing); x_lt_count = (c.loop-x-test.true, p.1.0, p.1.1) }
+    let i = c.loop-x.invariant in record { on_ground = (ground_still i.0 c.requires.on_ground.0, i.3.grown.trailing); x_lt_count = (c.loop-x-test.true, c.requires.t_lt_k.0, c.requires.t_lt_k.1) }
 
 pub returns-then-r : goal.returns-then-r
 returns-then-r c =
@@ -28,7 +27,6 @@ loop-x-smaller c = omega (arith, c.loop-x-test.true)
 
 pub loop-x-preserved : goal.loop-x-preserved
 loop-x-preserved c =
-    
     let a = c.args in let i = c.loop-x.invariant in let q = c.reach_letter-r in (
       q.kept.0 ∙ i.0,
       q.kept.1.0 ∙ i.1,

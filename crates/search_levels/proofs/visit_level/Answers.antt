@@ -16,129 +16,111 @@ is_whole : (c : Then-is_throughout) → c.args.block.rule ≡ Throughout
 is_whole c = whole_rule c.is_throughout.ensures c.requires.standing.2 c.if-is_throughout.true
 
 pub overflow_add-v : goal.overflow_add-v
-overflow_add-v c = let p = c.requires in omega (arith, place_small p.0.0 p.1, p.0.0.bounded.first)
+overflow_add-v c = omega (arith, place_small c.requires.standing.0 c.requires.placed, c.requires.standing.0.bounded.first)
 
 pub settle_by-requires : goal.settle_by-requires
 settle_by-requires c =
-    let p = c.requires in let v = variable_here p.0.0 p.1 in record { trailing = (p.0.0.trailing, omega arith); four = (v, v, v, v) }
+    let v = variable_here c.requires.standing.0 c.requires.placed in record { trailing = (c.requires.standing.0.trailing, omega arith); four = (v, v, v, v) }
 
 pub returns-then-d-eq0 : goal.returns-then-d-eq0
 returns-then-d-eq0 c =
-    let p = c.requires in
-    visited_here p.0.0 p.1 (whole_empty _ _ _ _ _ _ _ (is_whole (goal.at.returns-then-d-eq0 c).Then-is_throughout) c.if-d-eq0.true) (settled_named (patterns _ 0 0 0).5 c.settle_by.ensures)
+    visited_here c.requires.standing.0 c.requires.placed (whole_empty _ _ _ _ _ _ _ (is_whole (goal.at.returns-then-d-eq0 c).Then-is_throughout) c.if-d-eq0.true) (settled_named (patterns _ 0 0 0).5 c.settle_by.ensures)
 
 pub overflow_add-left : goal.overflow_add-left
 overflow_add-left c =
-    let p = c.requires in
-    omega (arith, throughout_position p.1 (is_whole (goal.at.overflow_add-left c).Then-is_throughout), p.0.0.bounded.steps, p.0.0.bounded.left)
+    omega (arith, throughout_position c.requires.placed (is_whole (goal.at.overflow_add-left c).Then-is_throughout), c.requires.standing.0.bounded.steps, c.requires.standing.0.bounded.left)
 
 pub settle_by-requires-then-d-lt2 : goal.settle_by-requires-then-d-lt2
 settle_by-requires-then-d-lt2 c =
-    let p = c.requires in
-    let v = variable_here p.0.0 p.1 in
-    let u = inputs_here p.0.0 p.1 (whole_one _ _ _ _ _ _ _ (is_whole (goal.at.settle_by-requires-then-d-lt2 c).Then-is_throughout) c.if-d-eq0.false (omega (arith, c.if-d-lt2.true)) refl) in
-    record { trailing = (p.0.0.trailing, omega arith); four = (v, u, v, v) }
+    let v = variable_here c.requires.standing.0 c.requires.placed in
+    let u = inputs_here c.requires.standing.0 c.requires.placed (whole_one _ _ _ _ _ _ _ (is_whole (goal.at.settle_by-requires-then-d-lt2 c).Then-is_throughout) c.if-d-eq0.false (omega (arith, c.if-d-lt2.true)) refl) in
+    record { trailing = (c.requires.standing.0.trailing, omega arith); four = (v, u, v, v) }
 
 pub returns-then-d-lt2 : goal.returns-then-d-lt2
 returns-then-d-lt2 c =
-    
-    let p = c.requires in
-    visited_here p.0.0 p.1 (whole_one _ _ _ _ _ _ _ (is_whole (goal.at.returns-then-d-lt2 c).Then-is_throughout) c.if-d-eq0.false (omega (arith, c.if-d-lt2.true)) refl)
+    visited_here c.requires.standing.0 c.requires.placed (whole_one _ _ _ _ _ _ _ (is_whole (goal.at.returns-then-d-lt2 c).Then-is_throughout) c.if-d-eq0.false (omega (arith, c.if-d-lt2.true)) refl)
     (settled_named (patterns _ _ 0 0).0 c.settle_by-then-d-lt2.ensures)
 
 pub overflow_add-last : goal.overflow_add-last
-overflow_add-last c = let p = c.requires in omega (arith, throughout_position p.1 (is_whole (goal.at.overflow_add-last c).Then-is_throughout), p.0.0.bounded.steps)
+overflow_add-last c = omega (arith, throughout_position c.requires.placed (is_whole (goal.at.overflow_add-last c).Then-is_throughout), c.requires.standing.0.bounded.steps)
 
 pub overflow_add-last-then-is_throughout : goal.overflow_add-last-then-is_throughout
 overflow_add-last-then-is_throughout c =
-    let p = c.requires in
-    omega (arith, throughout_position p.1 (is_whole (goal.at.overflow_add-last-then-is_throughout c).Then-is_throughout), p.0.0.bounded.steps, p.0.0.bounded.left)
+    omega (arith, throughout_position c.requires.placed (is_whole (goal.at.overflow_add-last-then-is_throughout c).Then-is_throughout), c.requires.standing.0.bounded.steps, c.requires.standing.0.bounded.left)
 
 pub settle_both-requires : goal.settle_both-requires
 settle_both-requires c =
-    
-    let p = c.requires in (
-      p.0.0.trailing,
-      variable_here p.0.0 p.1,
-      inputs_here p.0.0 p.1 (whole_gate _ _ _ _ _ _ _ (is_whole (goal.at.settle_both-requires c).Then-is_throughout) (omega (arith, c.if-d-lt2.false)) refl),
+    (
+      c.requires.standing.0.trailing,
+      variable_here c.requires.standing.0 c.requires.placed,
+      inputs_here c.requires.standing.0 c.requires.placed (whole_gate _ _ _ _ _ _ _ (is_whole (goal.at.settle_both-requires c).Then-is_throughout) (omega (arith, c.if-d-lt2.false)) refl),
     )
 
 pub returns-then-is_throughout : goal.returns-then-is_throughout
 returns-then-is_throughout c =
-    let p = c.requires in
-    visited_here p.0.0 p.1 (whole_gate _ _ _ _ _ _ _ (is_whole (goal.at.returns-then-is_throughout c).Then-is_throughout) (omega (arith, c.if-d-lt2.false)) refl) c.settle_both.ensures
+    visited_here c.requires.standing.0 c.requires.placed (whole_gate _ _ _ _ _ _ _ (is_whole (goal.at.returns-then-is_throughout c).Then-is_throughout) (omega (arith, c.if-d-lt2.false)) refl) c.settle_both.ensures
 
 pub settle_by-requires-then-a-eq0 : goal.settle_by-requires-then-a-eq0
 settle_by-requires-then-a-eq0 c =
-    let p = c.requires in let v = variable_here p.0.0 p.1 in record { trailing = (p.0.0.trailing, omega arith); four = (v, v, v, v) }
+    let v = variable_here c.requires.standing.0 c.requires.placed in record { trailing = (c.requires.standing.0.trailing, omega arith); four = (v, v, v, v) }
 
 pub returns-then-a-eq0 : goal.returns-then-a-eq0
 returns-then-a-eq0 c =
-    
-    let p = c.requires in
-    visited_here p.0.0 p.1 (level_true _ _ _ _ _ _ _ (level_rule c.is_throughout.ensures p.0.2 c.if-is_throughout.false).1 c.if-a-eq0.true)
+    visited_here c.requires.standing.0 c.requires.placed (level_true _ _ _ _ _ _ _ (level_rule c.is_throughout.ensures c.requires.standing.2 c.if-is_throughout.false).1 c.if-a-eq0.true)
     (settled_named (patterns _ 0 0 0).6 c.settle_by-then-a-eq0.ensures)
 
 pub settle_by-requires-then-d-eq0-2 : goal.settle_by-requires-then-d-eq0-2
 settle_by-requires-then-d-eq0-2 c =
-    let p = c.requires in let v = variable_here p.0.0 p.1 in record { trailing = (p.0.0.trailing, omega arith); four = (v, v, v, v) }
+    let v = variable_here c.requires.standing.0 c.requires.placed in record { trailing = (c.requires.standing.0.trailing, omega arith); four = (v, v, v, v) }
 
 pub returns-then-d-eq0-2 : goal.returns-then-d-eq0-2
 returns-then-d-eq0-2 c =
-    
-    let p = c.requires in
-    visited_here p.0.0 p.1 (level_empty _ _ _ _ _ _ _ (level_rule c.is_throughout.ensures p.0.2 c.if-is_throughout.false).1 c.if-a-eq0.false c.if-d-eq0-2.true)
+    visited_here c.requires.standing.0 c.requires.placed (level_empty _ _ _ _ _ _ _ (level_rule c.is_throughout.ensures c.requires.standing.2 c.if-is_throughout.false).1 c.if-a-eq0.false c.if-d-eq0-2.true)
     (settled_named (patterns _ 0 0 0).5 c.settle_by-then-d-eq0-2.ensures)
 
 pub overflow_sub-q : goal.overflow_sub-q
 overflow_sub-q c =
-    let p = c.requires in
     omega (
       arith,
-      (level_position p.1 (level_rule c.is_throughout.ensures p.0.2 c.if-is_throughout.false).1).1 (omega (arith, c.if-a-eq0.false))
+      (level_position c.requires.placed (level_rule c.is_throughout.ensures c.requires.standing.2 c.if-is_throughout.false).1).1 (omega (arith, c.if-a-eq0.false))
           (omega (arith, c.if-d-eq0-2.false)),
-      p.0.1,
+      c.requires.standing.1,
     )
 
 pub overflow_add-first : goal.overflow_add-first
-overflow_add-first c = let p = c.requires in omega (arith, place_small p.0.0 p.1, p.0.0.bounded.first)
+overflow_add-first c = omega (arith, place_small c.requires.standing.0 c.requires.placed, c.requires.standing.0.bounded.first)
 
 pub overflow_add-first-2 : goal.overflow_add-first-2
-overflow_add-first-2 c = let p = c.requires in omega (arith, place_small p.0.0 p.1, p.0.0.bounded.first)
+overflow_add-first-2 c = omega (arith, place_small c.requires.standing.0 c.requires.placed, c.requires.standing.0.bounded.first)
 
 pub overflow_add-i : goal.overflow_add-i
 overflow_add-i c =
-    let p = c.requires in
     omega (
       arith,
-      (level_position p.1 (level_rule c.is_throughout.ensures p.0.2 c.if-is_throughout.false).1).0,
-      p.0.0.bounded.steps,
-      p.0.0.bounded.left,
+      (level_position c.requires.placed (level_rule c.is_throughout.ensures c.requires.standing.2 c.if-is_throughout.left).1).0,
+      c.requires.standing.0.bounded.steps,
+      c.requires.standing.0.bounded.left,
     )
 
 pub overflow_add-left-2 : goal.overflow_add-left-2
 overflow_add-left-2 c =
-    let p = c.requires in
     omega (
       arith,
-      (level_position p.1 (level_rule c.is_throughout.ensures p.0.2 c.if-is_throughout.false).1).0,
-      p.0.0.bounded.steps,
-      p.0.0.bounded.left,
+      (level_position c.requires.placed (level_rule c.is_throughout.ensures c.requires.standing.2 c.if-is_throughout.left).1).0,
+      c.requires.standing.0.bounded.steps,
+      c.requires.standing.0.bounded.left,
     )
 
 pub settle_step-requires : goal.settle_step-requires
 settle_step-requires c =
-    
-    let p = c.requires in (
-      p.0.0.trailing,
-      variable_here p.0.0 p.1,
-      inputs_here p.0.0 p.1 (level_gate_lem _ _ _ _ _ _ _ (level_rule c.is_throughout.ensures p.0.2 c.if-is_throughout.false).1 c.if-a-eq0.false
-          c.if-d-eq0-2.false refl (omega (arith, p.0.1)) refl),
+    (
+      c.requires.standing.0.trailing,
+      variable_here c.requires.standing.0 c.requires.placed,
+      inputs_here c.requires.standing.0 c.requires.placed (level_gate_lem _ _ _ _ _ _ _ (level_rule c.is_throughout.ensures c.requires.standing.2 c.if-is_throughout.left).1 c.if-a-eq0.false
+          c.if-d-eq0-2.false refl (omega (arith, c.requires.standing.1)) refl),
     )
 
 pub returns : goal.returns
 returns c =
-    
-    let p = c.requires in
-    visited_here p.0.0 p.1 (level_gate_lem _ _ _ _ _ _ _ (level_rule c.is_throughout.ensures p.0.2 c.if-is_throughout.false).1 c.if-a-eq0.false c.if-d-eq0-2.false refl
-    (omega (arith, p.0.1)) refl) c.settle_step.ensures
+    visited_here c.requires.standing.0 c.requires.placed (level_gate_lem _ _ _ _ _ _ _ (level_rule c.is_throughout.ensures c.requires.standing.2 c.if-is_throughout.false).1 c.if-a-eq0.false c.if-d-eq0-2.false refl
+    (omega (arith, c.requires.standing.1)) refl) c.settle_step.ensures

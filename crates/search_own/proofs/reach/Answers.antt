@@ -11,39 +11,34 @@ use Rattle.search_own.proofs.reach.Goals as goal
 
 pub reach_chop-requires : goal.reach_chop-requires
 reach_chop-requires c =
-    let p = c.requires in let b = c.args.block in
+    let b = c.args.block in
     let e = chop_rule b.rule (sym c.is_chop.ensures ∙ c.if-is_chop.true) in
-    (p.0, p.1, e, p.2, own_chop c.args.k b p.3 (omega (arith, p.3)) e)
+    (c.requires.on_ground, c.requires.tables, e, c.requires.2, own_chop c.args.k b c.requires.3 (omega (arith, c.requires.3)) e)
 
 pub returns-then-is_chop : goal.returns-then-is_chop
 returns-then-is_chop c =
-    
-    let p = c.requires in reached_there (omega (arith, p.3)) c.reach_chop.ensures
+    reached_there (omega (arith, c.requires.3)) c.reach_chop.ensures
 
 pub visit_line-requires : goal.visit_line-requires
 visit_line-requires c =
-    let p = c.requires in let b = c.args.block in
+    let b = c.args.block in
     let e = sym c.form_of.ensures ∙ c.in-Line.is in
-    (p.0, e, line_below c.args.k b p.3 (omega (arith, p.3)) e)
+    (c.requires.on_ground, e, line_below c.args.k b c.requires.3 (omega (arith, c.requires.3)) e)
 
 pub reach_level-requires : goal.reach_level-requires
 reach_level-requires c =
-    let p = c.requires in
-    let b = c.args.block in record { node = (p.0, p.1, subst (InBlock c.args.k b) (omega (arith, p.3)) p.3); rule_value = (sym c.form_of.ensures ∙ c.in-Intervals.is, sym c.is_chop.ensures ∙ c.if-is_chop.false, p.2.room, p.2.intervals_to) }
+    let b = c.args.block in record { node = (c.requires.on_ground, c.requires.tables, subst (InBlock c.args.k b) (omega (arith, c.requires.3)) c.requires.3); rule_value = (sym c.form_of.ensures ∙ c.in-Intervals.is, sym c.is_chop.ensures ∙ c.if-is_chop.left, c.requires.2.room, c.requires.2.intervals_to) }
 
 pub returns-in-Line : goal.returns-in-Line
 returns-in-Line c =
-    
-    let a = c.args in let p = c.requires in let b = a.block in let e = sym c.form_of.ensures ∙ c.in-Line.is in
-    reached (own_suffices a.c a.k a.u b _ (line_below a.k b p.3 (omega (arith, p.3)) e) e p.0.laid (omega (arith, p.3))) c.visit_line.ensures
+    let a = c.args in let b = a.block in let e = sym c.form_of.ensures ∙ c.in-Line.is in
+    reached (own_suffices a.c a.k a.u b _ (line_below a.k b c.requires.3 (omega (arith, c.requires.3)) e) e c.requires.on_ground.laid (omega (arith, c.requires.3))) c.visit_line.ensures
 
 pub returns-in-Intervals : goal.returns-in-Intervals
 returns-in-Intervals c =
-    
-    let p = c.requires in reached_there (omega (arith, p.3)) c.reach_level.ensures
+    reached_there (omega (arith, c.requires.3)) c.reach_level.ensures
 
 pub returns-in-Triples : goal.returns-in-Triples
 returns-in-Triples c =
-    let p = c.requires in
     no_triples c.args.k c.args.block c.args.block.rule (sym c.form_of.ensures ∙ c.in-Triples.is)
-    p.0.laid.apart
+    c.requires.on_ground.laid.apart

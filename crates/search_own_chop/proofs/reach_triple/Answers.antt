@@ -15,21 +15,18 @@ use Rattle.search_own_chop.proofs.reach_triple.Goals as goal
 
 pub visit_cut-r-requires : goal.visit_cut-r-requires
 visit_cut-r-requires c =
-    let p = c.requires in
     let b = c.args.block in
-    let h = halves b c.beyond-w.ensures c.triples_of-triples.ensures refl in record { standing = (triples_stand p.0 p.2 h, p.3.rows_of, ap (λ (t : Block). t.rule) c.triples_of-triples.ensures); placed = triple_here c.args.k b c.beyond-w.result c.args.x c.triples_of-triples.ensures c.triple_at-t.result c.triple_at-t.ensures }
+    let h = halves b c.beyond-w.ensures c.triples_of-triples.ensures refl in record { standing = (triples_stand c.requires.0 c.requires.2 h, c.requires.3.rows_of, ap (λ (t : Block). t.rule) c.triples_of-triples.ensures); placed = triple_here c.args.k b c.beyond-w.result c.args.x c.triples_of-triples.ensures c.triple_at-t.result c.triple_at-t.ensures }
 
 pub returns-then-r : goal.returns-then-r
 returns-then-r c =
-    
-    let a = c.args in let p = c.requires in let t = c.triple_at-t.result in
-    reached (triple_suffices a.c a.k _ a.block p.2 p.0.laid t c.triple_at-t.ensures.0
+    let a = c.args in let t = c.triple_at-t.result in
+    reached (triple_suffices a.c a.k _ a.block c.requires.2 c.requires.0.laid t c.triple_at-t.ensures.0
     (ap (λ (x : ℕ). a.block.first + count_of a.k + x) (sym c.triple_at-t.ensures.1)))
     (first_visit a.c a.k a.block t c.triple_at-t.ensures c.beyond-w.ensures c.triples_of-triples.ensures c.if-r.true c.visit_cut-r.ensures)
 
 pub place-requires : goal.place-requires
 place-requires c =
-    
     let o = c.triple_at-t.ensures.0 in (omega (arith, o.starts, o.cut, o.ends), c.requires.0.fine.bounded.steps, c.requires.3.rows_of)
 
 pub overflow_add-v : goal.overflow_add-v
@@ -49,17 +46,16 @@ overflow_add-d c = let o = c.triple_at-t.ensures.0 in omega (arith, o.ends, c.re
 
 pub visit_one-requires : goal.visit_one-requires
 visit_one-requires c =
-    let p = c.requires in let t = c.triple_at-t.result in
+    let t = c.triple_at-t.result in
     let o = c.triple_at-t.ensures in
-    one_asks p.0 p.2 c.beyond-w.ensures t o c.place.ensures.0 c.visit_cut-r.kept.0
+    one_asks c.requires.0 c.requires.2 c.beyond-w.ensures t o c.place.ensures.0 c.visit_cut-r.kept.0
     c.visit_cut-r.ensures.grown.trailing
 
 pub returns : goal.returns
 returns c =
-    
-    let a = c.args in let p = c.requires in
+    let a = c.args in 
     let t = c.triple_at-t.result in
-    reached (triple_suffices a.c a.k _ a.block p.2 p.0.laid t c.triple_at-t.ensures.0
+    reached (triple_suffices a.c a.k _ a.block c.requires.2 c.requires.0.laid t c.triple_at-t.ensures.0
     (ap (λ (x : ℕ). a.block.first + count_of a.k + x) (sym c.triple_at-t.ensures.1)))
-    (both_visits a.c a.k a.block t c.triple_at-t.ensures c.beyond-w.ensures c.triples_of-triples.ensures c.if-r.false
+    (both_visits a.c a.k a.block t c.triple_at-t.ensures c.beyond-w.ensures c.triples_of-triples.ensures c.if-r.left
     c.visit_cut-r.ensures c.place.ensures.0 c.visit_one.ensures)

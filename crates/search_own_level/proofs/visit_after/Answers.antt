@@ -7,11 +7,10 @@ use Rattle.search_own_level.proofs.After.{interval_here, longer_placed, above_pl
 use Rattle.search_own_level.proofs.visit_after.Goals as goal
 
 pub visit_level-r-requires : goal.visit_level-r-requires
-visit_level-r-requires c = let s = c.requires in record { standing = (s.0.0, s.0.1, (_, s.0.2)); placed = s.1 }
+visit_level-r-requires c = record { standing = (c.requires.standing.0, c.requires.standing.1, (_, c.requires.standing.2)); placed = c.requires.placed }
 
 pub returns-then-r : goal.returns-then-r
 returns-then-r c =
-    
     let R = after_first _ _ _ _ _ c.args.p in visited_named R.1 (visited_stop c.visit_level-r.ensures R.0 c.if-r.true)
 
 pub overflow_add-i : goal.overflow_add-i
@@ -25,34 +24,28 @@ overflow_add-next c = omega (arith, place_small c.requires.standing.0 c.requires
 
 pub visit_level-s-requires : goal.visit_level-s-requires
 visit_level-s-requires c =
-    let s = c.requires in let v = c.visit_level-r in
-    record { standing = (stands s.0.0 v.kept.0 v.ensures.grown.trailing, s.0.1, (_, s.0.2)); placed = longer_placed s.0.2 s.1 c.if-i-d.false }
+    let v = c.visit_level-r in
+    record { standing = (stands c.requires.standing.0 v.kept.0 v.ensures.grown.trailing, c.requires.standing.1, (_, c.requires.standing.2)); placed = longer_placed c.requires.standing.2 c.requires.placed c.if-i-d.false }
 
 pub returns-then-s : goal.returns-then-s
 returns-then-s c =
-    
-    let R = after_second _ _ _ _ _ c.args.p c.if-i-d.false in
-    visited_named R.1 (visited_stop (visited_then c.visit_level-r.ensures _ c.if-r.false c.visit_level-s.ensures) R.0 c.if-s.true)
+    let R = after_second _ _ _ _ _ c.args.p c.if-i-d.left in
+    visited_named R.1 (visited_stop (visited_then c.visit_level-r.ensures _ c.if-r.left c.visit_level-s.ensures) R.0 c.if-s.true)
 
 pub returns-then-a-levels : goal.returns-then-a-levels
 returns-then-a-levels c =
-    
-    visited_named (after_two _ _ _ _ _ c.args.p c.if-i-d.false c.if-a-levels.true)
-    (visited_then c.visit_level-r.ensures _ c.if-r.false c.visit_level-s.ensures)
+    visited_named (after_two _ _ _ _ _ c.args.p c.if-i-d.left c.if-a-levels.true)
+    (visited_then c.visit_level-r.ensures _ c.if-r.left c.visit_level-s.ensures)
 
 pub overflow_add-next-2 : goal.overflow_add-next-2
 overflow_add-next-2 c =
-    
-    let s = c.requires in omega (arith, place_small s.0.0 (above_placed s.0.2 s.1 c.if-i-d.false s.0.1 c.if-a-levels.false))
+    omega (arith, place_small c.requires.standing.0 (above_placed c.requires.standing.2 c.requires.placed c.if-i-d.left c.requires.standing.1 c.if-a-levels.left))
 
 pub visit_level-t-requires : goal.visit_level-t-requires
 visit_level-t-requires c =
-    
-    let s = c.requires in let v = c.visit_level-r in let w = c.visit_level-s in record { standing = (stands (stands s.0.0 v.kept.0 v.ensures.grown.trailing) w.kept.0 w.ensures.grown.trailing, s.0.1, (_, s.0.2)); placed = above_placed s.0.2 s.1 c.if-i-d.false s.0.1 c.if-a-levels.false }
+    let v = c.visit_level-r in let w = c.visit_level-s in record { standing = (stands (stands c.requires.standing.0 v.kept.0 v.ensures.grown.trailing) w.kept.0 w.ensures.grown.trailing, c.requires.standing.1, (_, c.requires.standing.2)); placed = above_placed c.requires.standing.2 c.requires.placed c.if-i-d.left c.requires.standing.1 c.if-a-levels.left }
 
 pub returns : goal.returns
 returns c =
-    
-    
-    visited_named (after_three _ _ _ _ _ c.args.p c.if-i-d.false c.requires.standing.1 c.if-a-levels.false)
-    (visited_then (visited_then c.visit_level-r.ensures _ c.if-r.false c.visit_level-s.ensures) _ c.if-s.false c.visit_level-t.ensures)
+    visited_named (after_three _ _ _ _ _ c.args.p c.if-i-d.left c.requires.standing.1 c.if-a-levels.left)
+    (visited_then (visited_then c.visit_level-r.ensures _ c.if-r.left c.visit_level-s.ensures) _ c.if-s.left c.visit_level-t.ensures)

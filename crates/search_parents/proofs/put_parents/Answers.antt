@@ -13,7 +13,6 @@ loop-z-init c = (length-set c.args.parents.now 0 0 ∙ c.requires.3, omega arith
 
 pub loop-z-preserved : goal.loop-z-preserved
 loop-z-preserved c =
-    
     let i = c.loop-z.invariant in (
       length-set c.loop-z.parents c.loop-z.z c.nearest.result ∙ i.0,
       omega arith,
@@ -23,5 +22,4 @@ loop-z-preserved c =
 
 pub returns : goal.returns
 returns c =
-    
     let i = c.loop-z.invariant in let e : c.loop-z.z ≡ c.args.count = omega (arith, i.2, c.loop-z-test.false) in subst (Nearest _ _) e i.3

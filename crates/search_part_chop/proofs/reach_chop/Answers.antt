@@ -16,26 +16,24 @@ overflow_sub-u c = omega (arith, c.among.ensures.here c.if-among.true)
 
 pub interval_at-v-requires : goal.interval_at-v-requires
 interval_at-v-requires c =
-    let p = c.requires in (omega (arith, c.among.ensures.here c.if-among.true, p.0.1), p.1.room, p.1.intervals_to)
+    (omega (arith, c.among.ensures.here c.if-among.true, c.requires.node.1), c.requires.tables.room, c.requires.tables.intervals_to)
 
 pub visit_first-requires : goal.visit_first-requires
 visit_first-requires c =
-    let p = c.requires in
     let o = c.interval_at-v.ensures.0 in (
-      triples_stand p.0.0 p.0.2 (halves c.args.block c.beyond.ensures c.triples_of-triples.ensures refl),
-      p.1.rows_of,
+      triples_stand c.requires.node.0 c.requires.node.2 (halves c.args.block c.beyond.ensures c.triples_of-triples.ensures refl),
+      c.requires.tables.rows_of,
       cut_rule c.beyond.result c.args.block c.triples_of-triples.ensures,
       o.starts,
       o.ends,
-      p.1.starts_of,
+      c.requires.tables.starts_of,
     )
 
 pub returns-then-among : goal.returns-then-among
 returns-then-among c =
-    
-    let p = c.requires in let b = c.args.block in let v = c.interval_at-v.result in
+    let b = c.args.block in let v = c.interval_at-v.result in
     let o = c.interval_at-v.ensures in
-    reached (first_suffices c.args.c c.args.k c.args.u b p.0.2 p.0.0.laid v.i v.j o.0.starts o.0.ends
+    reached (first_suffices c.args.c c.args.k c.args.u b c.requires.node.2 c.requires.node.0.laid v.i v.j o.0.starts o.0.ends
     (omega (arith, c.among.ensures.here c.if-among.true, o.1)))
     (visited_named (first_named c.args.c c.args.k b v.i v.j c.beyond.ensures c.triples_of-triples.ensures) c.visit_first.ensures)
 
@@ -44,34 +42,31 @@ overflow_sub-u-then-among-2 c = omega (arith, c.among-2.ensures.here c.if-among-
 
 pub interval_at-v-requires-then-among-2 : goal.interval_at-v-requires-then-among-2
 interval_at-v-requires-then-among-2 c =
-    let p = c.requires in (omega (arith, c.among-2.ensures.here c.if-among-2.true, p.0.1), p.1.room, p.1.intervals_to)
+    (omega (arith, c.among-2.ensures.here c.if-among-2.true, c.requires.node.1), c.requires.tables.room, c.requires.tables.intervals_to)
 
 pub visit_second-requires : goal.visit_second-requires
 visit_second-requires c =
-    let p = c.requires in
     let o = c.interval_at-v-then-among-2.ensures.0 in (
-      triples_stand p.0.0 p.0.2 (halves c.args.block c.beyond.ensures c.triples_of-triples.ensures refl),
-      p.0.1,
+      triples_stand c.requires.node.0 c.requires.node.2 (halves c.args.block c.beyond.ensures c.triples_of-triples.ensures refl),
+      c.requires.node.1,
       cut_rule c.beyond.result c.args.block c.triples_of-triples.ensures,
       o.starts,
       o.ends,
-      p.1.rows_of,
-      p.1.starts_of,
+      c.requires.tables.rows_of,
+      c.requires.tables.starts_of,
     )
 
 pub returns-then-among-2 : goal.returns-then-among-2
 returns-then-among-2 c =
-    
-    let a = c.args in let p = c.requires in let b = a.block in let v = c.interval_at-v-then-among-2.result in
+    let a = c.args in let b = a.block in let v = c.interval_at-v-then-among-2.result in
     let o = c.interval_at-v-then-among-2.ensures in
-    reached (second_suffices a.c a.k a.u b p.0.2 p.0.0.laid v.i v.j o.0.starts o.0.ends
+    reached (second_suffices a.c a.k a.u b c.requires.node.2 c.requires.node.0.laid v.i v.j o.0.starts o.0.ends
     (omega (arith, c.among-2.ensures.here c.if-among-2.true, o.1)))
     (visited_named (second_named a.c a.k b v.i v.j c.beyond.ensures c.triples_of-triples.ensures) c.visit_second.ensures)
 
 pub returns : goal.returns
 returns c =
-    let p = c.requires in
-    let b = c.args.block in let a : c.args.all ≡ count_of c.args.k = p.0.1 in
-    stopped c.done.ensures (unread (chop_away c.args.c c.args.k c.args.u b p.0.0.laid p.0.3 p.0.2
+    let b = c.args.block in let a : c.args.all ≡ count_of c.args.k = c.requires.node.1 in
+    stopped c.done.ensures (unread (chop_away c.args.c c.args.k c.args.u b c.requires.node.0.laid c.requires.node.3 c.requires.node.2
     (λ f. c.among.ensures.away c.if-among.false (omega (arith, f, a))) (λ f. c.among-2.ensures.away c.if-among-2.false (omega (arith, f, a))))
-    p.0.0.trailing)
+    c.requires.node.0.trailing)

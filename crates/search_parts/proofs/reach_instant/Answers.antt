@@ -12,22 +12,20 @@ use Rattle.search_parts.proofs.reach_instant.Goals as goal
 
 pub returns-then-not-among : goal.returns-then-not-among
 returns-then-not-among c =
-    let p = c.requires in let b = c.args.block in
-    stopped c.done.ensures (unread (level_away c.args.c c.args.k c.args.u b p.0.0.laid p.0.2 b.rule refl p.1.0 p.1.1
-    (c.among.ensures.away c.if-not-among.true)) p.0.0.trailing)
+    let b = c.args.block in
+    stopped c.done.ensures (unread (level_away c.args.c c.args.k c.args.u b c.requires.node.0.laid c.requires.node.2 b.rule refl c.requires.rule_value.0 c.requires.rule_value.1
+    (c.among.ensures.away c.if-not-among.true)) c.requires.node.0.trailing)
 
 pub overflow_sub-u : goal.overflow_sub-u
-overflow_sub-u c = omega (arith, c.among.ensures.here c.if-not-among.false)
+overflow_sub-u c = omega (arith, c.among.ensures.here c.if-not-among.left)
 
 pub visit_instant-requires : goal.visit_instant-requires
 visit_instant-requires c =
-    let p = c.requires in
-    let f = c.among.ensures.here c.if-not-among.false in
-    (whole_stands p.0.0 p.1.1, p.0.1, rising_known c.args.block.rule p.1.0 p.1.1 c.rise_of-rise.ensures, omega (arith, f), p.1.2)
+    let f = c.among.ensures.here c.if-not-among.left in
+    (whole_stands c.requires.node.0 c.requires.rule_value.1, c.requires.node.1, rising_known c.args.block.rule c.requires.rule_value.0 c.requires.rule_value.1 c.rise_of-rise.ensures, omega (arith, f), c.requires.rule_value.2)
 
 pub returns : goal.returns
 returns c =
-    
-    let p = c.requires in let b = c.args.block in let f = c.among.ensures.here c.if-not-among.false in
-    reached (instant_suffices c.args.c c.args.k c.args.u b (rising_known b.rule p.1.0 p.1.1 c.rise_of-rise.ensures) p.0.0.laid
+    let b = c.args.block in let f = c.among.ensures.here c.if-not-among.left in
+    reached (instant_suffices c.args.c c.args.k c.args.u b (rising_known b.rule c.requires.rule_value.0 c.requires.rule_value.1 c.rise_of-rise.ensures) c.requires.node.0.laid
     (omega (arith, f)) (omega (arith, f))) c.visit_instant.ensures

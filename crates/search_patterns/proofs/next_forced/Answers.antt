@@ -8,7 +8,6 @@ use Rattle.search_patterns.proofs.next_forced.Goals as goal
 
 pub forced-e-requires : goal.forced-e-requires
 forced-e-requires c =
-    
     let f = c.requires.by_index.0 in (
       c.requires.by_index.1,
       omega (arith, c.value-a.ensures, f (c.args.v - 1)),
@@ -19,14 +18,12 @@ forced-e-requires c =
 
 pub returns-then-e-eq0 : goal.returns-then-e-eq0
 returns-then-e-eq0 c =
-    
     let w = c.requires.four in
     nothing_forced _ c.args.v c.args.x c.args.y c.args.z w.0.0 w.1.0 w.2.0 w.3.0 c.args.gate
     (known _ c.value-a.ensures c.value-b.ensures c.value-c.ensures c.value-d.ensures c.forced-e.ensures.0) c.if-e-eq0.true
 
 pub returns : goal.returns
 returns c =
-    
     let w = c.requires.four in let e = c.forced-e.ensures in
     literal_forced _ c.args.v c.args.x c.args.y c.args.z w.0.0 w.1.0 w.2.0 w.3.0 c.args.gate
     (known _ c.value-a.ensures c.value-b.ensures c.value-c.ensures c.value-d.ensures e.0) c.if-e-eq0.false e.1 (e.2 c.if-e-eq0.false)

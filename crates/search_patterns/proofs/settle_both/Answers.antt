@@ -5,5 +5,4 @@ use Rattle.search_patterns.proofs.settle_both.Goals as goal
 
 pub returns : goal.returns
 returns c =
-    
     let s = c.args in settled_named (patterns s.v s.x s.y 0).2 c.settle_by.ensures

@@ -8,7 +8,6 @@ use Rattle.search_patterns.proofs.settle_by.Goals as goal
 
 pub quiet-requires : goal.quiet-requires
 quiet-requires c =
-    
     let f = c.requires.trailing.0.small in (
       c.requires.trailing.1,
       omega (arith, c.value-a.ensures, f (c.args.v - 1)),

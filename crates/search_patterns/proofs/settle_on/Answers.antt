@@ -12,8 +12,8 @@ loop-u-init c = (refl, refl, visits_none _ c.requires.trailing.0)
 
 pub next_forced-next-requires : goal.next_forced-next-requires
 next_forced-next-requires c =
-    let i = c.loop-u.invariant in let s = c.requires in
-    record { by_index = (i.2.grown.trailing.small, s.0.1); four = (there i.0 s.1.0, there i.0 s.1.1, there i.0 s.1.2, there i.0 s.1.3) }
+    let i = c.loop-u.invariant in 
+    record { by_index = (i.2.grown.trailing.small, c.requires.trailing.1); four = (there i.0 c.requires.four.0, there i.0 c.requires.four.1, there i.0 c.requires.four.2, there i.0 c.requires.four.3) }
 
 pub overflow_mul-result : goal.overflow_mul-result
 overflow_mul-result c = omega (arith, visits_few c.loop-u.invariant.2)
@@ -38,18 +38,15 @@ returns-then-opposed c =
 
 pub add-t-requires : goal.add-t-requires
 add-t-requires c =
-    
     let f = subst (Forces _ _) c.in-Literal.is c.next_forced-next.ensures in
     (f.0.0, f.0.1, c.loop-u.invariant.2.grown.trailing, sym c.opposed.ensures ∙ c.if-opposed.false)
 
 pub loop-u-smaller : goal.loop-u-smaller
 loop-u-smaller c =
-    
     let f = subst (Forces _ _) c.in-Literal.is c.next_forced-next.ensures in
     visits_fewer c.loop-u.invariant.2 _ f.0 f.1 c.add-t.ensures f.2
 
 pub loop-u-preserved : goal.loop-u-preserved
 loop-u-preserved c =
-    
     let f = subst (Forces _ _) c.in-Literal.is c.next_forced-next.ensures in let i = c.loop-u.invariant in
     (c.add-t.kept.0 ∙ i.0, c.add-t.kept.1.0 ∙ i.1, visits_more i.2 _ f.0 f.1 c.add-t.ensures)

@@ -19,9 +19,8 @@ step_quiet-requires c =
 pub returns-then-step_quiet : goal.returns-then-step_quiet
 returns-then-step_quiet c =
     let a = c.args in
-    let s = c.requires in
     settled_named (patterns a.v a.p a.q a.s).4
-    (settled (visits_none _ s.0) (nothing_forced _ a.v a.p a.q a.s s.1.0 s.2.0.0 s.2.1.0 s.2.2.0 4
+    (settled (visits_none _ c.requires.0) (nothing_forced _ a.v a.p a.q a.s c.requires.1.0 c.requires.2.0.0 c.requires.2.1.0 c.requires.2.2.0 4
     (known 4 c.value-a.ensures c.value-b.ensures c.value-c.ensures c.value-d.ensures refl)
     (c.step_quiet.ensures c.if-step_quiet.true)))
 

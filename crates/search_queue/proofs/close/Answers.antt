@@ -26,8 +26,8 @@ bounds-trail-h c = let i = c.loop-h.invariant in omega (arith, i.1, pending_fits
 
 pub reach-r-requires : goal.reach-r-requires
 reach-r-requires c =
-    let i = c.loop-h.invariant in let s = c.requires in
-    record { on_ground = (ground_still i.0 s.0.0, i.2.trailing); tables = (s.0.1, i.5, next_variable i.4 (omega (arith, c.loop-h-test.true))) }
+    let i = c.loop-h.invariant in 
+    record { on_ground = (ground_still i.0 c.requires.on_ground.0, i.2.trailing); tables = (c.requires.on_ground.1, i.5, next_variable i.4 (omega (arith, c.loop-h-test.true))) }
 
 pub returns-then-r : goal.returns-then-r
 returns-then-r c = let i = c.loop-h.invariant in queue_clash i.2 i.3 c.reach-r.ensures c.if-r.true
@@ -40,7 +40,6 @@ loop-h-smaller c = let i = c.loop-h.invariant in omega (arith, i.0, pending_fits
 
 pub loop-h-preserved : goal.loop-h-preserved
 loop-h-preserved c =
-    
     let i = c.loop-h.invariant in let q = c.reach-r in let e = q.ensures in (
       q.kept.0 ∙ i.0,
       q.kept.1.0 ∙ i.1,

@@ -7,4 +7,4 @@ pub overflow_mul-k : goal.overflow_mul-k
 overflow_mul-k c = few_channels c.requires.on_ground.0
 
 pub reach_row-requires : goal.reach_row-requires
-reach_row-requires c = let p = c.requires in record { on_ground = p.0; tables = (p.1.0, p.1.1, c.if-u-k.false, p.1.2.1) }
+reach_row-requires c = record { on_ground = c.requires.on_ground; tables = (c.requires.tables.0, c.requires.tables.1, c.if-u-k.false, c.requires.tables.2.1) }

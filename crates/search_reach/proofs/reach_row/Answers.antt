@@ -16,28 +16,27 @@ use Rattle.search_reach.proofs.reach_row.Goals as goal
 
 pub last_from-z-requires : goal.last_from-z-requires
 last_from-z-requires c =
-    
     let e : length c.args.firsts.now ≡ max_nodes = search rules in let g = c.requires.on_ground.0 in (g.some, omega (arith, e, g.few), first_le g c.requires.tables.2)
 
 pub block_of-block-requires : goal.block_of-block-requires
 block_of-block-requires c =
-    let p = c.requires in let g = p.0.0 in (g.steps, omega (arith, c.last_from-z.ensures.below, g.few), g.low, g.seated, p.1.1)
+    let g = c.requires.on_ground.0 in (g.steps, omega (arith, c.last_from-z.ensures.below, g.few), g.low, g.seated, c.requires.tables.1)
 
 pub reach-r-requires : goal.reach-r-requires
 reach-r-requires c =
-    let p = c.requires in let g = p.0.0 in let z = c.last_from-z.ensures in
+    let g = c.requires.on_ground.0 in let z = c.last_from-z.ensures in
     let b = c.Block-of.ensures in (
-      node_at c.last_from-z.result g refl z.below b.0 (b.1 c.args.c g.channels) p.0.1,
-      p.1.1,
-      p.1.0,
-      in_block g.grid _ z.below b.0 (row_found g p.1.3 z.below z.from z.next),
+      node_at c.last_from-z.result g refl z.below b.0 (b.1 c.args.c g.channels) c.requires.on_ground.1,
+      c.requires.tables.1,
+      c.requires.tables.0,
+      in_block g.grid _ z.below b.0 (row_found g c.requires.tables.3 z.below z.from z.next),
     )
 
 pub returns-then-r : goal.returns-then-r
 returns-then-r c =
-    let p = c.requires in let g = p.0.0 in
+    let g = c.requires.on_ground.0 in
     let z = c.last_from-z.ensures in
-    near_stop g.grid c.args.u c.last_from-z.result z.below (row_found g p.1.3 z.below z.from z.next) c.Block-of.ensures.0
+    near_stop g.grid c.args.u c.last_from-z.result z.below (row_found g c.requires.tables.3 z.below z.from z.next) c.Block-of.ensures.0
     c.reach-r.ensures c.if-r.true
 
 pub bounds-parents-z : goal.bounds-parents-z
@@ -49,26 +48,23 @@ overflow_cast-y c =
 
 pub block_of-up-requires : goal.block_of-up-requires
 block_of-up-requires c =
-    
     let g = c.requires.on_ground.0 in (g.steps, omega (arith, g.few, g.grid.upward c.last_from-z.result c.last_from-z.ensures.below), g.low, g.seated, c.requires.tables.1)
 
 pub reach-requires : goal.reach-requires
 reach-requires c =
-    let p = c.requires in
-    let g = p.0.0 in let z = c.last_from-z.ensures in let b = c.block_of-up.ensures in
+    let g = c.requires.on_ground.0 in let z = c.last_from-z.ensures in let b = c.block_of-up.ensures in
     let l = g.grid.upward c.last_from-z.result z.below in
-    let i = row_found g p.1.3 z.below z.from z.next in record { on_ground = (
+    let i = row_found g c.requires.tables.3 z.below z.from z.next in record { on_ground = (
         node_at _ g c.reach-r.kept.0 l b.0 (b.1 c.args.c g.channels) c.reach-r.ensures.grown.trailing,
-        p.1.1,
+        c.requires.tables.1,
         not_own g.grid _ l c.last_from-z.result c.args.u z.below i (other_row g z.below c.if-z-ne0.true) b.0,
-        p.1.2,
-      ); tables = p.1.0 }
+        c.requires.tables.2,
+      ); tables = c.requires.tables.0 }
 
 pub returns-then-z-ne0 : goal.returns-then-z-ne0
 returns-then-z-ne0 c =
-    
-    let p = c.requires in let g = p.0.0 in let z = c.last_from-z.ensures in
-    near_part g.grid c.args.u c.last_from-z.result z.below (row_found g p.1.3 z.below z.from z.next)
+    let g = c.requires.on_ground.0 in let z = c.last_from-z.ensures in
+    near_part g.grid c.args.u c.last_from-z.result z.below (row_found g c.requires.tables.3 z.below z.from z.next)
     c.Block-of.ensures.0 c.reach-r.ensures c.if-z-ne0.true c.if-r.false c.block_of-up.ensures.value c.reach.ensures
 
 pub overflow_add-root : goal.overflow_add-root
@@ -76,20 +72,18 @@ overflow_add-root c = let g = c.requires.on_ground.0 in omega (arith, g.steps, (
 
 pub returns-then-u-root : goal.returns-then-u-root
 returns-then-u-root c =
-    let p = c.requires in let g = p.0.0 in
+    let g = c.requires.on_ground.0 in
     let z = c.last_from-z.ensures in
-    near_alone g.grid c.args.u c.last_from-z.result z.below (row_found g p.1.3 z.below z.from z.next) c.Block-of.ensures.0
+    near_alone g.grid c.args.u c.last_from-z.result z.below (row_found g c.requires.tables.3 z.below z.from z.next) c.Block-of.ensures.0
     c.reach-r.ensures c.if-z-ne0.false (ap (λ (s : ℕ). s + c.args.k) (g.seated 0 (omega arith)).0) c.if-u-root.true
 
 pub visit-requires : goal.visit-requires
 visit-requires c =
-    
     let g = c.requires.on_ground.0 in let q = c.reach-r in (q.ensures.grown.trailing, there q.kept.0 (seated _ (g.seated 0 (omega arith)).0 g.root), tt, tt)
 
 pub returns : goal.returns
 returns c =
-    
-    let p = c.requires in let g = p.0.0 in
+    let g = c.requires.on_ground.0 in
     let z = c.last_from-z.ensures in
-    near_root g.grid c.args.u c.last_from-z.result z.below (row_found g p.1.3 z.below z.from z.next) c.Block-of.ensures.0
+    near_root g.grid c.args.u c.last_from-z.result z.below (row_found g c.requires.tables.3 z.below z.from z.next) c.Block-of.ensures.0
     c.reach-r.ensures (ap (λ (s : ℕ). s + c.args.k) (g.seated 0 (omega arith)).0) c.if-u-root.false c.if-r.false c.visit.ensures

@@ -17,7 +17,6 @@ start-cursor-requires c = let s = c.requires.bounded in record { on_ground = wal
 
 pub loop-cursor-init : goal.loop-cursor-init
 loop-cursor-init c =
-    
     let e = c.start-cursor.ensures in (
       refl,
       refl,
@@ -55,7 +54,6 @@ loop-cursor-smaller c = one_less c.loop-cursor.invariant.3 c.loop-cursor-test.tr
 
 pub loop-cursor-preserved : goal.loop-cursor-preserved
 loop-cursor-preserved c =
-    
     let i = c.loop-cursor.invariant in let k = c.visit-r.kept in let e = c.next-cursor.ensures in let s = c.args in (
       k.0 ∙ i.0,
       k.1.0 ∙ i.1,

@@ -9,25 +9,19 @@ use Rattle.search_sweep_node.proofs.sweep_chop.Goals as goal
 
 pub sweep_block-r-requires : goal.sweep_block-r-requires
 sweep_block-r-requires c =
-    
     let h = halves c.args.block c.beyond-w.ensures c.triples_of-triples.ensures c.intervals_of-intervals.ensures in
     record { bounded = (triples_bounded _ h c.requires.fine.0, c.requires.fine.1, c.requires.fine.2); all_mentioned = triples_mentioned _ h c.requires.all_mentioned }
 
 pub returns-then-r : goal.returns-then-r
 returns-then-r c =
-    
     let h = halves c.args.block c.beyond-w.ensures c.triples_of-triples.ensures c.intervals_of-intervals.ensures in
     visited_named (chop_clauses _ h) (visited_stop c.sweep_block-r.ensures _ c.if-r.true)
 
 pub sweep_block-requires : goal.sweep_block-requires
 sweep_block-requires c =
-    
-    
     let h = halves c.args.block c.beyond-w.ensures c.triples_of-triples.ensures c.intervals_of-intervals.ensures in let r = c.sweep_block-r in record { bounded = (intervals_bounded _ h c.requires.fine.0, r.ensures.grown.trailing, c.requires.fine.2); all_mentioned = still (defined_by c.args.c c.args.k c.intervals_of-intervals.result) r.kept.0 (intervals_mentioned _ h c.requires.all_mentioned) }
 
 pub returns : goal.returns
 returns c =
-    
-    
     let h = halves c.args.block c.beyond-w.ensures c.triples_of-triples.ensures c.intervals_of-intervals.ensures in
     visited_named (chop_clauses _ h) (visited_then c.sweep_block-r.ensures _ c.if-r.false c.sweep_block.ensures)

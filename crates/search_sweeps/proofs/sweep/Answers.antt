@@ -6,21 +6,19 @@ use Rattle.search_sweeps.proofs.Table.{nodes_clash, nodes_root}
 use Rattle.search_sweeps.proofs.sweep.Goals as goal
 
 pub sweep_nodes-r-requires : goal.sweep_nodes-r-requires
-sweep_nodes-r-requires c = let s = c.requires in record { c_le_max_channels = s.0; by_index = s.1.1 }
+sweep_nodes-r-requires c = record { c_le_max_channels = c.requires.c_le_max_channels; by_index = c.requires.by_index }
 
 pub returns-then-r : goal.returns-then-r
 returns-then-r c = nodes_clash _ _ _ _ _ _ _ c.sweep_nodes-r.ensures c.if-r.true
 
 pub seat-requires : goal.seat-requires
-seat-requires c = let s = c.requires in (s.0.1, s.0.3)
+seat-requires c = (c.requires.c_le_max_channels.1, c.requires.c_le_max_channels.3)
 
 pub visit-requires : goal.visit-requires
 visit-requires c =
-    
-    let s = c.requires in let r = c.sweep_nodes-r in
-    (r.ensures.grown.trailing, there r.kept.0 (seated _ c.seat.ensures.0 s.1.0), tt, tt)
+    let r = c.sweep_nodes-r in
+    (r.ensures.grown.trailing, there r.kept.0 (seated _ c.seat.ensures.0 c.requires.variable), tt, tt)
 
 pub returns : goal.returns
 returns c =
-    
     nodes_root _ _ _ _ _ _ _ c.sweep_nodes-r.ensures c.if-r.false c.seat.ensures.0 c.visit.ensures

@@ -15,9 +15,8 @@ block_at-block-requires c = let s = c.requires.c_le_max_channels in (s.1, omega 
 
 pub sweep_node-r-requires : goal.sweep_node-r-requires
 sweep_node-r-requires c =
-    
-    let s = c.requires in let i = c.loop-x.invariant in let b = c.block_at-block.ensures in record { fine = (b.1 _ s.0.0, i.3.grown.trailing, s.0.5); all_mentioned = row_mentioned c.args.c c.args.k _ _ _ _ _ c.block_at-block.result b.0 i.0
-          (s.1 _ c.loop-x-test.true) }
+    let i = c.loop-x.invariant in let b = c.block_at-block.ensures in record { fine = (b.1 _ c.requires.c_le_max_channels.0, i.3.grown.trailing, c.requires.c_le_max_channels.5); all_mentioned = row_mentioned c.args.c c.args.k _ _ _ _ _ c.block_at-block.result b.0 i.0
+          (c.requires.by_index _ c.loop-x-test.true) }
 
 pub returns-then-r : goal.returns-then-r
 returns-then-r c =
@@ -27,7 +26,6 @@ returns-then-r c =
 
 pub loop-x-preserved : goal.loop-x-preserved
 loop-x-preserved c =
-    
     let i = c.loop-x.invariant in let k = c.sweep_node-r.kept in (
       k.0 ∙ i.0,
       k.1.0 ∙ i.1,

@@ -17,7 +17,7 @@ pub overflow_mul-channels : goal.overflow_mul-channels
 overflow_mul-channels c = few_channels c.requires.ground_of.0
 
 pub loop-last-init : goal.loop-last-init
-loop-last-init c = let p = c.requires in (refl, refl, standing _ _ _ _ p.1 refl (omega (arith, p.0.0.total)) _)
+loop-last-init c = (refl, refl, standing _ _ _ _ c.requires.holding refl (omega (arith, c.requires.ground_of.0.total)) _)
 
 pub returns-then-depth-eq0 : goal.returns-then-depth-eq0
 returns-then-depth-eq0 c = high_dead _ _ _ _ c.loop-last.invariant.2 c.if-last.true c.if-depth-eq0.true
@@ -28,7 +28,6 @@ returns-then-n-limit c = high_spent _ _ _ _ c.loop-last.invariant.2 c.if-last.tr
 -- there is a level for every channel variable
 high_level : (c : Else-n-limit) → c.loop-last.depth - 1 < max_steps * max_channels
 high_level c =
-    
     let g = c.requires.ground_of.0 in omega (arith, high_room _ _ _ _ c.loop-last.invariant.2 c.if-last.true c.if-depth-eq0.false, channels_few _ _ g.channels g.steps)
 
 pub offset_bounds-levels-depth : goal.offset_bounds-levels-depth
@@ -39,30 +38,27 @@ bounds-levels-depth c = omega (arith, high_level (goal.at.bounds-levels-depth c)
 
 pub try_high-last-requires : goal.try_high-last-requires
 try_high-last-requires c =
-    
-    let s = c.loop-last.invariant.2 in record { on_ground = (ground_still s.long c.requires.ground_of.0, c.requires.ground_of.1); undoable = high_ready _ _ _ _ s c.if-last.true c.if-depth-eq0.false }
+    let s = c.loop-last.invariant.2 in record { on_ground = (ground_still s.long c.requires.ground_of.0, c.requires.ground_of.1); undoable = high_ready _ _ _ _ s c.if-last.true c.if-depth-eq0.left }
 
 pub loop-last-preserved-then-last : goal.loop-last-preserved-then-last
 loop-last-preserved-then-last c =
-    
-    let q = c.try_high-last in let l = c.loop-last.invariant in (q.auto.1.0 ∙ l.0, l.1, high_on _ _ _ _ l.2 c.if-last.true c.if-depth-eq0.false c.if-n-limit.false q.ensures)
+    let q = c.try_high-last in let l = c.loop-last.invariant in (q.auto.1.0 ∙ l.0, l.1, high_on _ _ _ _ l.2 c.if-last.true c.if-depth-eq0.left c.if-n-limit.left q.ensures)
 
 pub lowest_open-v-requires : goal.lowest_open-v-requires
 lowest_open-v-requires c = let s = c.loop-last.invariant.2 in (omega (arith, s.fit, s.long), s.holding.trailing.small)
 
 pub returns-then-v-eq0 : goal.returns-then-v-eq0
 returns-then-v-eq0 c =
-    low_found _ _ _ _ c.loop-last.invariant.2 c.if-last.false c.lowest_open-v.ensures c.if-v-eq0.true
+    low_found _ _ _ _ c.loop-last.invariant.2 c.if-last.left c.lowest_open-v.ensures c.if-v-eq0.true
 
 pub returns-then-n-limit-2 : goal.returns-then-n-limit-2
 returns-then-n-limit-2 c =
-    
-    low_spent _ _ _ _ c.loop-last.invariant.2 c.if-last.false c.lowest_open-v.ensures c.if-v-eq0.false c.if-n-limit-2.true
+    low_spent _ _ _ _ c.loop-last.invariant.2 c.if-last.left c.lowest_open-v.ensures c.if-v-eq0.false c.if-n-limit-2.true
 
 low_level : (c : Else-n-limit-2) → c.loop-last.depth < max_steps * max_channels
 low_level c =
     let g = c.requires.ground_of.0 in
-    omega (arith, low_room _ _ _ _ c.loop-last.invariant.2 c.if-last.false c.lowest_open-v.ensures c.if-v-eq0.false, channels_few _ _ g.channels g.steps)
+    omega (arith, low_room _ _ _ _ c.loop-last.invariant.2 c.if-last.left c.lowest_open-v.ensures c.if-v-eq0.false, channels_few _ _ g.channels g.steps)
 
 pub offset_bounds-levels-depth-in-loop-last : goal.offset_bounds-levels-depth-in-loop-last
 offset_bounds-levels-depth-in-loop-last c = record { fits = omega (arith, low_level (goal.at.offset_bounds-levels-depth-in-loop-last c).Else-n-limit-2) }
@@ -76,17 +72,16 @@ overflow_add-depth c = record { fits = omega (arith, low_level (goal.at.overflow
 pub try_literal-last-requires : goal.try_literal-last-requires
 try_literal-last-requires c =
     let s = c.loop-last.invariant.2 in
-    record { on_ground = (ground_still s.long c.requires.ground_of.0, c.requires.ground_of.1); ready = low_ready _ _ _ _ s c.if-last.false c.lowest_open-v.ensures c.if-v-eq0.false }
+    record { on_ground = (ground_still s.long c.requires.ground_of.0, c.requires.ground_of.1); ready = low_ready _ _ _ _ s c.if-last.left c.lowest_open-v.ensures c.if-v-eq0.left }
 
 pub overflow_add-n-in-loop-last : goal.overflow_add-n-in-loop-last
 overflow_add-n-in-loop-last c =
-    search (c.loop-last.invariant.2.few, c.if-n-limit-2.false, c.fits.limit, rules)
+    search (c.loop-last.invariant.2.few, c.if-n-limit-2.left, c.fits.limit, rules)
 
 pub loop-last-preserved : goal.loop-last-preserved
 loop-last-preserved c =
-    
     let q = c.try_literal-last in let w = c.loop-last in let l = w.invariant in (
       q.kept.1.0 ∙ l.0,
       length-set w.levels w.depth w.last.top ∙ l.1,
-      low_on _ _ _ _ l.2 c.if-last.false c.lowest_open-v.ensures c.if-v-eq0.false (omega (arith, low_level (goal.at.loop-last-preserved c).Else-n-limit-2, l.1)) c.if-n-limit-2.false q.ensures,
+      low_on _ _ _ _ l.2 c.if-last.left c.lowest_open-v.ensures c.if-v-eq0.left (omega (arith, low_level (goal.at.loop-last-preserved c).Else-n-limit-2, l.1)) c.if-n-limit-2.left q.ensures,
     )

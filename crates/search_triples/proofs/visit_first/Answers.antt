@@ -11,16 +11,16 @@ use Rattle.search_triples.proofs.Cuts.{first_begun, first_clauses_lem, first_ask
 use Rattle.search_triples.proofs.visit_first.Goals as goal
 
 pub place-requires : goal.place-requires
-place-requires c = let s = c.requires in (omega (arith, s), s.0.bounded.steps, s.1)
+place-requires c = (omega (arith, c.requires), c.requires.0.bounded.steps, c.requires.1)
 
 pub overflow_add-x : goal.overflow_add-x
 overflow_add-x c = omega (arith, c.place.ensures.1, c.requires.0.bounded.left)
 
 pub place-start-requires : goal.place-start-requires
-place-start-requires c = let s = c.requires in (omega (arith, s), s.0.bounded.steps, s.1)
+place-start-requires c = (omega (arith, c.requires), c.requires.0.bounded.steps, c.requires.1)
 
 pub place-requires-2 : goal.place-requires-2
-place-requires-2 c = let s = c.requires in (omega arith, omega (arith, s), s.0.bounded.steps, s.1, s.5)
+place-requires-2 c = (omega arith, omega (arith, c.requires), c.requires.0.bounded.steps, c.requires.1, c.requires.5)
 
 pub overflow_add-v : goal.overflow_add-v
 overflow_add-v c = omega (arith, c.place-2.ensures.1, c.requires.0.bounded.first, counts_at_32 c.args.k c.requires.0.bounded.steps)
@@ -30,23 +30,20 @@ overflow_add-e-end c = omega (arith, c.requires.0.bounded.steps)
 
 pub loop-e-init : goal.loop-e-init
 loop-e-init c =
-    
-    let s = c.requires in (
+    (
       refl,
       refl,
       omega arith,
-      first_begun s.2 s.3 s.4 c.place.ensures.0 c.place-start.ensures.0 c.place-2.ensures.0,
-      loop_begun _ s.0.trailing,
+      first_begun c.requires.2 c.requires.3 c.requires.4 c.place.ensures.0 c.place-start.ensures.0 c.place-2.ensures.0,
+      loop_begun _ c.requires.0.trailing,
     )
 
 pub overflow_add-y : goal.overflow_add-y
 overflow_add-y c =
-    
     omega (arith, first_small c.loop-e.invariant.3 c.loop-e-test.true c.requires.0.bounded, c.requires.0.bounded.right)
 
 pub overflow_add-y-in-loop-e : goal.overflow_add-y-in-loop-e
 overflow_add-y-in-loop-e c =
-    
     omega (arith, first_small c.loop-e.invariant.3 c.loop-e-test.true c.requires.0.bounded, c.requires.0.bounded.right)
 
 pub settle_both-r-requires : goal.settle_both-r-requires
@@ -78,7 +75,6 @@ overflow_step-e c =
 
 pub loop-e-preserved : goal.loop-e-preserved
 loop-e-preserved c =
-    
     let i = c.loop-e.invariant in let k = c.settle_both-r.kept in let h = c.loop-e-test.true in (
       k.0 ∙ i.0,
       k.1.0 ∙ i.1,

@@ -11,33 +11,32 @@ use Rattle.search_triples.proofs.Cuts.{second_begun, second_clauses_lem, second_
 use Rattle.search_triples.proofs.visit_second.Goals as goal
 
 pub place-start-requires : goal.place-start-requires
-place-start-requires c = let s = c.requires in (omega (arith, s), s.0.bounded.steps, s.5)
+place-start-requires c = (omega (arith, c.requires), c.requires.0.bounded.steps, c.requires.5)
 
 pub overflow_add-x : goal.overflow_add-x
-overflow_add-x c = let s = c.requires in omega (arith, s, s.0.bounded.steps, s.0.bounded.left)
+overflow_add-x c = omega (arith, c.requires, c.requires.0.bounded.steps, c.requires.0.bounded.left)
 
 pub place-requires : goal.place-requires
-place-requires c = let s = c.requires in (omega (arith, s), omega (arith, s), s.0.bounded.steps, s.5, s.6)
+place-requires c = (omega (arith, c.requires), omega (arith, c.requires), c.requires.0.bounded.steps, c.requires.5, c.requires.6)
 
 pub overflow_add-v : goal.overflow_add-v
 overflow_add-v c = omega (arith, c.place.ensures.1, c.requires.0.bounded.first, counts_at_32 c.args.k c.requires.0.bounded.steps)
 
 pub overflow_add-i-end : goal.overflow_add-i-end
-overflow_add-i-end c = let s = c.requires in omega (arith, s, s.0.bounded.steps)
+overflow_add-i-end c = omega (arith, c.requires, c.requires.0.bounded.steps)
 
 pub loop-i-init : goal.loop-i-init
 loop-i-init c =
-    let s = c.requires in (
+    (
       refl,
       refl,
       omega arith,
-      second_begun s.2 s.3 s.4 c.place-start.ensures.0 s.1 c.place.ensures.0,
-      loop_begun _ s.0.trailing,
+      second_begun c.requires.2 c.requires.3 c.requires.4 c.place-start.ensures.0 c.requires.1 c.place.ensures.0,
+      loop_begun _ c.requires.0.trailing,
     )
 
 pub overflow_add-y : goal.overflow_add-y
 overflow_add-y c =
-    
     omega (arith, second_small c.loop-i.invariant.3 (omega (arith, c.loop-i-test.true)) c.requires.0.bounded, c.requires.0.bounded.right)
 
 pub settle_both-r-requires : goal.settle_both-r-requires
@@ -93,7 +92,6 @@ overflow_step-i c =
 
 pub loop-i-preserved : goal.loop-i-preserved
 loop-i-preserved c =
-    
     let i = c.loop-i.invariant in let k = c.settle_both-r.kept in let h = c.loop-i-test.true in (
       k.0 ∙ i.0,
       k.1.0 ∙ i.1,

@@ -10,11 +10,9 @@ returns-then-r c = visited_named (any_clauses_lem _ _ _) (visited_stop c.visit_e
 
 pub visit_long-requires : goal.visit_long-requires
 visit_long-requires c =
-    
-    let s = c.requires in let k = c.visit_each-r in
-    (k.ensures.grown.trailing, there k.kept.0 s.1, (s.2.0, λ e h. there k.kept.0 (s.2.1 e h)))
+    let k = c.visit_each-r in
+    (k.ensures.grown.trailing, there k.kept.0 c.requires.1, (c.requires.2.0, λ e h. there k.kept.0 (c.requires.2.1 e h)))
 
 pub returns : goal.returns
 returns c =
-    
     visited_named (any_clauses_lem _ _ _) (visited_then c.visit_each-r.ensures _ c.if-r.false c.visit_long.ensures)

@@ -16,12 +16,11 @@ overflow_add-w c = omega (arith, c.requires.2.0, c.loop-e-test.true)
 
 pub settle_by-r-requires : goal.settle_by-r-requires
 settle_by-r-requires c =
-    let i = c.loop-e.invariant in let s = c.requires in let v = there i.0 s.1 in
-    record { trailing = (i.3.grown.trailing, omega arith); four = (v, there i.0 (s.2.1 _ c.loop-e-test.true), v, v) }
+    let i = c.loop-e.invariant in let v = there i.0 c.requires.1 in
+    record { trailing = (i.3.grown.trailing, omega arith); four = (v, there i.0 (c.requires.2.1 _ c.loop-e-test.true), v, v) }
 
 pub returns-then-r : goal.returns-then-r
 returns-then-r c =
-    
     loop_stop _ _ c.loop-e.invariant.3 (raised_pattern _ _ _) (settled_visited c.settle_by-r.ensures) _ c.loop-e-test.true c.if-r.true
 
 pub loop-e-preserved : goal.loop-e-preserved

@@ -20,14 +20,12 @@ opposed-requires-in-loop-e c = c.requires.2.1 _ c.loop-e-test.true
 
 pub returns-then-free-eq1 : goal.returns-then-free-eq1
 returns-then-free-eq1 c =
-    
     tallied_more c.requires.0 _
     (reading_two c.loop-e.invariant.1 (sym c.opposed-in-loop-e.ensures ∙ c.if-not-opposed.true) c.if-free-eq1.true _ c.loop-e-test.true)
     (λ e. absurd (omega arith)) (λ e. absurd (omega arith))
 
 pub loop-e-preserved : goal.loop-e-preserved
 loop-e-preserved c =
-    
     let i = c.loop-e.invariant in let o = sym c.opposed-in-loop-e.ensures in (
       omega (arith, c.loop-e-test.true),
       ⊎_elim (λ w. reading_moved w.2 w.3 w.4
@@ -41,5 +39,4 @@ visit_tallied-requires c =
 
 pub returns : goal.returns
 returns c =
-    
     let i = c.loop-e.invariant in c.visit_tallied.ensures _ (omega arith) (reading_all _ i.0 (omega (arith, c.loop-e-test.false)) i.1).tally

@@ -10,17 +10,16 @@ pub overflow_add-w : goal.overflow_add-w
 overflow_add-w c = omega (arith, c.requires.2.0, c.requires.3)
 
 pub settle_by-r-requires : goal.settle_by-r-requires
-settle_by-r-requires c = let s = c.requires in record { trailing = (s.0, omega arith); four = (s.1, s.2.1 _ s.3, s.1, s.1) }
+settle_by-r-requires c = record { trailing = (c.requires.0, omega arith); four = (c.requires.1, c.requires.2.1 _ c.requires.3, c.requires.1, c.requires.1) }
 
 pub returns-then-r : goal.returns-then-r
 returns-then-r c = visited_stop (visited_named (raised_pattern _ _ _) (settled_visited c.settle_by-r.ensures)) _ c.if-r.true
 
 pub visit_long-requires : goal.visit_long-requires
 visit_long-requires c =
-    let s = c.requires in let k = c.settle_by-r in
-    (k.ensures.grown.trailing, there k.kept.0 s.1, (s.2.0, λ e h. there k.kept.0 (s.2.1 e h)))
+    let k = c.settle_by-r in
+    (k.ensures.grown.trailing, there k.kept.0 c.requires.1, (c.requires.2.0, λ e h. there k.kept.0 (c.requires.2.1 e h)))
 
 pub returns : goal.returns
 returns c =
-    
     visited_then (visited_named (raised_pattern _ _ _) (settled_visited c.settle_by-r.ensures)) _ c.if-r.false c.visit_long.ensures

@@ -10,9 +10,8 @@ pub returns-then-free-ne1 : goal.returns-then-free-ne1
 returns-then-free-ne1 c k n t = tallied_more c.requires.0 k t c.if-free-eq0.false c.if-free-ne1.true
 
 pub add-t-requires : goal.add-t-requires
-add-t-requires c = let s = c.requires in (s.1.0, s.1.1, s.0, s.2 c.if-free-ne1.false)
+add-t-requires c = (c.requires.1.0, c.requires.1.1, c.requires.0, c.requires.2 c.if-free-ne1.false)
 
 pub returns : goal.returns
 returns c k n t =
-    
     tallied_one c.requires.0 k t c.if-free-ne1.false c.add-t.ensures

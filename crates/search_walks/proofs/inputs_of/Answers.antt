@@ -10,17 +10,14 @@ use Rattle.search_walks.proofs.inputs_of.Goals as goal
 
 pub overflow_mul-result : goal.overflow_mul-result
 overflow_mul-result c =
-    
     omega (arith, channel_fits c.args.x c.args.c c.requires.1 (omega (arith, c.requires.0.channels)), letter_fits c.in-Letter.is c.requires.0.number)
 
 pub overflow_add-result : goal.overflow_add-result
 overflow_add-result c =
-    
     omega (arith, channel_fits c.args.x c.args.c c.requires.1 (omega (arith, c.requires.0.channels)), letter_fits c.in-Letter.is c.requires.0.number)
 
 pub overflow_add-result-in-Letter : goal.overflow_add-result-in-Letter
 overflow_add-result-in-Letter c =
-    
     omega (arith, channel_fits c.args.x c.args.c c.requires.1 (omega (arith, c.requires.0.channels)), letter_fits c.in-Letter.is c.requires.0.number)
 
 pub returns-in-Fixed : goal.returns-in-Fixed

@@ -8,18 +8,17 @@ use Rattle.search_walks.proofs.Gates.{variable_here, inputs_here, visited_here}
 use Rattle.search_walks.proofs.visit_line.Goals as goal
 
 pub overflow_add-v : goal.overflow_add-v
-overflow_add-v c = let p = c.requires in omega (arith, place_small p.0.0 p.1, p.0.0.bounded.first)
+overflow_add-v c = omega (arith, place_small c.requires.standing.0 c.requires.placed, c.requires.standing.0.bounded.first)
 
 pub inputs_of-i-requires : goal.inputs_of-i-requires
-inputs_of-i-requires c = let p = c.requires in (p.0.0.bounded, omega (arith, place_small p.0.0 p.1), p.0.1)
+inputs_of-i-requires c = (c.requires.standing.0.bounded, omega (arith, place_small c.requires.standing.0 c.requires.placed), c.requires.standing.1)
 
 pub settle_by-requires : goal.settle_by-requires
 settle_by-requires c =
-    let p = c.requires in let g = c.inputs_of-i.ensures in
-    let v = variable_here p.0.0 p.1 in let i = g.inputs _ v (inputs_here p.0.0 p.1 refl) in
-    record { trailing = (p.0.0.trailing, g.gate); four = (v, i.0, i.1, v) }
+    let g = c.inputs_of-i.ensures in
+    let v = variable_here c.requires.standing.0 c.requires.placed in let i = g.inputs _ v (inputs_here c.requires.standing.0 c.requires.placed refl) in
+    record { trailing = (c.requires.standing.0.trailing, g.gate); four = (v, i.0, i.1, v) }
 
 pub returns : goal.returns
 returns c =
-    
-    let p = c.requires in visited_here p.0.0 p.1 refl (settled_named c.inputs_of-i.ensures.clauses c.settle_by.ensures)
+    visited_here c.requires.standing.0 c.requires.placed refl (settled_named c.inputs_of-i.ensures.clauses c.settle_by.ensures)

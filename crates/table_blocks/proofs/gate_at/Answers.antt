@@ -12,7 +12,6 @@ channel_variable-requires c =
 
 pub overflow_add-result-in-Chop : goal.overflow_add-result-in-Chop
 overflow_add-result-in-Chop c =
-    
     omega (arith, chop_before c.args.p c.requires.placed.0 (c.requires.placed.1 c.in-Chop.is) c.in-Chop.is c.requires.bounded.0.steps, c.requires.bounded.0.left)
 
 pub overflow_add-result-in-Chop-2 : goal.overflow_add-result-in-Chop-2

@@ -9,10 +9,8 @@ returns-then-cell-cells c = next_cell _ _ _ _ c.form_of-form.ensures (omega (ari
 
 pub returns-then-line-lines : goal.returns-then-line-lines
 returns-then-line-lines c =
-    
     next_line _ _ _ _ c.form_of-form.ensures (omega (arith, c.cells.ensures, c.if-cell-cells.false)) (omega (arith, c.lines.ensures, c.if-line-lines.true))
 
 pub returns : goal.returns
 returns c =
-    
     next_row _ _ _ _ c.form_of-form.ensures (omega (arith, c.cells.ensures, c.if-cell-cells.false)) (omega (arith, c.lines.ensures, c.if-line-lines.false))

@@ -21,7 +21,6 @@ put_node-at-requires c =
 
 pub loop-x-preserved : goal.loop-x-preserved
 loop-x-preserved c =
-    
     turn c.loop-x.invariant (search rules) (ap (node_places _ _) (sym c.block_at-block.ensures.value)) c.put_node-at.ensures
 
 pub returns : goal.returns

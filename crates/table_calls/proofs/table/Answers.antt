@@ -15,5 +15,4 @@ write_table-requires c =
 
 pub returns : goal.returns
 returns c =
-    
     called _ _ _ _ c.node_table-tabled.ensures _ _ _ c.in_default.is c.write_table.ensures

@@ -10,7 +10,6 @@ layout_of-layout-requires c = c.requires
 
 pub returns-in-No : goal.returns-in-No
 returns-in-No c =
-    
     λ f e. refused_known _ _ f e c.layout_of-layout.ensures _ _ _ _ (sym c.ask_room.ensures ∙ c.in-No.is)
 
 pub put_sizes-requires : goal.put_sizes-requires
@@ -18,12 +17,10 @@ put_sizes-requires c = (room_enough _ _ _ _ (sym c.ask_room.ensures ∙ c.in_def
 
 pub put_table-requires : goal.put_table-requires
 put_table-requires c =
-    let p = c.requires in
     let g = room_enough _ _ _ _ (sym c.ask_room.ensures ∙ c.in_default.is) in let w = c.layout_of-layout.ensures in
-    record { room = table_room c.args.table w g.1 g.2; c_le_max_channels = (p.0, p.1, p.2, w.low) }
+    record { room = table_room c.args.table w g.1 g.2; c_le_max_channels = (c.requires.0, c.requires.1, c.requires.2, w.low) }
 
 pub returns : goal.returns
 returns c =
-    
     λ f e. written_known _ _ f e c.layout_of-layout.ensures _ _ _ (sym c.ask_room.ensures ∙ c.in_default.is) c.put_sizes.ensures
     c.put_table.ensures

@@ -9,27 +9,22 @@ use Rattle.table_gates.proofs.put_gate.Goals as goal
 
 pub put-requires : goal.put-requires
 put-requires c =
-    
     let r = room_known _ c.in-Constant.is c.requires.room in (omega (arith, r.variables), omega (arith, r.marks))
 
 pub put-requires-in-Copy : goal.put-requires-in-Copy
 put-requires-in-Copy c =
-    
     let r = room_known _ c.in-Copy.is c.requires.room in (omega (arith, r.variables), omega (arith, r.marks))
 
 pub put-requires-in-Inverse : goal.put-requires-in-Inverse
 put-requires-in-Inverse c =
-    
     let r = room_known _ c.in-Inverse.is c.requires.room in (omega (arith, r.variables), omega (arith, r.marks))
 
 pub put-requires-in-Both : goal.put-requires-in-Both
 put-requires-in-Both c =
-    
     let r = room_known _ c.in-Both.is c.requires.room in (omega (arith, r.variables), omega (arith, r.marks))
 
 pub put-requires-in-Either : goal.put-requires-in-Either
 put-requires-in-Either c =
-    
     let r = room_known _ c.in-Either.is c.requires.room in (omega (arith, r.variables), omega (arith, r.marks))
 
 pub put_any-requires : goal.put_any-requires
@@ -38,12 +33,10 @@ put_any-requires c =
 
 pub put-requires-in-Step : goal.put-requires-in-Step
 put-requires-in-Step c =
-    
     let r = room_known _ c.in-Step.is c.requires.room in (omega (arith, r.variables), omega (arith, r.marks))
 
 pub returns-in-Constant : goal.returns-in-Constant
 returns-in-Constant c =
-    
     wrote_known _ c.in-Constant.is
     (c.put.ensures (places_of _ (Constant c.in-Constant.up)) refl (ap (λ m. m ∷ []) (sym c.closing.ensures)))
 

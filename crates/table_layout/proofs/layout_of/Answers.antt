@@ -5,7 +5,7 @@ use Rattle.table_layout.proofs.Measure.{zeros_low}
 use Rattle.table_layout.proofs.layout_of.Goals as goal
 
 pub sizes_of-sizes-requires : goal.sizes_of-sizes-requires
-sizes_of-sizes-requires c = let p = c.requires in (p.0, p.1, p.2, refl, zeros_low)
+sizes_of-sizes-requires c = (c.requires.0, c.requires.1, c.requires.2, refl, zeros_low)
 
 pub returns : goal.returns
 returns c = c.sizes_of-sizes.ensures

@@ -12,7 +12,6 @@ loop-y-init c = (c.requires.2, omega arith, λ y l. absurd (omega arith))
 
 pub loop-y-preserved : goal.loop-y-preserved
 loop-y-preserved c =
-    
     let l = c.loop-y in let a = c.args in (
       length-set l.seats l.y c.seat.result ∙ l.invariant.0,
       omega (arith, c.loop-y-test.true),

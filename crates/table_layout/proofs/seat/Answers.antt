@@ -10,7 +10,6 @@ overflow_mul-result c = omega (arith, level_low c.byte_at-n.result c.count.resul
 
 pub overflow_add-result : goal.overflow_add-result
 overflow_add-result c =
-    
     omega (arith, level_low c.byte_at-n.result c.count.result (search rules) (search rules), c.number_at-first.ensures, c.requires.1 c.args.y)
 
 pub returns-then-byte_at-eq-FORMULA_DURATION : goal.returns-then-byte_at-eq-FORMULA_DURATION
@@ -27,5 +26,4 @@ returns-then-byte_at-eq-FORMULA_DURATION c =
 
 pub returns : goal.returns
 returns c =
-    
     (seat_other _ _ _ _ _ c.number_at-first.ensures c.byte_at.ensures c.if-byte_at-eq-FORMULA_DURATION.false, omega (arith, c.number_at-first.ensures, c.requires.1 c.args.y))

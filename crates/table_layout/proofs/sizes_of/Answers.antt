@@ -7,11 +7,11 @@ use Rattle.table_layout.proofs.sizes_of.Goals as goal
 
 pub sums-clauses-requires : goal.sums-clauses-requires
 sums-clauses-requires c =
-    let p = c.requires in record { small = small c.clauses.ensures (omega arith) (omega arith) (omega arith) p.1; count_le_max_nodes = (p.2, omega arith, p.3) }
+    record { small = small c.clauses.ensures (omega arith) (omega arith) (omega arith) c.requires.1; count_le_max_nodes = (c.requires.2, omega arith, c.requires.3) }
 
 pub sums-literals-requires : goal.sums-literals-requires
 sums-literals-requires c =
-    let p = c.requires in record { small = small c.literals.ensures (omega arith) (omega arith) (omega arith) p.1; count_le_max_nodes = (p.2, omega arith, c.sums-clauses.ensures.whole) }
+    record { small = small c.literals.ensures (omega arith) (omega arith) (omega arith) c.requires.1; count_le_max_nodes = (c.requires.2, omega arith, c.sums-clauses.ensures.whole) }
 
 pub overflow_mul-start : goal.overflow_mul-start
 overflow_mul-start c = omega (arith, channels_few c.args.c c.args.k c.requires.0 c.requires.1)
@@ -25,6 +25,5 @@ sums-end-requires c =
 
 pub returns : goal.returns
 returns c =
-    
     measured c.requires.4 c.clauses.ensures c.sums-clauses.ensures c.literals.ensures c.sums-literals.ensures c.variables.ensures
     c.sums-end.ensures

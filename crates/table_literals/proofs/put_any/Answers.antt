@@ -14,7 +14,6 @@ put_raised-b-requires c =
 
 pub put_long-requires : goal.put_long-requires
 put_long-requires c =
-    
     let a = c.args in record { room = room_next c.requires.room (rows a.n (raised_of a.v a.w)) (long_of a.v a.w a.n) (any_flat a.v a.w a.n c.requires.le_n.0) c.put_raised-b.ensures; le_n = search rules }
 
 pub returns : goal.returns

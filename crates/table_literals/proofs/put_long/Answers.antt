@@ -19,7 +19,6 @@ last w n = entry (w + (n - 1)) 3 ∷ []
 
 pub put_run-d-requires : goal.put_run-d-requires
 put_run-d-requires c =
-    
     let a = c.args in record { room = room_first (room_next c.requires.room (entry a.v 0 ∷ []) (inputs a.w a.n ++ last a.w a.n) refl (c.put-b.ensures _ refl refl)) (inputs a.w a.n)
           (last a.w a.n) refl; n_bound = search rules }
 
@@ -32,6 +31,5 @@ put-requires c =
 
 pub returns : goal.returns
 returns c =
-    
     let a = c.args in
     and_then (c.put-b.ensures (entry a.v 0 ∷ []) refl refl) (and_then c.put_run-d.ensures (c.put.ensures (last a.w a.n) refl refl))

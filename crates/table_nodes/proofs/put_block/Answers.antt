@@ -9,10 +9,8 @@ use Rattle.table_nodes.proofs.put_block.Goals as goal
 
 pub put_run-requires : goal.put_run-requires
 put_run-requires c =
-    let p = c.requires in
-    record { room = subst (Room _ _ _) (sym (constant_known _ _ _ c.in-Fixed.is c.closing.ensures)) p.0; n_bound = omega (arith, p.1.0.first, p.1.1) }
+    record { room = subst (Room _ _ _) (sym (constant_known _ _ _ c.in-Fixed.is c.closing.ensures)) c.requires.room; n_bound = omega (arith, c.requires.bounded.0.first, c.requires.bounded.1) }
 
 pub returns-in-Fixed : goal.returns-in-Fixed
 returns-in-Fixed c =
-    
     named (constant_known _ _ _ c.in-Fixed.is c.closing.ensures) c.put_run.ensures

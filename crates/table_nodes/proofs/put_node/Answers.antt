@@ -8,20 +8,16 @@ use Rattle.table_nodes.proofs.put_node.Goals as goal
 
 pub put_chop-requires : goal.put_chop-requires
 put_chop-requires c =
-    
     (subst (Room _ _ _) (sym (places_known _ _ _ c.is_chop.ensures c.if-is_chop.true)) c.requires.0, c.requires.1)
 
 pub returns-then-is_chop : goal.returns-then-is_chop
 returns-then-is_chop c =
-    
     named (places_known _ _ _ c.is_chop.ensures c.if-is_chop.true) c.put_chop.ensures
 
 pub put_block-requires : goal.put_block-requires
 put_block-requires c =
-    
     record { room = subst (Room _ _ _) (sym (places_known _ _ _ c.is_chop.ensures c.if-is_chop.false)) c.requires.0; bounded = (c.requires.1.0.bounded, c.requires.1.0.points, c.requires.1.1) }
 
 pub returns : goal.returns
 returns c =
-    
     named (places_known _ _ _ c.is_chop.ensures c.if-is_chop.false) c.put_block.ensures

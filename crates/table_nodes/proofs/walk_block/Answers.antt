@@ -31,7 +31,6 @@ loop-cursor-smaller c = one_less c.loop-cursor.invariant.walks c.loop-cursor-tes
 
 pub loop-cursor-preserved : goal.loop-cursor-preserved
 loop-cursor-preserved c =
-    
     let w = c.loop-cursor.invariant in let h = c.loop-cursor-test.true in
     walk_turn _ _ _ w h (gate_defined c.requires.bounded.0 w.walks h c.gate_at-gate.ensures) c.put_gate-b.ensures c.next-cursor.ensures
 

@@ -12,5 +12,4 @@ returns-then-kind-lt-FORMULA c = (points_state _ _ (search rules), omega arith)
 
 pub returns-else-kind-lt-FORMULA : goal.returns-else-kind-lt-FORMULA
 returns-else-kind-lt-FORMULA c =
-    let e = c.requires in
-    (e.1 ∙ points_formula _ _ (search rules), omega (arith, e, few_intervals c.args.k e.0))
+    (c.requires.1 ∙ points_formula _ _ (search rules), omega (arith, c.requires, few_intervals c.args.k c.requires.0))

@@ -11,13 +11,11 @@ returns-in-No c = refused_first _ _ _ _ c.node_table-tabled.ensures _ _ _ _ c.in
 
 pub verdict_on-requires : goal.verdict_on-requires
 verdict_on-requires c =
-    
     let m = limits _ _ _ _ c.node_table-tabled.ensures c.in_default.is in
     (m.0, m.1, (made_good _ _ _ _ (sym c.new.ensures ∙ c.in-Good.is)).1)
 
 pub returns-in-Good : goal.returns-in-Good
 returns-in-Good c =
-    
     let a = c.args in
     answered _ _ _ _ c.node_table-tabled.ensures a.i a.j _ c.in_default.is _ (sym c.new.ensures ∙ c.in-Good.is) _ c.verdict_on.ensures
 

@@ -11,7 +11,6 @@ use Rattle.truth_calls.proofs.holds_on.Goals as goal
 
 pub returns : goal.returns
 returns c =
-    
     let k = length c.args.recording.now in let v = c.args.v in
     let j : v.i + (v.j - v.i) ≡ v.j = omega (arith, c.requires.1.starts) in
     λ f l w.

@@ -21,7 +21,6 @@ ask_bytes-requires c = (c.requires.0, omega (arith, long (goal.at.ask_bytes-requ
 
 pub returns-in-No-ask_bytes : goal.returns-in-No-ask_bytes
 returns-in-No-ask_bytes c =
-    
     λ f l w.
     simp (sym c.ask_recording.ensures ∙ c.in_default.is, sym c.ask_bytes.ensures ∙ c.in-No-ask_bytes.is)
 
@@ -32,14 +31,12 @@ holds_on-requires c =
 
 pub returns-then-holds_on : goal.returns-then-holds_on
 returns-then-holds_on c =
-    
     λ f l w.
     simp (sym c.ask_recording.ensures ∙ c.in_default.is, sym c.ask_bytes.ensures ∙ c.in_default-ask_bytes.is)
     (ap verdict_of (sym c.if-holds_on.true ∙ c.Holds-on.ensures f l w))
 
 pub returns-else-holds_on : goal.returns-else-holds_on
 returns-else-holds_on c =
-    
     λ f l w.
     simp (sym c.ask_recording.ensures ∙ c.in_default.is, sym c.ask_bytes.ensures ∙ c.in_default-ask_bytes.is)
     (ap verdict_of (sym c.if-holds_on.false ∙ c.Holds-on.ensures f l w))

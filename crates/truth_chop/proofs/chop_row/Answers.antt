@@ -54,7 +54,6 @@ overflow_sub-d c = omega (arith, c.requires.k_in_bounds.2.later (c.args.i + c.lo
 
 pub loop-d-smaller : goal.loop-d-smaller
 loop-d-smaller c =
-    
     fewer (suc c.args.k - c.args.i) _ _ _ (omega arith) (c.requires.k_in_bounds.2.later (c.args.i + c.loop-d.d) (omega arith))
 
 pub loop-d-preserved : goal.loop-d-preserved

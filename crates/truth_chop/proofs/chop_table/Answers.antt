@@ -20,7 +20,6 @@ next_rows-nexts-requires c = (c.requires.0, omega (arith, count_le max_steps _ c
 pub loop-i-init : goal.loop-i-init
 unfolding count_of
 loop-i-init c =
-    
     (omega arith, filled_begun max_count _ _ (count_le max_steps _ c.requires.0) c.all_of-t.ensures, λ f g P Q. record { at = λ v o h. omega arith })
 
 pub chop_row-requires : goal.chop_row-requires

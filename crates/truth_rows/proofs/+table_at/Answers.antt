@@ -115,7 +115,6 @@ second-requires t c = here (goal.at.second-requires t c).After-byte_at-kind (ome
 
 pub table_at-q-requires : goal.table_at-q-requires
 table_at-q-requires t c =
-    
     (omega (arith, here (goal.at.table_at-q-requires t c).After-byte_at-kind (omega (arith, (joins (goal.at.table_at-q-requires t c).In_default).0)), c.second.ensures, c.decreases), c.requires)
 
 pub chop_table-requires : goal.chop_table-requires
@@ -123,7 +122,6 @@ chop_table-requires t c = c.requires
 
 pub returns-then-kind-eq-CHOP : goal.returns-then-kind-eq-CHOP
 returns-then-kind-eq-CHOP t c =
-    
     let a = c.args in
     chop_step a.recording.now a.kinds.now a.numbers.now a.sizes.now a.x _ (kind (goal.at.returns-then-kind-eq-CHOP t c).After-byte_at-kind) _
     (λ f. TableOf (length a.recording.now) f c.table_at-p-in_default.result) (λ f. TableOf (length a.recording.now) f c.table_at-q.result)
@@ -139,7 +137,6 @@ join-requires t c =
 
 pub returns-in_default : goal.returns-in_default
 returns-in_default t c =
-    
     let a = c.args in
     pair_step a.recording.now a.kinds.now a.numbers.now a.sizes.now Formula a.x _ (kind (goal.at.returns-in_default t c).After-byte_at-kind)
     (λ f. TableOf (length a.recording.now) f c.join.new.p) (λ f. TableOf (length a.recording.now) f c.table_at-p-in_default.result)

@@ -76,12 +76,10 @@ second-requires t c = here (goal.at.second-requires t c).After-byte_at-kind (ome
 
 pub word_at-q-requires : goal.word_at-q-requires
 word_at-q-requires t c =
-    
     (omega (arith, here (goal.at.word_at-q-requires t c).After-byte_at-kind (omega (arith, (joins (goal.at.word_at-q-requires t c).In_default).0)), c.second.ensures, c.decreases), c.requires)
 
 pub returns-in_default : goal.returns-in_default
 returns-in_default t c =
-    
     let a = c.args in
     pair_step a.recording.now a.kinds.now a.numbers.now a.sizes.now State a.x _ (kind (goal.at.returns-in_default t c).After-byte_at-kind)
     (λ f. WordOf (length a.recording.now) f c.joined_word.result) (λ f. WordOf (length a.recording.now) f c.word_at-p.result)

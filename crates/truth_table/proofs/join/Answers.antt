@@ -14,7 +14,6 @@ loop-x-init c = (c.all-x-end.ensures.0, omega arith, c.requires.1, begun _ _ _ _
 
 pub loop-x-preserved : goal.loop-x-preserved
 loop-x-preserved c =
-    
     let l = c.loop-x in (
       l.invariant.0,
       omega arith,
@@ -25,5 +24,4 @@ loop-x-preserved c =
 
 pub returns : goal.returns
 returns c =
-    
     λ f g P Q. joined_tables _ _ _ _ _ _ (omega (arith, c.loop-x.invariant, c.loop-x-test.false)) c.args.both _ c.loop-x.invariant.3 f g P Q

@@ -11,7 +11,6 @@ returns-in-No c = simp (sym c.ask_steps.ensures ∙ c.in-No.is)
 pub returns-in-No-ask_interval : goal.returns-in-No-ask_interval
 unfolding made_of
 returns-in-No-ask_interval c =
-    
     simp (
       sym c.ask_steps.ensures ∙ c.in_default.is,
       sym c.ask_interval.ensures ∙ c.in-No-ask_interval.is,
@@ -20,7 +19,6 @@ returns-in-No-ask_interval c =
 pub returns : goal.returns
 unfolding made_of
 returns c =
-    
     simp (
       sym c.ask_steps.ensures ∙ c.in_default.is,
       sym c.ask_interval.ensures ∙ c.in_default-ask_interval.is,

@@ -9,7 +9,7 @@ pub weigh-requires : goal.weigh-requires
 weigh-requires c = light c.requires.on_ground c.variables.ensures (omega arith) (omega arith) (omega arith)
 
 pub all-requires : goal.all-requires
-all-requires c = let p = c.requires in (p.0.steps, p.1)
+all-requires c = (c.requires.on_ground.steps, c.requires.trailing)
 
 pub returns : goal.returns
 returns c = (begins c.variables.ensures c.weigh.ensures.0 c.weigh.ensures.1 c.all.ensures.0, refl)
