@@ -19,7 +19,7 @@ block_at-block-requires c = let p = c.requires.c_le_max_channels in (p.1, omega 
 pub ask_node-requires : goal.ask_node-requires
 ask_node-requires c =
     let e = c.block_at-block.ensures in
-    ((e.1 c.args.c c.requires.c_le_max_channels.0, c.requires.c_le_max_channels.4 _, c.requires.c_le_max_channels.5), block_mentioned _ _ e.0 _ (row_mentioned _ (search rules) c.requires.all_mentioned))
+    record { fine = (e.1 c.args.c c.requires.c_le_max_channels.0, c.requires.c_le_max_channels.4 _, c.requires.c_le_max_channels.5); all_mentioned = block_mentioned _ _ e.0 _ (row_mentioned _ (search rules) c.requires.all_mentioned) }
 
 pub returns-in-No : goal.returns-in-No
 returns-in-No c =

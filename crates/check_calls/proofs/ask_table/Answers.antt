@@ -13,24 +13,24 @@ use Rattle.check_calls.proofs.ask_table.Goals as goal
 
 pub sums-last-requires : goal.sums-last-requires
 sums-last-requires c =
-    let p = c.requires.0 in record { small = small c.clauses.ensures (omega arith) (omega arith) (omega arith) p.1; count_le_max_nodes = (p.2, omega arith, refl) }
+    let p = c.requires.c_le_max_channels in record { small = small c.clauses.ensures (omega arith) (omega arith) (omega arith) p.1; count_le_max_nodes = (p.2, omega arith, refl) }
 
 pub ask_nodes-requires : goal.ask_nodes-requires
 ask_nodes-requires c =
-    let a = c.args in let p = c.requires.0 in
-    let sums = c.sums-last.ensures in record { c_le_max_channels = (p.0, p.1, p.2, p.3, all_low sums zeros_low, c.put_rows.ensures); by_index = λ x h. sums.below x h ∙ ap (λ (w : Weight). 0 + weight_to w a.k a.t2.kinds a.t2.numbers x) c.clauses.ensures; all_mentioned = c.requires.1.0 }
+    let a = c.args in let p = c.requires.c_le_max_channels in
+    let sums = c.sums-last.ensures in record { c_le_max_channels = (p.0, p.1, p.2, p.3, all_low sums zeros_low, c.put_rows.ensures); by_index = λ x h. sums.below x h ∙ ap (λ (w : Weight). 0 + weight_to w a.k a.t2.kinds a.t2.numbers x) c.clauses.ensures; all_mentioned = c.requires.all_mentioned.0 }
 
 pub returns-in-No : goal.returns-in-No
 returns-in-No c = nodes_unmet _ _ _ c.ask_nodes.ensures c.in-No.is
 
 pub seat-requires : goal.seat-requires
-seat-requires c = let p = c.requires.0 in (p.1, p.3)
+seat-requires c = let p = c.requires.c_le_max_channels in (p.1, p.3)
 
 pub overflow_add-root : goal.overflow_add-root
-overflow_add-root c = omega (arith, c.seat.ensures.1, c.requires.0.1)
+overflow_add-root c = omega (arith, c.seat.ensures.1, c.requires.c_le_max_channels.1)
 
 pub high-requires : goal.high-requires
-high-requires c = omega (arith, c.requires.1.1, c.seat.ensures.0)
+high-requires c = omega (arith, c.requires.all_mentioned.1, c.seat.ensures.0)
 
 pub returns-then-high : goal.returns-then-high
 returns-then-high c =

@@ -7,7 +7,7 @@ use Rattle.check_clauses.proofs.Walk.{met_begun, met_done, gate_asks, gate_few, 
 use Rattle.check_clauses.proofs.ask_block.Goals as goal
 
 pub start-cursor-requires : goal.start-cursor-requires
-start-cursor-requires c = let s = c.requires.bounded in record { on_ground = walkable s.0.0 s.0.1; trailing = s.2 }
+start-cursor-requires c = let s = c.requires.bounded in (walkable s.0.0 s.0.1, s.2)
 
 pub loop-cursor-init : goal.loop-cursor-init
 loop-cursor-init c = let e = c.start-cursor.ensures in (e.0, met_begun e.1)

@@ -9,7 +9,7 @@ use Rattle.check_clauses.proofs.ask_node.Goals as goal
 
 pub ask_chop-requires : goal.ask_chop-requires
 ask_chop-requires c =
-    record { fine = c.requires.0; all_mentioned = subst (AllMentioned _) (sym (node_known _ _ c.args.block c.is_chop.ensures c.if-is_chop.true)) c.requires.1 }
+    record { fine = c.requires.fine; all_mentioned = subst (AllMentioned _) (sym (node_known _ _ c.args.block c.is_chop.ensures c.if-is_chop.true)) c.requires.all_mentioned }
 
 pub returns-then-is_chop : goal.returns-then-is_chop
 returns-then-is_chop c =
@@ -17,8 +17,8 @@ returns-then-is_chop c =
 
 pub ask_constants-requires : goal.ask_constants-requires
 ask_constants-requires c =
-    let d = subst (AllMentioned _) (sym (node_known _ _ c.args.block c.is_chop.ensures c.if-is_chop.false)) c.requires.1 in
-    (c.requires.0.0.bounded.first, c.requires.0.0.points, omega (arith, c.requires.0.1), constants_mentioned _ _ c.args.block c.in-Fixed.is d)
+    let d = subst (AllMentioned _) (sym (node_known _ _ c.args.block c.is_chop.ensures c.if-is_chop.false)) c.requires.all_mentioned in
+    (c.requires.fine.0.bounded.first, c.requires.fine.0.points, omega (arith, c.requires.fine.1), constants_mentioned _ _ c.args.block c.in-Fixed.is d)
 
 pub returns-in-Fixed : goal.returns-in-Fixed
 returns-in-Fixed c =
@@ -26,7 +26,7 @@ returns-in-Fixed c =
 
 pub ask_block-requires : goal.ask_block-requires
 ask_block-requires c =
-    record { bounded = ((c.requires.0.0.bounded, c.requires.0.0.points), omega (arith, c.requires.0.1), c.requires.0.2); all_mentioned = subst (AllMentioned _) (sym (node_known _ _ c.args.block c.is_chop.ensures c.if-is_chop.false)) c.requires.1 }
+    record { bounded = ((c.requires.fine.0.bounded, c.requires.fine.0.points), omega (arith, c.requires.fine.1), c.requires.fine.2); all_mentioned = subst (AllMentioned _) (sym (node_known _ _ c.args.block c.is_chop.ensures c.if-is_chop.false)) c.requires.all_mentioned }
 
 pub returns : goal.returns
 returns c =

@@ -10,7 +10,7 @@ use lib.ListN.{length}
 use Rattle.check_recording.proofs.put_recording.Given as goal
 
 abbrev pub invariant-loop-t : goal.invariant-loop-t
-invariant-loop-t l = Filled (λ l.t. sum (λ b. bit (value_in l.assignment (channel_of l.c l.t b)) * 2 ^ b) l.c) (length l.initial.out) l.t l.out
+invariant-loop-t l = Filled (λ t. sum (λ b. bit (value_in l.assignment (channel_of l.c t b)) * 2 ^ b) l.c) (length l.initial.out) l.t l.out
 
 abbrev pub decreases-loop-t : goal.decreases-loop-t
 decreases-loop-t l = l.t-end - l.t

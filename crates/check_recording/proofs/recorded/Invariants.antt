@@ -8,7 +8,7 @@ use Prim.Native.Nat.{◌+◌, ◌-◌, ◌*◌, ◌≤◌}
 use Rattle.check_recording.proofs.recorded.Given as goal
 
 abbrev pub invariant-loop-b : goal.invariant-loop-b
-invariant-loop-b l = (l.b ≤ l.c) × (l.at ≡ l.t * l.c) × Packed l.b (λ l.b. value_in l.assignment (channel_of l.c l.t l.b)) l.byte
+invariant-loop-b l = (l.b ≤ l.c) × (l.at ≡ l.t * l.c) × Packed l.b (λ b. value_in l.assignment (channel_of l.c l.t b)) l.byte
 
 abbrev pub decreases-loop-b : goal.decreases-loop-b
 decreases-loop-b l = l.c - l.b

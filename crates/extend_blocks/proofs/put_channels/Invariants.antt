@@ -9,7 +9,7 @@ use Rattle.extend_triples.proofs.Parts.{Parts}
 use Rattle.extend_blocks.proofs.put_channels.Given as goal
 
 abbrev pub invariant-loop-t : goal.invariant-loop-t
-invariant-loop-t l = (l.t-end ≡ length l.recording) × Parts (λ l.t. tab l.c (λ x. bit (channel_at l.recording x l.t))) (λ l.t. l.c) (length l.recording) l.initial.out l.at l.out l.t
+invariant-loop-t l = (l.t-end ≡ length l.recording) × Parts (λ t. tab l.c (λ x. bit (channel_at l.recording x t))) (λ t. l.c) (length l.recording) l.initial.out l.at l.out l.t
 
 abbrev pub decreases-loop-t : goal.decreases-loop-t
 decreases-loop-t l = length l.recording - l.t

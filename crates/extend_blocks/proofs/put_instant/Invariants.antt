@@ -8,7 +8,7 @@ use Rattle.lists.proofs.Filled.{Filled}
 use Rattle.extend_blocks.proofs.put_instant.Given as goal
 
 abbrev pub invariant-loop-c : goal.invariant-loop-c
-invariant-loop-c l = (l.c-end ≡ length l.initial.out) × Filled (λ l.c. bit (bit_at l.byte l.c)) (length l.initial.out) l.c l.out
+invariant-loop-c l = (l.c-end ≡ length l.initial.out) × Filled (λ c. bit (bit_at l.byte c)) (length l.initial.out) l.c l.out
 
 abbrev pub decreases-loop-c : goal.decreases-loop-c
 decreases-loop-c l = length l.initial.out - l.c

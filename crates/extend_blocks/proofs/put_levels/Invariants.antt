@@ -14,7 +14,7 @@ use Rattle.extend_blocks.proofs.put_levels.Given as goal
 abbrev pub invariant-loop-c : goal.invariant-loop-c
 invariant-loop-c l =
     (l.c-end ≡ suc l.n) × ((f : ℕ → Bool) → WordOf l.k f l.word →
-    Parts (λ l.c. truth_values Formula l.k (lasts l.c f)) (λ l.c. count_of l.k) (suc l.n) l.initial.out l.at l.out l.c)
+    Parts (λ c. truth_values Formula l.k (lasts c f)) (λ c. count_of l.k) (suc l.n) l.initial.out l.at l.out l.c)
 
 abbrev pub decreases-loop-c : goal.decreases-loop-c
 decreases-loop-c l = suc l.n - l.c

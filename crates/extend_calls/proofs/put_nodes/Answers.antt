@@ -6,26 +6,26 @@ use borrow.Author.Rules.{rules}
 use Rattle.extend_calls.proofs.put_nodes.Goals as goal
 
 pub loop-x-init : goal.loop-x-init
-loop-x-init c = extending_begun c.requires.room.2
+loop-x-init c = extending_begun c.requires.k_le_max_steps.2
 
 pub block_at-block-requires : goal.block_at-block-requires
 block_at-block-requires c =
-    (c.requires.room.0, omega (arith, c.requires.room.1, c.loop-x.invariant.turns, c.loop-x-test.true), c.requires.room.3)
+    (c.requires.k_le_max_steps.0, omega (arith, c.requires.k_le_max_steps.1, c.loop-x.invariant.turns, c.loop-x-test.true), c.requires.k_le_max_steps.3)
 
 pub put_node-requires : goal.put_node-requires
 put_node-requires c =
     let e = c.block_at-block.ensures in
-    let f = block_fits c.loop-x.invariant (search rules) e.0 c.requires.c_le_max_channels.0 c.requires.c_le_max_channels.1 (e.1 0 (omega arith)) in
-    (c.requires.room.0, f, c.requires.room.4)
+    let f = block_fits c.loop-x.invariant (search rules) e.0 c.requires.by_index.0 c.requires.by_index.1 (e.1 0 (omega arith)) in
+    (c.requires.k_le_max_steps.0, f, c.requires.k_le_max_steps.4)
 
 pub overflow_sub-end : goal.overflow_sub-end
 overflow_sub-end c =
     let e = c.block_at-block.ensures in
-    (block_fits c.loop-x.invariant (search rules) e.0 c.requires.c_le_max_channels.0 c.requires.c_le_max_channels.1 (e.1 0 (omega arith))).0
+    (block_fits c.loop-x.invariant (search rules) e.0 c.requires.by_index.0 c.requires.by_index.1 (e.1 0 (omega arith))).0
 
 pub loop-x-preserved : goal.loop-x-preserved
 loop-x-preserved c =
-    extending_turn c.loop-x.invariant (search rules) c.block_at-block.ensures.value c.requires.c_le_max_channels.0 c.requires.c_le_max_channels.1 c.requires.room.2 (search rules) c.put_node.ensures
+    extending_turn c.loop-x.invariant (search rules) c.block_at-block.ensures.value c.requires.by_index.0 c.requires.by_index.1 c.requires.k_le_max_steps.2 (search rules) c.put_node.ensures
 
 pub shape_of-assignment : goal.shape_of-assignment
 shape_of-assignment c = c.loop-x.invariant.long

@@ -36,7 +36,7 @@ put_nodes-requires c =
     let enough = places_enough c.layout_of-layout.result.sizes.variables (length c.args.assignment.now) (sym c.ask.ensures ∙ c.in_default.is) in
     let fit = channels_fit w c.args.assignment.now (sym c.ask.ensures ∙ c.in_default.is) in
     let back = channels_back c.args.c c.args.k c.args.recording.now c.args.assignment.now c.put_channels.ensures c.requires.3 fit in
-    record { room = (c.requires.1, c.requires.2, omega (arith, enough, back), w.low, c.put_rows.ensures); c_le_max_channels = (c.args.c, seated w) }
+    record { k_le_max_steps = (c.requires.1, c.requires.2, omega (arith, enough, back), w.low, c.put_rows.ensures); by_index = (c.args.c, seated w) }
 
 pub returns : goal.returns
 returns c =

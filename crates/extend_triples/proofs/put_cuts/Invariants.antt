@@ -12,8 +12,8 @@ use Rattle.extend_triples.proofs.put_cuts.Given as goal
 
 abbrev pub invariant-loop-e : goal.invariant-loop-e
 invariant-loop-e l =
-    (l.e-end ≡ suc l.steps) × Filled (λ l.e. bit
-    (cuts (on_places l.k (high_at l.p)) (on_places l.k (high_at l.q)) (record { i = l.i; m = l.i + l.e; j = l.i + l.steps }))) (suc l.steps) l.e l.out ×
+    (l.e-end ≡ suc l.steps) × Filled (λ e. bit
+    (cuts (on_places l.k (high_at l.p)) (on_places l.k (high_at l.q)) (record { i = l.i; m = l.i + e; j = l.i + l.steps }))) (suc l.steps) l.e l.out ×
     Cutting l.k l.i l.steps l.e l.at
 
 abbrev pub decreases-loop-e : goal.decreases-loop-e

@@ -9,7 +9,7 @@ use Rattle.extend_triples.proofs.Parts.{Parts}
 use Rattle.extend_triples.proofs.put_triples.Given as goal
 
 abbrev pub invariant-loop-i : goal.invariant-loop-i
-invariant-loop-i l = (l.i-end ≡ suc l.k) × Parts (triples_from l.k (high_at l.p) (high_at l.q)) (λ l.i. count_of (l.k - l.i)) (suc l.k) l.initial.out l.at l.out l.i
+invariant-loop-i l = (l.i-end ≡ suc l.k) × Parts (triples_from l.k (high_at l.p) (high_at l.q)) (λ i. count_of (l.k - i)) (suc l.k) l.initial.out l.at l.out l.i
 
 abbrev pub decreases-loop-i : goal.decreases-loop-i
 decreases-loop-i l = suc l.k - l.i

@@ -15,7 +15,7 @@ use Rattle.search_instants.proofs.visit_rise.Given as goal
 abbrev pub invariant-loop-e : goal.invariant-loop-e
 invariant-loop-e l =
     (length l.values ≡ length l.initial.values) × (length l.trail ≡ length l.initial.trail) × (l.e ≤ l.n) × Rises l.k l.block l.a l.n l.t l.i l.v l.e
-    × Visited (rows l.e (λ l.e. clauses_at (defined_by l.c l.k l.block) (instant_place l.k l.a l.t l.i l.e))) l.initial.values l.initial.trail l.top l.values l.trail (record { clash = false; top = l.end })
+    × Visited (rows l.e (λ e. clauses_at (defined_by l.c l.k l.block) (instant_place l.k l.a l.t l.i e))) l.initial.values l.initial.trail l.top l.values l.trail (record { clash = false; top = l.end })
 
 abbrev pub decreases-loop-e : goal.decreases-loop-e
 decreases-loop-e l = l.n - l.e

@@ -14,12 +14,12 @@ cell_at-at-requires c = let p = c.requires.le_u in some_channel c.args.c c.args.
 pub reach_letters-requires : goal.reach_letters-requires
 reach_letters-requires c =
     let a = c.args in 
-    record { on_ground = c.requires.on_ground; t_lt_k = (instant_below a.c a.k (a.u - 1) (omega (arith, c.requires.le_u.0, c.requires.le_u.1)) c.Cell-at.ensures, c.requires.le_u.2) }
+    record { on_ground = c.requires.on_ground; t_lt_k = (instant_below a.c a.k (a.u - 1) (omega (arith, c.requires.le_u.0, c.requires.le_u.1)) c.cell_at-at.ensures, c.requires.le_u.2) }
 
 pub returns : goal.returns
 returns c =
     let a = c.args in
     let g = c.requires.on_ground.0 in let x : ℕ = a.u - 1 in let h : x < a.k * a.c = omega (arith, c.requires.le_u.0, c.requires.le_u.1) in
-    let e : a.u ≡ suc x = omega (arith, c.requires.le_u.0) in let o = c.Cell-at.ensures in let at = c.Cell-at.result in
+    let e : a.u ≡ suc x = omega (arith, c.requires.le_u.0) in let o = c.cell_at-at.ensures in let at = c.cell_at-at.result in
     reached (channel_suffices a.c a.k a.u at.line at.cell (instant_below a.c a.k x h o) o.inside
     (e ∙ channel_is a.c a.k x h o) g.grid g.some) c.reach_letters.ensures

@@ -8,4 +8,4 @@ use Rattle.search_lines.proofs.visit_line.Goals as goal
 pub visit_line-requires : goal.visit_line-requires
 visit_line-requires c =
     let a = c.args in let b = a.block in
-    record { standing = (whole_stands c.requires.standing (line_rule 0 b.rule c.requires.placed).1, c.requires.placed); placed = line_placed b.points a.k a.x c.requires.2 b.rule c.requires.placed }
+    record { standing = (whole_stands c.requires.0 (line_rule 0 b.rule c.requires.1).1, c.requires.1); placed = line_placed b.points a.k a.x c.requires.2 b.rule c.requires.1 }

@@ -17,11 +17,11 @@ cell_at-level-requires c = omega (arith, c.requires.node.1, some_intervals c.arg
 
 pub overflow_cast-level : goal.overflow_cast-level
 overflow_cast-level c =
-    omega (arith, c.Cell-at.ensures.inside, c.requires.node.1, (counts_at_32 c.args.k c.requires.node.0.fine.bounded.steps).0)
+    omega (arith, c.cell_at-level.ensures.inside, c.requires.node.1, (counts_at_32 c.args.k c.requires.node.0.fine.bounded.steps).0)
 
 pub interval_at-v-requires : goal.interval_at-v-requires
 interval_at-v-requires c =
-    (omega (arith, c.Cell-at.ensures.inside, c.requires.node.1), c.requires.rule_value.2, c.requires.rule_value.3)
+    (omega (arith, c.cell_at-level.ensures.inside, c.requires.node.1), c.requires.rule_value.2, c.requires.rule_value.3)
 
 pub overflow_add-rise : goal.overflow_add-rise
 overflow_add-rise c =
@@ -34,12 +34,12 @@ overflow_sub-rise c =
 
 pub visit_after-requires : goal.visit_after-requires
 visit_after-requires c =
-    let b = c.args.block in record { standing = (whole_stands c.requires.node.0 c.requires.rule_value.1, c.requires.node.1, levels_known b.rule c.requires.rule_value.0 c.requires.rule_value.1 c.rise_of-rise.ensures); placed = level_here c.args.k b c.args.x c.requires.rule_value.0 c.requires.rule_value.1 c.requires.node.1 c.requires.node.2 c.Cell-at.result c.Cell-at.ensures c.interval_at-v.result c.interval_at-v.ensures }
+    let b = c.args.block in record { standing = (whole_stands c.requires.node.0 c.requires.rule_value.1, c.requires.node.1, levels_known b.rule c.requires.rule_value.0 c.requires.rule_value.1 c.rise_of-rise.ensures); placed = level_here c.args.k b c.args.x c.requires.rule_value.0 c.requires.rule_value.1 c.requires.node.1 c.requires.node.2 c.cell_at-level.result c.cell_at-level.ensures c.interval_at-v.result c.interval_at-v.ensures }
 
 pub returns : goal.returns
 returns c =
     let a = c.args in
     let b = a.block in
-    let position : Position = record { row = c.Cell-at.result.line; line = c.interval_at-v.result.i; cell = c.interval_at-v.result.j - c.interval_at-v.result.i; before = 0 } in
+    let position : Position = record { row = c.cell_at-level.result.line; line = c.interval_at-v.result.i; cell = c.interval_at-v.result.j - c.interval_at-v.result.i; before = 0 } in
     reached (after_suffices a.c a.k _ b position (levels_known b.rule c.requires.rule_value.0 c.requires.rule_value.1 c.rise_of-rise.ensures) c.requires.node.0.laid
-    (level_here a.k b a.x c.requires.rule_value.0 c.requires.rule_value.1 c.requires.node.1 c.requires.node.2 c.Cell-at.result c.Cell-at.ensures c.interval_at-v.result c.interval_at-v.ensures) refl) c.visit_after.ensures
+    (level_here a.k b a.x c.requires.rule_value.0 c.requires.rule_value.1 c.requires.node.1 c.requires.node.2 c.cell_at-level.result c.cell_at-level.ensures c.interval_at-v.result c.interval_at-v.ensures) refl) c.visit_after.ensures

@@ -10,4 +10,4 @@ use Rattle.search_own_chop.proofs.reach_chop.Goals as goal
 pub returns : goal.returns
 returns c =
     let a = c.args in
-    let e : a.block.first + count_of a.k + (a.x - a.all) ≡ a.block.first + a.x = omega (arith, c.if-x-all.false, c.requires.tables) in reached_there e c.reach_triple.ensures
+    let e : a.block.first + count_of a.k + (a.x - a.all) ≡ a.block.first + a.x = omega (arith, c.if-x-all.false, c.requires.1) in reached_there e c.reach_triple.ensures

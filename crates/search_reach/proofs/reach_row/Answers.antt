@@ -25,7 +25,7 @@ block_of-block-requires c =
 pub reach-r-requires : goal.reach-r-requires
 reach-r-requires c =
     let g = c.requires.on_ground.0 in let z = c.last_from-z.ensures in
-    let b = c.Block-of.ensures in (
+    let b = c.block_of-block.ensures in (
       node_at c.last_from-z.result g refl z.below b.0 (b.1 c.args.c g.channels) c.requires.on_ground.1,
       c.requires.tables.1,
       c.requires.tables.0,
@@ -36,7 +36,7 @@ pub returns-then-r : goal.returns-then-r
 returns-then-r c =
     let g = c.requires.on_ground.0 in
     let z = c.last_from-z.ensures in
-    near_stop g.grid c.args.u c.last_from-z.result z.below (row_found g c.requires.tables.3 z.below z.from z.next) c.Block-of.ensures.0
+    near_stop g.grid c.args.u c.last_from-z.result z.below (row_found g c.requires.tables.3 z.below z.from z.next) c.block_of-block.ensures.value
     c.reach-r.ensures c.if-r.true
 
 pub bounds-parents-z : goal.bounds-parents-z
@@ -54,7 +54,7 @@ pub reach-requires : goal.reach-requires
 reach-requires c =
     let g = c.requires.on_ground.0 in let z = c.last_from-z.ensures in let b = c.block_of-up.ensures in
     let l = g.grid.upward c.last_from-z.result z.below in
-    let i = row_found g c.requires.tables.3 z.below z.from z.next in record { on_ground = (
+    let i = row_found g c.requires.tables.3 z.below z.from z.next in record { node = (
         node_at _ g c.reach-r.kept.0 l b.0 (b.1 c.args.c g.channels) c.reach-r.ensures.grown.trailing,
         c.requires.tables.1,
         not_own g.grid _ l c.last_from-z.result c.args.u z.below i (other_row g z.below c.if-z-ne0.true) b.0,
@@ -65,7 +65,7 @@ pub returns-then-z-ne0 : goal.returns-then-z-ne0
 returns-then-z-ne0 c =
     let g = c.requires.on_ground.0 in let z = c.last_from-z.ensures in
     near_part g.grid c.args.u c.last_from-z.result z.below (row_found g c.requires.tables.3 z.below z.from z.next)
-    c.Block-of.ensures.0 c.reach-r.ensures c.if-z-ne0.true c.if-r.false c.block_of-up.ensures.value c.reach.ensures
+    c.block_of-block.ensures.value c.reach-r.ensures c.if-z-ne0.true c.if-r.false c.block_of-up.ensures.value c.reach.ensures
 
 pub overflow_add-root : goal.overflow_add-root
 overflow_add-root c = let g = c.requires.on_ground.0 in omega (arith, g.steps, (g.seated 0 (omega arith)).1)
@@ -74,7 +74,7 @@ pub returns-then-u-root : goal.returns-then-u-root
 returns-then-u-root c =
     let g = c.requires.on_ground.0 in
     let z = c.last_from-z.ensures in
-    near_alone g.grid c.args.u c.last_from-z.result z.below (row_found g c.requires.tables.3 z.below z.from z.next) c.Block-of.ensures.0
+    near_alone g.grid c.args.u c.last_from-z.result z.below (row_found g c.requires.tables.3 z.below z.from z.next) c.block_of-block.ensures.value
     c.reach-r.ensures c.if-z-ne0.false (ap (λ (s : ℕ). s + c.args.k) (g.seated 0 (omega arith)).0) c.if-u-root.true
 
 pub visit-requires : goal.visit-requires
@@ -85,5 +85,5 @@ pub returns : goal.returns
 returns c =
     let g = c.requires.on_ground.0 in
     let z = c.last_from-z.ensures in
-    near_root g.grid c.args.u c.last_from-z.result z.below (row_found g c.requires.tables.3 z.below z.from z.next) c.Block-of.ensures.0
+    near_root g.grid c.args.u c.last_from-z.result z.below (row_found g c.requires.tables.3 z.below z.from z.next) c.block_of-block.ensures.value
     c.reach-r.ensures (ap (λ (s : ℕ). s + c.args.k) (g.seated 0 (omega arith)).0) c.if-u-root.false c.if-r.false c.visit.ensures

@@ -13,7 +13,7 @@ use Rattle.search_clauses.proofs.Walk.{clauses_at_lem, asks_at, whole_block, sti
 use Rattle.search_sweep_node.proofs.sweep_block.Goals as goal
 
 pub start-cursor-requires : goal.start-cursor-requires
-start-cursor-requires c = let s = c.requires.bounded in record { on_ground = walkable s.0.0 s.0.1; trailing = s.2 }
+start-cursor-requires c = let s = c.requires.bounded in (walkable s.0.0 s.0.1, s.2)
 
 pub loop-cursor-init : goal.loop-cursor-init
 loop-cursor-init c =

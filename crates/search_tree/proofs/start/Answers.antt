@@ -10,12 +10,12 @@ use Rattle.search_tree.proofs.start.Goals as goal
 pub start-closed-requires : goal.start-closed-requires
 start-closed-requires c =
     let z = c.clear in
-    record { on_ground = (ground_still z.kept.0 c.requires.on_ground.0, c.requires.on_ground.1); trailing = zero_trailing _ _ z.ensures (omega (arith, z.kept.0, c.requires.trailing.0)) (omega (arith, z.kept.0, c.requires.trailing.1)) }
+    record { on_ground = (ground_still z.kept.0 c.requires.ground_of.0, c.requires.ground_of.1); trailing = zero_trailing _ _ z.ensures (omega (arith, z.kept.0, c.requires.values_in_bounds.0)) (omega (arith, z.kept.0, c.requires.values_in_bounds.1)) }
 
 pub descend-requires : goal.descend-requires
 descend-requires c =
     let q = c.start-closed in let z = c.clear in 
-    record { ground_of = (ground_still (q.kept.0 ∙ z.kept.0) c.requires.on_ground.0, c.requires.on_ground.1); holding = begun _ z.ensures q.ensures }
+    record { ground_of = (ground_still (q.kept.0 ∙ z.kept.0) c.requires.ground_of.0, c.requires.ground_of.1); holding = begun _ z.ensures q.ensures }
 
 pub returns : goal.returns
 returns c =

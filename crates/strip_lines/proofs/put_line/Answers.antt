@@ -27,7 +27,7 @@ returns c =
     let a = c.args in
     let count = c.count_of-count in let columns = around a.part.now c.letter_of.result count.result in
     line_stored (length a.recording.now) a.recording.now a.line a.part.now c.requires.0 c.letter_of.ensures count.ensures
-    (ap length count.ensures ∙ count_length _ _ c.requires.1 a.line) (mid_len 2 (2 + max_steps) columns (part-put-columns-end c))
+    (ap length count.ensures ∙ count_length _ _ c.requires.1 a.line) (mid_len 2 (2 + max_steps) columns (simp length-set (omega arith)))
     c.put_columns.ensures
 
 pub shape_of-part : goal.shape_of-part

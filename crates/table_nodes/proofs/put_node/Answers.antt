@@ -8,7 +8,7 @@ use Rattle.table_nodes.proofs.put_node.Goals as goal
 
 pub put_chop-requires : goal.put_chop-requires
 put_chop-requires c =
-    (subst (Room _ _ _) (sym (places_known _ _ _ c.is_chop.ensures c.if-is_chop.true)) c.requires.0, c.requires.1)
+    record { room = subst (Room _ _ _) (sym (places_known _ _ _ c.is_chop.ensures c.if-is_chop.true)) c.requires.room; fine = c.requires.fine }
 
 pub returns-then-is_chop : goal.returns-then-is_chop
 returns-then-is_chop c =
@@ -16,7 +16,7 @@ returns-then-is_chop c =
 
 pub put_block-requires : goal.put_block-requires
 put_block-requires c =
-    record { room = subst (Room _ _ _) (sym (places_known _ _ _ c.is_chop.ensures c.if-is_chop.false)) c.requires.0; bounded = (c.requires.1.0.bounded, c.requires.1.0.points, c.requires.1.1) }
+    record { room = subst (Room _ _ _) (sym (places_known _ _ _ c.is_chop.ensures c.if-is_chop.false)) c.requires.room; bounded = (c.requires.fine.0.bounded, c.requires.fine.0.points, c.requires.fine.1) }
 
 pub returns : goal.returns
 returns c =

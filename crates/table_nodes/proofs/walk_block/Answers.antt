@@ -6,7 +6,7 @@ use Rattle.table_nodes.proofs.Walk.{walkable, one_less, gate_asked, gate_defined
 use Rattle.table_nodes.proofs.walk_block.Goals as goal
 
 pub start-cursor-requires : goal.start-cursor-requires
-start-cursor-requires c = let p = c.requires.bounded in record { on_ground = walkable p.0 p.1; trailing = p.2 }
+start-cursor-requires c = let p = c.requires.bounded in (walkable p.0 p.1, p.2)
 
 pub loop-cursor-init : goal.loop-cursor-init
 loop-cursor-init c = walk_begun _ _ _ c.start-cursor.ensures.0 c.start-cursor.ensures.1

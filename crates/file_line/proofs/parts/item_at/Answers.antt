@@ -8,10 +8,10 @@ use Rattle.file_line.proofs.parts.item_at.Goals as goal
 pub returns-in-Good : goal.returns-in-Good
 returns-in-Good c =
     let a = c.args in
-    item_good a.input.now a.at _ (c.Signed-by.ensures ∙ ap (on_good a.input.now (test_at (is_sign 32))) c.numbered_by.ensures) _ _ c.in-Good.is
+    item_good a.input.now a.at _ (c.signed_by-g.ensures ∙ ap (on_good a.input.now (test_at (is_sign 32))) c.numbered_by.ensures) _ _ c.in-Good.is
     c.number_at.ensures.0
 
 pub returns-in-Bad : goal.returns-in-Bad
 returns-in-Bad c =
     let a = c.args in
-    item_bad a.input.now a.at _ (c.Signed-by.ensures ∙ ap (on_good a.input.now (test_at (is_sign 32))) c.numbered_by.ensures) _ c.in-Bad.is
+    item_bad a.input.now a.at _ (c.signed_by-g.ensures ∙ ap (on_good a.input.now (test_at (is_sign 32))) c.numbered_by.ensures) _ c.in-Bad.is

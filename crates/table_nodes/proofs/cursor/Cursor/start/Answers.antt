@@ -6,10 +6,10 @@ use Rattle.table_nodes.proofs.Walk.{begins, light}
 use Rattle.table_nodes.proofs.cursor.Cursor.start.Goals as goal
 
 pub weigh-requires : goal.weigh-requires
-weigh-requires c = light c.requires.on_ground c.variables.ensures (omega arith) (omega arith) (omega arith)
+weigh-requires c = light c.requires.0 c.variables.ensures (omega arith) (omega arith) (omega arith)
 
 pub all-requires : goal.all-requires
-all-requires c = (c.requires.on_ground.steps, c.requires.trailing)
+all-requires c = (c.requires.0.steps, c.requires.1)
 
 pub returns : goal.returns
 returns c = (begins c.variables.ensures c.weigh.ensures.0 c.weigh.ensures.1 c.all.ensures.0, refl)
