@@ -27,7 +27,7 @@ loop-cursor-init c =
     )
 
 pub gate_at-gate-requires : goal.gate_at-gate-requires
-gate_at-gate-requires c = gate_asked c.requires.bounded.0.0 c.loop-cursor.invariant.3 c.loop-cursor-test.true c.requires.bounded.2
+gate_at-gate-requires c = let both = gate_asked c.requires.bounded.0.0 c.loop-cursor.invariant.3 c.loop-cursor-test.true c.requires.bounded.2 in record { bounded = both.0; placed = both.1 }
 
 pub overflow_add-block : goal.overflow_add-block
 overflow_add-block c = omega (arith, c.loop-cursor.invariant.3.few, c.loop-cursor-test.true, c.requires.bounded.0.0.first)
