@@ -31,7 +31,7 @@ put_bytes-requires c =
       p.1,
       q.1,
       kept_long a.file.now 0 (flat_map bytes_of (five_of a.s)) p.0,
-      kept_long c.put_numbers-at.last.0 c.put_numbers-at.result (flat_map bytes_of a.variables.now) q.0,
+      kept_long c.put_numbers-at.new.file c.put_numbers-at.result (flat_map bytes_of a.variables.now) q.0,
     )
 
 pub returns : goal.returns

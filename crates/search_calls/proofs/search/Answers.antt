@@ -16,5 +16,4 @@ search_table-requires c =
 
 pub returns : goal.returns
 returns c =
-    let w = c.search_table.ensures in
-    record { recording_value = called _ _ _ _ _ _ _ c.node_table-tabled.ensures c.in_default.is w.0; unchanged = (λ r q. refl, λ r q. refl); unchanged_2 = w.1 }
+    record { recording_value = called _ _ _ _ _ _ _ c.node_table-tabled.ensures c.in_default.is c.search_table.ensures.recording_value; unchanged = (λ r q. refl, λ r q. refl); unchanged_2 = c.search_table.ensures.unchanged }

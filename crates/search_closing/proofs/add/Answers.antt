@@ -21,4 +21,4 @@ overflow_add-result c = omega (arith, c.requires.2.full, c.requires.2.room, held
 
 pub returns : goal.returns
 returns c =
-    added_one c.requires.2 _ _ _ c.place-x.ensures (omega (arith, c.place-x.ensures, c.requires.1)) c.if-values-x-ne-OPEN.left c.hold.ensures.values_value c.hold.ensures.trail_value
+    added_one c.requires.2 _ _ _ c.place-x.ensures (omega (arith, c.place-x.ensures, c.requires.1)) c.if-values-x-ne-OPEN.false c.hold.ensures.values_value c.hold.ensures.trail_value

@@ -12,7 +12,7 @@ start-below-requires c = record { ground_of = c.requires.ground_of; values_in_bo
 pub put_recording-requires : goal.put_recording-requires
 put_recording-requires c =
     let g = c.requires.ground_of.0 in let n = c.requires.values_in_bounds.2 in
-    search (g.channels, g.steps, g.total, n, ap (λ (n : ℕ). n * c.args.c) n, c.start-below.kept.0, rules)
+    search (g.channels, g.steps, g.total, n, ap (λ (n : ℕ). n * c.args.c) n, c.start-below.auto.values, rules)
 
 pub returns-in-Dead : goal.returns-in-Dead
 returns-in-Dead c = drawn_none c.start-below.ensures _ _ _ c.in-Dead.is

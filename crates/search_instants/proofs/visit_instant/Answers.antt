@@ -28,8 +28,8 @@ overflow_step-i c =
 
 pub loop-i-preserved : goal.loop-i-preserved
 loop-i-preserved c =
-    let i = c.loop-i.invariant in let k = c.visit_rise-r.kept in
-    (k.0 ∙ i.0, k.1.0 ∙ i.1, omega (arith, c.loop-i-test.true), loop_turn _ _ i.3 refl c.visit_rise-r.ensures c.if-r.false)
+    let i = c.loop-i.invariant in 
+    (c.visit_rise-r.auto.values ∙ i.0, c.visit_rise-r.auto.trail ∙ i.1, omega (arith, c.loop-i-test.true), loop_turn _ _ i.3 refl c.visit_rise-r.ensures c.if-r.false)
 
 pub returns : goal.returns
 returns c = let i = c.loop-i.invariant in loop_done _ _ _ (omega (arith, i.2)) (omega (arith, c.loop-i-test.false)) i.3

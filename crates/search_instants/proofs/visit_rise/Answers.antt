@@ -96,9 +96,9 @@ overflow_add-v-in-loop-e c =
 
 pub loop-e-preserved : goal.loop-e-preserved
 loop-e-preserved c =
-    let i = c.loop-e.invariant in let k = c.settle_step-r.kept in let h = c.loop-e-test.true in (
-      k.0 ∙ i.0,
-      k.1.0 ∙ i.1,
+    let i = c.loop-e.invariant in let h = c.loop-e-test.true in (
+      c.settle_step-r.auto.values ∙ i.0,
+      c.settle_step-r.auto.trail ∙ i.1,
       omega (arith, h),
       rise_turn i.3 c.requires.1,
       loop_turn _ _ i.4 (rise_clauses_lem i.3 c.requires.1 h _) (settled_visited c.settle_step-r.ensures) c.if-r.false,

@@ -9,11 +9,11 @@ use Rattle.search_letters.proofs.reach_letter.Goals as goal
 
 pub visit_line-requires : goal.visit_line-requires
 visit_line-requires c =
-    let a = c.args in let b = c.block_of-block.ensures in
-    let n = node_at a.x c.requires.on_ground.0 refl c.requires.x_lt_count.0 b.0 (b.1 a.c c.requires.on_ground.0.channels) c.requires.on_ground.1 in
+    let a = c.args in 
+    let n = node_at a.x c.requires.on_ground.0 refl c.requires.x_lt_count.0 c.block_of-block.ensures.value (c.block_of-block.ensures.by_index a.c c.requires.on_ground.0.channels) c.requires.on_ground.1 in
     let l = speaks_line a.c a.k c.block_of-block.result a.e c.block_of-block.result.rule
     (letter_speaks a.c a.k a.kinds.now a.numbers.now a.sizes.now a.firsts.now a.t a.e a.x
-    (c.speaks_of.ensures ∙ ap (speaks a.e) c.rule_of-rule.ensures) c.if-speaks_of.true b.0) n.laid.voiced in
+    (c.speaks_of.ensures ∙ ap (speaks a.e) c.rule_of-rule.ensures) c.if-speaks_of.true c.block_of-block.ensures.value) n.laid.voiced in
     (n, l.0, omega (arith, l.1, c.requires.x_lt_count.1))
 
 pub returns-then-speaks_of : goal.returns-then-speaks_of

@@ -27,11 +27,11 @@ loop-x-smaller c = omega (arith, c.loop-x-test.true)
 
 pub loop-x-preserved : goal.loop-x-preserved
 loop-x-preserved c =
-    let a = c.args in let i = c.loop-x.invariant in let q = c.reach_letter-r in (
-      q.kept.0 ∙ i.0,
-      q.kept.1.0 ∙ i.1,
+    let a = c.args in let i = c.loop-x.invariant in (
+      c.reach_letter-r.auto.values ∙ i.0,
+      c.reach_letter-r.auto.trail ∙ i.1,
       omega (arith, c.loop-x-test.true),
-      loop_turn (letter_at a.c a.k a.kinds.now a.numbers.now a.sizes.now a.firsts.now a.t a.e) _ i.3 refl q.ensures c.if-r.false,
+      loop_turn (letter_at a.c a.k a.kinds.now a.numbers.now a.sizes.now a.firsts.now a.t a.e) _ i.3 refl c.reach_letter-r.ensures c.if-r.false,
     )
 
 pub returns : goal.returns

@@ -97,7 +97,7 @@ pub overflow_add-i : goal.overflow_add-i
 overflow_add-i c =
     omega (
       arith,
-      (level_position c.requires.placed (level_rule c.is_throughout.ensures c.requires.standing.2 c.if-is_throughout.left).1).0,
+      (level_position c.requires.placed (level_rule c.is_throughout.ensures c.requires.standing.2 c.if-is_throughout.false).1).0,
       c.requires.standing.0.bounded.steps,
       c.requires.standing.0.bounded.left,
     )
@@ -106,7 +106,7 @@ pub overflow_add-left-2 : goal.overflow_add-left-2
 overflow_add-left-2 c =
     omega (
       arith,
-      (level_position c.requires.placed (level_rule c.is_throughout.ensures c.requires.standing.2 c.if-is_throughout.left).1).0,
+      (level_position c.requires.placed (level_rule c.is_throughout.ensures c.requires.standing.2 c.if-is_throughout.false).1).0,
       c.requires.standing.0.bounded.steps,
       c.requires.standing.0.bounded.left,
     )
@@ -116,7 +116,7 @@ settle_step-requires c =
     (
       c.requires.standing.0.trailing,
       variable_here c.requires.standing.0 c.requires.placed,
-      inputs_here c.requires.standing.0 c.requires.placed (level_gate_lem _ _ _ _ _ _ _ (level_rule c.is_throughout.ensures c.requires.standing.2 c.if-is_throughout.left).1 c.if-a-eq0.false
+      inputs_here c.requires.standing.0 c.requires.placed (level_gate_lem _ _ _ _ _ _ _ (level_rule c.is_throughout.ensures c.requires.standing.2 c.if-is_throughout.false).1 c.if-a-eq0.false
           c.if-d-eq0-2.false refl (omega (arith, c.requires.standing.1)) refl),
     )
 

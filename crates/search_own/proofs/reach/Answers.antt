@@ -27,7 +27,7 @@ visit_line-requires c =
 
 pub reach_level-requires : goal.reach_level-requires
 reach_level-requires c =
-    let b = c.args.block in record { node = (c.requires.0, c.requires.1, subst (InBlock c.args.k b) (omega (arith, c.requires.3)) c.requires.3); rule_value = (sym c.form_of.ensures ∙ c.in-Intervals.is, sym c.is_chop.ensures ∙ c.if-is_chop.left, c.requires.2.room, c.requires.2.intervals_to) }
+    let b = c.args.block in record { node = (c.requires.0, c.requires.1, subst (InBlock c.args.k b) (omega (arith, c.requires.3)) c.requires.3); rule_value = (sym c.form_of.ensures ∙ c.in-Intervals.is, sym c.is_chop.ensures ∙ c.if-is_chop.false, c.requires.2.room, c.requires.2.intervals_to) }
 
 pub returns-in-Line : goal.returns-in-Line
 returns-in-Line c =

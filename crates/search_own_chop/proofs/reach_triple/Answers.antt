@@ -48,7 +48,7 @@ pub visit_one-requires : goal.visit_one-requires
 visit_one-requires c =
     let t = c.triple_at-t.result in
     let o = c.triple_at-t.ensures in
-    one_asks c.requires.0 c.requires.2 c.beyond-w.ensures t o c.place.ensures.0 c.visit_cut-r.kept.0
+    one_asks c.requires.0 c.requires.2 c.beyond-w.ensures t o c.place.ensures.0 c.visit_cut-r.auto.values
     c.visit_cut-r.ensures.grown.trailing
 
 pub returns : goal.returns
@@ -57,5 +57,5 @@ returns c =
     let t = c.triple_at-t.result in
     reached (triple_suffices a.c a.k _ a.block c.requires.2 c.requires.0.laid t c.triple_at-t.ensures.0
     (ap (λ (x : ℕ). a.block.first + count_of a.k + x) (sym c.triple_at-t.ensures.1)))
-    (both_visits a.c a.k a.block t c.triple_at-t.ensures c.beyond-w.ensures c.triples_of-triples.ensures c.if-r.left
+    (both_visits a.c a.k a.block t c.triple_at-t.ensures c.beyond-w.ensures c.triples_of-triples.ensures c.if-r.false
     c.visit_cut-r.ensures c.place.ensures.0 c.visit_one.ensures)

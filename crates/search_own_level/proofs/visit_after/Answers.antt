@@ -24,28 +24,27 @@ overflow_add-next c = omega (arith, place_small c.requires.standing.0 c.requires
 
 pub visit_level-s-requires : goal.visit_level-s-requires
 visit_level-s-requires c =
-    let v = c.visit_level-r in
-    record { standing = (stands c.requires.standing.0 v.kept.0 v.ensures.grown.trailing, c.requires.standing.1, (_, c.requires.standing.2)); placed = longer_placed c.requires.standing.2 c.requires.placed c.if-i-d.false }
+    record { standing = (stands c.requires.standing.0 c.visit_level-r.auto.values c.visit_level-r.ensures.grown.trailing, c.requires.standing.1, (_, c.requires.standing.2)); placed = longer_placed c.requires.standing.2 c.requires.placed c.if-i-d.false }
 
 pub returns-then-s : goal.returns-then-s
 returns-then-s c =
-    let R = after_second _ _ _ _ _ c.args.p c.if-i-d.left in
-    visited_named R.1 (visited_stop (visited_then c.visit_level-r.ensures _ c.if-r.left c.visit_level-s.ensures) R.0 c.if-s.true)
+    let R = after_second _ _ _ _ _ c.args.p c.if-i-d.false in
+    visited_named R.1 (visited_stop (visited_then c.visit_level-r.ensures _ c.if-r.false c.visit_level-s.ensures) R.0 c.if-s.true)
 
 pub returns-then-a-levels : goal.returns-then-a-levels
 returns-then-a-levels c =
-    visited_named (after_two _ _ _ _ _ c.args.p c.if-i-d.left c.if-a-levels.true)
-    (visited_then c.visit_level-r.ensures _ c.if-r.left c.visit_level-s.ensures)
+    visited_named (after_two _ _ _ _ _ c.args.p c.if-i-d.false c.if-a-levels.true)
+    (visited_then c.visit_level-r.ensures _ c.if-r.false c.visit_level-s.ensures)
 
 pub overflow_add-next-2 : goal.overflow_add-next-2
 overflow_add-next-2 c =
-    omega (arith, place_small c.requires.standing.0 (above_placed c.requires.standing.2 c.requires.placed c.if-i-d.left c.requires.standing.1 c.if-a-levels.left))
+    omega (arith, place_small c.requires.standing.0 (above_placed c.requires.standing.2 c.requires.placed c.if-i-d.false c.requires.standing.1 c.if-a-levels.false))
 
 pub visit_level-t-requires : goal.visit_level-t-requires
 visit_level-t-requires c =
-    let v = c.visit_level-r in let w = c.visit_level-s in record { standing = (stands (stands c.requires.standing.0 v.kept.0 v.ensures.grown.trailing) w.kept.0 w.ensures.grown.trailing, c.requires.standing.1, (_, c.requires.standing.2)); placed = above_placed c.requires.standing.2 c.requires.placed c.if-i-d.left c.requires.standing.1 c.if-a-levels.left }
+    record { standing = (stands (stands c.requires.standing.0 c.visit_level-r.auto.values c.visit_level-r.ensures.grown.trailing) c.visit_level-s.auto.values c.visit_level-s.ensures.grown.trailing, c.requires.standing.1, (_, c.requires.standing.2)); placed = above_placed c.requires.standing.2 c.requires.placed c.if-i-d.false c.requires.standing.1 c.if-a-levels.false }
 
 pub returns : goal.returns
 returns c =
-    visited_named (after_three _ _ _ _ _ c.args.p c.if-i-d.left c.requires.standing.1 c.if-a-levels.left)
-    (visited_then (visited_then c.visit_level-r.ensures _ c.if-r.left c.visit_level-s.ensures) _ c.if-s.left c.visit_level-t.ensures)
+    visited_named (after_three _ _ _ _ _ c.args.p c.if-i-d.false c.requires.standing.1 c.if-a-levels.false)
+    (visited_then (visited_then c.visit_level-r.ensures _ c.if-r.false c.visit_level-s.ensures) _ c.if-s.false c.visit_level-t.ensures)

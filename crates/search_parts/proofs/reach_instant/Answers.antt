@@ -17,15 +17,15 @@ returns-then-not-among c =
     (c.among.ensures.away c.if-not-among.true)) c.requires.node.0.trailing)
 
 pub overflow_sub-u : goal.overflow_sub-u
-overflow_sub-u c = omega (arith, c.among.ensures.here c.if-not-among.left)
+overflow_sub-u c = omega (arith, c.among.ensures.here c.if-not-among.false)
 
 pub visit_instant-requires : goal.visit_instant-requires
 visit_instant-requires c =
-    let f = c.among.ensures.here c.if-not-among.left in
+    let f = c.among.ensures.here c.if-not-among.false in
     (whole_stands c.requires.node.0 c.requires.rule_value.1, c.requires.node.1, rising_known c.args.block.rule c.requires.rule_value.0 c.requires.rule_value.1 c.rise_of-rise.ensures, omega (arith, f), c.requires.rule_value.2)
 
 pub returns : goal.returns
 returns c =
-    let b = c.args.block in let f = c.among.ensures.here c.if-not-among.left in
+    let b = c.args.block in let f = c.among.ensures.here c.if-not-among.false in
     reached (instant_suffices c.args.c c.args.k c.args.u b (rising_known b.rule c.requires.rule_value.0 c.requires.rule_value.1 c.rise_of-rise.ensures) c.requires.node.0.laid
     (omega (arith, f)) (omega (arith, f))) c.visit_instant.ensures

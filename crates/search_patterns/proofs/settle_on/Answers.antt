@@ -49,4 +49,4 @@ loop-u-smaller c =
 pub loop-u-preserved : goal.loop-u-preserved
 loop-u-preserved c =
     let f = subst (Forces _ _) c.in-Literal.is c.next_forced-next.ensures in let i = c.loop-u.invariant in
-    (c.add-t.kept.0 ∙ i.0, c.add-t.kept.1.0 ∙ i.1, visits_more i.2 _ f.0 f.1 c.add-t.ensures)
+    (c.add-t.auto.values ∙ i.0, c.add-t.auto.trail ∙ i.1, visits_more i.2 _ f.0 f.1 c.add-t.ensures)

@@ -40,9 +40,9 @@ loop-h-smaller c = let i = c.loop-h.invariant in omega (arith, i.0, pending_fits
 
 pub loop-h-preserved : goal.loop-h-preserved
 loop-h-preserved c =
-    let i = c.loop-h.invariant in let q = c.reach-r in let e = q.ensures in (
-      q.kept.0 ∙ i.0,
-      q.kept.1.0 ∙ i.1,
+    let i = c.loop-h.invariant in let e = c.reach-r.ensures in (
+      c.reach-r.auto.values ∙ i.0,
+      c.reach-r.auto.trail ∙ i.1,
       grown_more i.2 e.grown,
       e.same ∙ i.3,
       pending_step i.4 (omega (arith, c.loop-h-test.true)) e c.if-r.false,

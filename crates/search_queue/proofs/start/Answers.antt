@@ -12,7 +12,7 @@ returns-then-r c = swept_clash c.sweep-r.ensures c.if-r.true
 
 pub close-requires : goal.close-requires
 close-requires c =
-    let p = c.requires.on_ground in record { on_ground = (ground_still c.sweep-r.kept.0 p.0, p.1); pending = swept_pending c.sweep-r.ensures c.if-r.false }
+    let p = c.requires.on_ground in record { on_ground = (ground_still c.sweep-r.auto.values p.0, p.1); pending = swept_pending c.sweep-r.ensures c.if-r.false }
 
 pub returns : goal.returns
 returns c =

@@ -25,11 +25,11 @@ block_of-block-requires c =
 pub reach-r-requires : goal.reach-r-requires
 reach-r-requires c =
     let g = c.requires.on_ground.0 in let z = c.last_from-z.ensures in
-    let b = c.block_of-block.ensures in (
-      node_at c.last_from-z.result g refl z.below b.0 (b.1 c.args.c g.channels) c.requires.on_ground.1,
+    (
+      node_at c.last_from-z.result g refl z.below c.block_of-block.ensures.value (c.block_of-block.ensures.by_index c.args.c g.channels) c.requires.on_ground.1,
       c.requires.tables.1,
       c.requires.tables.0,
-      in_block g.grid _ z.below b.0 (row_found g c.requires.tables.3 z.below z.from z.next),
+      in_block g.grid _ z.below c.block_of-block.ensures.value (row_found g c.requires.tables.3 z.below z.from z.next),
     )
 
 pub returns-then-r : goal.returns-then-r
@@ -52,12 +52,12 @@ block_of-up-requires c =
 
 pub reach-requires : goal.reach-requires
 reach-requires c =
-    let g = c.requires.on_ground.0 in let z = c.last_from-z.ensures in let b = c.block_of-up.ensures in
+    let g = c.requires.on_ground.0 in let z = c.last_from-z.ensures in 
     let l = g.grid.upward c.last_from-z.result z.below in
     let i = row_found g c.requires.tables.3 z.below z.from z.next in record { node = (
-        node_at _ g c.reach-r.kept.0 l b.0 (b.1 c.args.c g.channels) c.reach-r.ensures.grown.trailing,
+        node_at _ g c.reach-r.auto.values l c.block_of-up.ensures.value (c.block_of-up.ensures.by_index c.args.c g.channels) c.reach-r.ensures.grown.trailing,
         c.requires.tables.1,
-        not_own g.grid _ l c.last_from-z.result c.args.u z.below i (other_row g z.below c.if-z-ne0.true) b.0,
+        not_own g.grid _ l c.last_from-z.result c.args.u z.below i (other_row g z.below c.if-z-ne0.true) c.block_of-up.ensures.value,
         c.requires.tables.2,
       ); tables = c.requires.tables.0 }
 
@@ -79,7 +79,7 @@ returns-then-u-root c =
 
 pub visit-requires : goal.visit-requires
 visit-requires c =
-    let g = c.requires.on_ground.0 in let q = c.reach-r in (q.ensures.grown.trailing, there q.kept.0 (seated _ (g.seated 0 (omega arith)).0 g.root), tt, tt)
+    let g = c.requires.on_ground.0 in (c.reach-r.ensures.grown.trailing, there c.reach-r.auto.values (seated _ (g.seated 0 (omega arith)).0 g.root), tt, tt)
 
 pub returns : goal.returns
 returns c =

@@ -54,9 +54,9 @@ loop-cursor-smaller c = one_less c.loop-cursor.invariant.3 c.loop-cursor-test.tr
 
 pub loop-cursor-preserved : goal.loop-cursor-preserved
 loop-cursor-preserved c =
-    let i = c.loop-cursor.invariant in let k = c.visit-r.kept in let e = c.next-cursor.ensures in let s = c.args in (
-      k.0 ∙ i.0,
-      k.1.0 ∙ i.1,
+    let i = c.loop-cursor.invariant in let e = c.next-cursor.ensures in let s = c.args in (
+      c.visit-r.auto.values ∙ i.0,
+      c.visit-r.auto.trail ∙ i.1,
       omega (arith, c.loop-cursor-test.true, i.3.whole, e.0.whole, e.1),
       e.0,
       visited_named (ap (λ (n : ℕ). rows n (clauses_at (defined_by s.c s.k s.block))) (sym e.1))

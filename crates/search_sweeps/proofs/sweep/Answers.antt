@@ -16,8 +16,7 @@ seat-requires c = (c.requires.c_le_max_channels.1, c.requires.c_le_max_channels.
 
 pub visit-requires : goal.visit-requires
 visit-requires c =
-    let r = c.sweep_nodes-r in
-    (r.ensures.grown.trailing, there r.kept.0 (seated _ c.seat.ensures.0 c.requires.variable), tt, tt)
+    (c.sweep_nodes-r.ensures.grown.trailing, there c.sweep_nodes-r.auto.values (seated _ c.seat.ensures.0 c.requires.variable), tt, tt)
 
 pub returns : goal.returns
 returns c =

@@ -15,7 +15,7 @@ block_at-block-requires c = let s = c.requires.c_le_max_channels in (s.1, omega 
 
 pub sweep_node-r-requires : goal.sweep_node-r-requires
 sweep_node-r-requires c =
-    let i = c.loop-x.invariant in let b = c.block_at-block.ensures in record { fine = (b.1 _ c.requires.c_le_max_channels.0, i.3.grown.trailing, c.requires.c_le_max_channels.5); all_mentioned = row_mentioned c.args.c c.args.k _ _ _ _ _ c.block_at-block.result b.0 i.0
+    let i = c.loop-x.invariant in record { fine = (c.block_at-block.ensures.by_index _ c.requires.c_le_max_channels.0, i.3.grown.trailing, c.requires.c_le_max_channels.5); all_mentioned = row_mentioned c.args.c c.args.k _ _ _ _ _ c.block_at-block.result c.block_at-block.ensures.value i.0
           (c.requires.by_index _ c.loop-x-test.true) }
 
 pub returns-then-r : goal.returns-then-r
@@ -26,9 +26,9 @@ returns-then-r c =
 
 pub loop-x-preserved : goal.loop-x-preserved
 loop-x-preserved c =
-    let i = c.loop-x.invariant in let k = c.sweep_node-r.kept in (
-      k.0 ∙ i.0,
-      k.1.0 ∙ i.1,
+    let i = c.loop-x.invariant in (
+      c.sweep_node-r.auto.values ∙ i.0,
+      c.sweep_node-r.auto.trail ∙ i.1,
       omega (arith, c.loop-x-test.true),
       loop_turn _ _ i.3 (row_clauses_lem c.args.c c.args.k _ _ _ _ _ c.block_at-block.result c.block_at-block.ensures.value) c.sweep_node-r.ensures
           c.if-r.false,

@@ -9,14 +9,12 @@ use Rattle.search_tree.proofs.start.Goals as goal
 
 pub start-closed-requires : goal.start-closed-requires
 start-closed-requires c =
-    let z = c.clear in
-    record { on_ground = (ground_still z.kept.0 c.requires.ground_of.0, c.requires.ground_of.1); trailing = zero_trailing _ _ z.ensures (omega (arith, z.kept.0, c.requires.values_in_bounds.0)) (omega (arith, z.kept.0, c.requires.values_in_bounds.1)) }
+    record { on_ground = (ground_still c.clear.auto.values c.requires.ground_of.0, c.requires.ground_of.1); trailing = zero_trailing _ _ c.clear.ensures (omega (arith, c.clear.auto.values, c.requires.values_in_bounds.0)) (omega (arith, c.clear.auto.values, c.requires.values_in_bounds.1)) }
 
 pub descend-requires : goal.descend-requires
 descend-requires c =
-    let q = c.start-closed in let z = c.clear in 
-    record { ground_of = (ground_still (q.kept.0 ∙ z.kept.0) c.requires.ground_of.0, c.requires.ground_of.1); holding = begun _ z.ensures q.ensures }
+    record { ground_of = (ground_still (c.start-closed.auto.values ∙ c.clear.auto.values) c.requires.ground_of.0, c.requires.ground_of.1); holding = begun _ c.clear.ensures c.start-closed.ensures }
 
 pub returns : goal.returns
 returns c =
-    started_long (c.start-closed.kept.0 ∙ c.clear.auto.0) c.descend.ensures
+    started_long (c.start-closed.auto.values ∙ c.clear.auto.values) c.descend.ensures

@@ -38,27 +38,27 @@ bounds-levels-depth c = omega (arith, high_level (goal.at.bounds-levels-depth c)
 
 pub try_high-last-requires : goal.try_high-last-requires
 try_high-last-requires c =
-    let s = c.loop-last.invariant.2 in record { on_ground = (ground_still s.long c.requires.ground_of.0, c.requires.ground_of.1); undoable = high_ready _ _ _ _ s c.if-last.true c.if-depth-eq0.left }
+    let s = c.loop-last.invariant.2 in record { on_ground = (ground_still s.long c.requires.ground_of.0, c.requires.ground_of.1); undoable = high_ready _ _ _ _ s c.if-last.true c.if-depth-eq0.false }
 
 pub loop-last-preserved-then-last : goal.loop-last-preserved-then-last
 loop-last-preserved-then-last c =
-    let q = c.try_high-last in let l = c.loop-last.invariant in (q.auto.1.0 ∙ l.0, l.1, high_on _ _ _ _ l.2 c.if-last.true c.if-depth-eq0.left c.if-n-limit.left q.ensures)
+    let l = c.loop-last.invariant in (c.try_high-last.auto.trail ∙ l.0, l.1, high_on _ _ _ _ l.2 c.if-last.true c.if-depth-eq0.false c.if-n-limit.false c.try_high-last.ensures)
 
 pub lowest_open-v-requires : goal.lowest_open-v-requires
 lowest_open-v-requires c = let s = c.loop-last.invariant.2 in (omega (arith, s.fit, s.long), s.holding.trailing.small)
 
 pub returns-then-v-eq0 : goal.returns-then-v-eq0
 returns-then-v-eq0 c =
-    low_found _ _ _ _ c.loop-last.invariant.2 c.if-last.left c.lowest_open-v.ensures c.if-v-eq0.true
+    low_found _ _ _ _ c.loop-last.invariant.2 c.if-last.false c.lowest_open-v.ensures c.if-v-eq0.true
 
 pub returns-then-n-limit-2 : goal.returns-then-n-limit-2
 returns-then-n-limit-2 c =
-    low_spent _ _ _ _ c.loop-last.invariant.2 c.if-last.left c.lowest_open-v.ensures c.if-v-eq0.false c.if-n-limit-2.true
+    low_spent _ _ _ _ c.loop-last.invariant.2 c.if-last.false c.lowest_open-v.ensures c.if-v-eq0.false c.if-n-limit-2.true
 
 low_level : (c : Else-n-limit-2) → c.loop-last.depth < max_steps * max_channels
 low_level c =
     let g = c.requires.ground_of.0 in
-    omega (arith, low_room _ _ _ _ c.loop-last.invariant.2 c.if-last.left c.lowest_open-v.ensures c.if-v-eq0.false, channels_few _ _ g.channels g.steps)
+    omega (arith, low_room _ _ _ _ c.loop-last.invariant.2 c.if-last.false c.lowest_open-v.ensures c.if-v-eq0.false, channels_few _ _ g.channels g.steps)
 
 pub offset_bounds-levels-depth-in-loop-last : goal.offset_bounds-levels-depth-in-loop-last
 offset_bounds-levels-depth-in-loop-last c = record { fits = omega (arith, low_level (goal.at.offset_bounds-levels-depth-in-loop-last c).Else-n-limit-2) }
@@ -72,16 +72,16 @@ overflow_add-depth c = record { fits = omega (arith, low_level (goal.at.overflow
 pub try_literal-last-requires : goal.try_literal-last-requires
 try_literal-last-requires c =
     let s = c.loop-last.invariant.2 in
-    record { on_ground = (ground_still s.long c.requires.ground_of.0, c.requires.ground_of.1); ready = low_ready _ _ _ _ s c.if-last.left c.lowest_open-v.ensures c.if-v-eq0.left }
+    record { on_ground = (ground_still s.long c.requires.ground_of.0, c.requires.ground_of.1); ready = low_ready _ _ _ _ s c.if-last.false c.lowest_open-v.ensures c.if-v-eq0.false }
 
 pub overflow_add-n-in-loop-last : goal.overflow_add-n-in-loop-last
 overflow_add-n-in-loop-last c =
-    search (c.loop-last.invariant.2.few, c.if-n-limit-2.left, c.fits.limit, rules)
+    search (c.loop-last.invariant.2.few, c.if-n-limit-2.false, c.fits.limit, rules)
 
 pub loop-last-preserved : goal.loop-last-preserved
 loop-last-preserved c =
-    let q = c.try_literal-last in let w = c.loop-last in let l = w.invariant in (
-      q.kept.1.0 ∙ l.0,
+    let w = c.loop-last in let l = w.invariant in (
+      c.try_literal-last.auto.trail ∙ l.0,
       length-set w.levels w.depth w.last.top ∙ l.1,
-      low_on _ _ _ _ l.2 c.if-last.left c.lowest_open-v.ensures c.if-v-eq0.left (omega (arith, low_level (goal.at.loop-last-preserved c).Else-n-limit-2, l.1)) c.if-n-limit-2.left q.ensures,
+      low_on _ _ _ _ l.2 c.if-last.false c.lowest_open-v.ensures c.if-v-eq0.false (omega (arith, low_level (goal.at.loop-last-preserved c).Else-n-limit-2, l.1)) c.if-n-limit-2.false c.try_literal-last.ensures,
     )

@@ -75,9 +75,9 @@ overflow_step-e c =
 
 pub loop-e-preserved : goal.loop-e-preserved
 loop-e-preserved c =
-    let i = c.loop-e.invariant in let k = c.settle_both-r.kept in let h = c.loop-e-test.true in (
-      k.0 ∙ i.0,
-      k.1.0 ∙ i.1,
+    let i = c.loop-e.invariant in let h = c.loop-e-test.true in (
+      c.settle_both-r.auto.values ∙ i.0,
+      c.settle_both-r.auto.trail ∙ i.1,
       omega (arith, h),
       first_turn i.3 h,
       loop_turn _ _ i.4 (first_clauses_lem i.3 h _) (settled_visited c.settle_both-r.ensures) c.if-r.false,

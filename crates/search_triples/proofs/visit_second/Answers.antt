@@ -92,9 +92,9 @@ overflow_step-i c =
 
 pub loop-i-preserved : goal.loop-i-preserved
 loop-i-preserved c =
-    let i = c.loop-i.invariant in let k = c.settle_both-r.kept in let h = c.loop-i-test.true in (
-      k.0 ∙ i.0,
-      k.1.0 ∙ i.1,
+    let i = c.loop-i.invariant in let h = c.loop-i-test.true in (
+      c.settle_both-r.auto.values ∙ i.0,
+      c.settle_both-r.auto.trail ∙ i.1,
       omega (arith, h),
       second_turn i.3 (omega (arith, h)),
       loop_turn _ _ i.4 (second_clauses_lem i.3 (omega (arith, h)) _) (settled_visited c.settle_both-r.ensures) c.if-r.false,

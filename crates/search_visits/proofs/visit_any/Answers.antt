@@ -10,8 +10,7 @@ returns-then-r c = visited_named (any_clauses_lem _ _ _) (visited_stop c.visit_e
 
 pub visit_long-requires : goal.visit_long-requires
 visit_long-requires c =
-    let k = c.visit_each-r in
-    (k.ensures.grown.trailing, there k.kept.0 c.requires.1, (c.requires.2.0, λ e h. there k.kept.0 (c.requires.2.1 e h)))
+    (c.visit_each-r.ensures.grown.trailing, there c.visit_each-r.auto.values c.requires.1, (c.requires.2.0, λ e h. there c.visit_each-r.auto.values (c.requires.2.1 e h)))
 
 pub returns : goal.returns
 returns c =

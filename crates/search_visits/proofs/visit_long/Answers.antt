@@ -6,6 +6,7 @@ use Prim.Native.Nat.{◌-◌, ◌≤◌}
 use native.Mathlib.Omega.{arith}
 use Rattle.search_visits.proofs.Long.{reading_none, reading_same, reading_first, reading_two, reading_all, reading_free, reading_moved, tallied_more}
 use Rattle.search_visits.proofs.visit_long.Goals as goal
+use Rattle.search_visits.proofs.visit_long.Goals.{then-not-opposed+else-free-eq1, else-not-opposed}
 
 pub loop-e-init : goal.loop-e-init
 loop-e-init c =
@@ -28,9 +29,11 @@ pub loop-e-preserved : goal.loop-e-preserved
 loop-e-preserved c =
     let i = c.loop-e.invariant in let o = sym c.opposed-in-loop-e.ensures in (
       omega (arith, c.loop-e-test.true),
-      ⊎_elim (λ w. reading_moved w.2 w.3 w.4
-          (reading_first i.1 (o ∙ w.0.true) w.1.left (c.requires.2.1 _ c.loop-e-test.true)))
-          (λ w. reading_moved w.1 w.2 w.3 (reading_same i.1 (o ∙ w.0.left))) c.if-not-opposed.branch,
+      elim c.if-not-opposed.branch [
+        then-not-opposed+else-free-eq1 w ↦ reading_moved w.free-is w.last-is w.mark-is
+            (reading_first i.1 (o ∙ w.if-not-opposed.true) w.if-free-eq1.false (c.requires.2.1 _ c.loop-e-test.true))
+        | else-not-opposed w ↦ reading_moved w.free-is w.last-is w.mark-is (reading_same i.1 (o ∙ w.if-not-opposed.false))
+      ],
     )
 
 pub visit_tallied-requires : goal.visit_tallied-requires

@@ -17,8 +17,7 @@ returns-then-r c = visited_stop (visited_named (raised_pattern _ _ _) (settled_v
 
 pub visit_long-requires : goal.visit_long-requires
 visit_long-requires c =
-    let k = c.settle_by-r in
-    (k.ensures.grown.trailing, there k.kept.0 c.requires.1, (c.requires.2.0, λ e h. there k.kept.0 (c.requires.2.1 e h)))
+    (c.settle_by-r.ensures.grown.trailing, there c.settle_by-r.auto.values c.requires.1, (c.requires.2.0, λ e h. there c.settle_by-r.auto.values (c.requires.2.1 e h)))
 
 pub returns : goal.returns
 returns c =

@@ -16,8 +16,7 @@ block_at-block-requires c = let p = c.requires.c_le_max_channels in (p.1, omega 
 
 pub put_node-at-requires : goal.put_node-at-requires
 put_node-at-requires c =
-    let e = c.block_at-block.ensures in
-    record { room = room c.loop-x.invariant (search rules) (ap (node_places _ _) (sym e.0)) c.requires.room; fine = (e.1 _ c.requires.c_le_max_channels.0, c.requires.c_le_max_channels.4) }
+    record { room = room c.loop-x.invariant (search rules) (ap (node_places _ _) (sym c.block_at-block.ensures.value)) c.requires.room; fine = (c.block_at-block.ensures.by_index _ c.requires.c_le_max_channels.0, c.requires.c_le_max_channels.4) }
 
 pub loop-x-preserved : goal.loop-x-preserved
 loop-x-preserved c =
