@@ -1,7 +1,7 @@
 -- A node table as the queue goes by it, and what the code's search says of the tree of its clauses. Nothing here need be believed: no call
 -- open to others cites it.
 use Rattle.std.specs.Prelude.{◌≡◌, List, ℕ, ◌≤◌, ◌<◌, length}
-use Rattle.std.specs.Borrow.{Bor}
+use Rattle.std.specs.Borrow.{Bor, MutBor}
 use Rattle.node_rows.specs.declared.NodeTable.{NodeTable}
 use Rattle.paper_clauses.specs.Clauses.{Clause}
 use Rattle.paper_closure.specs.Runs.{dead, found}
@@ -13,7 +13,7 @@ use Rattle.search_tries.specs.declared.Below.{Below}
 use Rattle.search_tries.specs.declared.Below.TheVariants.{Dead, Found, Spent}
 
 -- a node table, and the columns beside it that a call is lent
-abbrev pub GroundOf : ℕ → ℕ → NodeTable → (firsts seats parents values : Bor (List ℕ)) → Type 0
+abbrev pub GroundOf : ℕ → ℕ → NodeTable → (firsts seats parents : Bor (List ℕ)) → MutBor (List ℕ) → Type 0
 GroundOf C k table firsts seats parents values =
     Ground C k table.kinds table.numbers table.sizes firsts.now seats.now parents.now table.count (length values.now)
 
