@@ -4,8 +4,6 @@ use Rattle.table_layout.proofs.Mentioned.{row_mentioned}
 use Rattle.check_calls.proofs.Table.{none_met, all_met, row_met, row_unmet, row_number, block_mentioned, block_asked}
 use Rattle.table_layout.specs.Rows.{row_definitions}
 use Rattle.paper_assignments.specs.Extension.{value_in}
-use mathlib.Core.Path.{◌≡◌}
-use Prim.Native.Nat.{◌-◌, ◌≤◌}
 use native.Mathlib.Omega.{arith}
 use borrow.Author.Rules.{rules}
 use Rattle.check_calls.proofs.ask_nodes.Goals as goal

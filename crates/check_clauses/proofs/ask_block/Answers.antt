@@ -1,6 +1,5 @@
 -- The gate at the cursor is that of the definition in its place: the first gate
 -- with an unmet clause answers, and else the next clause's number is how many there were (Walk.antt).
-use Prim.Native.Nat.{◌-◌}
 use native.Mathlib.Omega.{arith}
 use Rattle.table_nodes.proofs.Walk.{walkable, one_less, all_defined, gate_asked, gate_defined}
 use Rattle.check_clauses.proofs.Walk.{met_begun, met_done, gate_asks, gate_few, block_turn, block_stopped}

@@ -4,7 +4,6 @@ use borrow.Author.Tests.{not-true, not-false}
 use Rattle.check_clauses.proofs.Walk.{constants_begun, constants_turn, constants_stopped, constants_done}
 use Rattle.paper_clauses.proofs.Meets.{beq_exactly}
 use Rattle.check_gate.proofs.Gates.{differ}
-use Prim.Native.Nat.{◌+◌, ◌-◌}
 use mathlib.Core.Path.{refl}
 use Rattle.check_clauses.proofs.ask_constants.Goals as goal
 

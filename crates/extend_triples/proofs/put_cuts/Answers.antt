@@ -1,7 +1,5 @@
 -- `put_cuts` writes one byte a turn, P's on [i, m] with Q's on [m, j], and goes on to where [m + 1, j] stands (Cutting.antt).
 -- After the last turn all cuts are written (Filled.antt of extend_truths).
-use mathlib.Core.Path.{◌≡◌}
-use Prim.Native.Nat.{◌+◌, ◌-◌}
 use Rattle.lists.proofs.Filled.{begun, turn, done}
 use Rattle.extend_triples.proofs.Cutting.{next_cut, first_cut, last_cut, cut_small, cut_byte}
 use native.Mathlib.Omega.{arith}
@@ -30,7 +28,7 @@ loop-e-preserved c =
       l.invariant.0,
       turn l.invariant.1 (omega arith) b,
       elim c.if-e-steps.branch [
-        then-e-steps w ↦ next_cut (omega arith) l.invariant.2 w.if-e-steps.true w.at-is
+        | then-e-steps w ↦ next_cut (omega arith) l.invariant.2 w.if-e-steps.true w.at-is
         | else-e-steps w ↦ last_cut (omega arith) l.invariant.2 w.if-e-steps.false
       ],
     )
