@@ -102,7 +102,7 @@ module _ (C k : ℕ) (t A recording : List ℕ) (T : Tabled) (e : T ≡ tabled_o
     module _ (o : q ≡ Yes) where
       -- the yeses
       each_yes : (f : Tree Formula) × All (λ r. r ≡ Yes) (later (parsed f))
-      each_yes = let n = first.table_for C k t T e y in (n.0, all_yes (later (parsed n.0)) (sym (g n.0 n.1.is) ∙ o))
+      each_yes = let n = first.table_for_lem C k t T e y in (n.0, all_yes (later (parsed n.0)) (sym (g n.0 n.1.is) ∙ o))
 
       pub room : k ≤ length recording
       unfolding ask_places

@@ -4,8 +4,6 @@ use Rattle.table_layout.proofs.Mentioned.{row_mentioned}
 use Rattle.check_calls.proofs.Table.{none_met, all_met, row_met, row_unmet, row_number, block_mentioned, block_asked}
 use Rattle.table_layout.specs.Rows.{row_definitions}
 use Rattle.paper_assignments.specs.Extension.{value_in}
-use mathlib.Core.Path.{◌≡◌}
-use Prim.Native.Nat.{◌-◌, ◌≤◌}
 use native.Mathlib.Omega.{arith}
 use borrow.Author.Rules.{rules}
 use Rattle.check_calls.proofs.ask_nodes.Goals as goal
@@ -19,14 +17,14 @@ block_at-block-requires c = let p = c.requires.c_le_max_channels in (p.1, omega 
 pub ask_node-requires : goal.ask_node-requires
 ask_node-requires c =
     let e = c.block_at-block.ensures in
-    record { fine = (e.1 c.args.c c.requires.c_le_max_channels.0, c.requires.c_le_max_channels.4 _, c.requires.c_le_max_channels.5); all_mentioned = block_mentioned _ _ e.0 _ (row_mentioned _ (search rules) c.requires.all_mentioned) }
+    record { fine = (e.by_index c.args.c c.requires.c_le_max_channels.0, c.requires.c_le_max_channels.4 _, c.requires.c_le_max_channels.5); all_mentioned = block_mentioned _ _ e.value _ (row_mentioned _ (search rules) c.requires.all_mentioned) }
 
 pub returns-in-No : goal.returns-in-No
 returns-in-No c =
     let a = c.args in
     let l = c.loop-x in
-    row_unmet (row_definitions a.c a.k a.t2.kinds a.t2.numbers a.t2.sizes a.firsts.now) {n = a.t2.count} c.loop-x-test.true
-    (value_in a.assignment.now) (row_number a.c a.k a.t2.kinds a.t2.numbers a.t2.sizes a.firsts.now l.x
+    row_unmet (row_definitions a.c a.k a.table.kinds a.table.numbers a.table.sizes a.firsts.now) {n = a.table.count} c.loop-x-test.true
+    (value_in a.assignment.now) (row_number a.c a.k a.table.kinds a.table.numbers a.table.sizes a.firsts.now l.x
     (c.requires.by_index l.x c.loop-x-test.true)) l.invariant.1
     (block_asked a.c a.k c.block_at-block.ensures.value (value_in a.assignment.now) _ c.ask_node.ensures) c.in-No.is
 
@@ -35,8 +33,8 @@ loop-x-preserved c =
     let a = c.args in
     let l = c.loop-x in (
       omega (arith, c.loop-x-test.true),
-      row_met (row_definitions a.c a.k a.t2.kinds a.t2.numbers a.t2.sizes a.firsts.now) {n = a.t2.count} (omega (arith, c.loop-x-test.true))
-          (value_in a.assignment.now) (row_number a.c a.k a.t2.kinds a.t2.numbers a.t2.sizes a.firsts.now l.x
+      row_met (row_definitions a.c a.k a.table.kinds a.table.numbers a.table.sizes a.firsts.now) {n = a.table.count} (omega (arith, c.loop-x-test.true))
+          (value_in a.assignment.now) (row_number a.c a.k a.table.kinds a.table.numbers a.table.sizes a.firsts.now l.x
           (c.requires.by_index l.x (omega (arith, c.loop-x-test.true)))) l.invariant.1
           (block_asked a.c a.k c.block_at-block.ensures.value (value_in a.assignment.now) _ c.ask_node.ensures) c.in_default.is,
     )

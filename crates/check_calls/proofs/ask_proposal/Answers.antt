@@ -26,8 +26,11 @@ returns-in-No-ask_below c =
 pub ask_table-requires : goal.ask_table-requires
 ask_table-requires c =
     let w = c.layout_of-layout.ensures in
-    let t = c.requires.3 in record { c_le_max_channels = (c.requires.0, c.requires.1, c.requires.2, w.low); all_mentioned = table_mentioned _ _ t.0 t.1.is w t.1.letters c.args.assignment.now
-          (length_yes c.args.assignment.now _ (sym c.ask.ensures ∙ c.in_default.is)) }
+    let t = c.requires.3 in record {
+      c_le_max_channels = (c.requires.0, c.requires.1, c.requires.2, w.low);
+      all_mentioned = table_mentioned _ _ t.0 t.1.is w t.1.letters c.args.assignment.now
+          (length_yes c.args.assignment.now _ (sym c.ask.ensures ∙ c.in_default.is));
+    }
 
 pub returns-in-No-ask_table : goal.returns-in-No-ask_table
 returns-in-No-ask_table c =

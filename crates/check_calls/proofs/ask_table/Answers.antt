@@ -18,7 +18,7 @@ sums-last-requires c =
 pub ask_nodes-requires : goal.ask_nodes-requires
 ask_nodes-requires c =
     let a = c.args in let p = c.requires.c_le_max_channels in
-    let sums = c.sums-last.ensures in record { c_le_max_channels = (p.0, p.1, p.2, p.3, all_low sums zeros_low, c.put_rows.ensures); by_index = λ x h. sums.below x h ∙ ap (λ (w : Weight). 0 + weight_to w a.k a.t2.kinds a.t2.numbers x) c.clauses.ensures; all_mentioned = c.requires.all_mentioned.0 }
+    let sums = c.sums-last.ensures in record { c_le_max_channels = (p.0, p.1, p.2, p.3, all_low sums zeros_low, c.put_rows.ensures); by_index = λ x h. sums.below x h ∙ ap (λ (w : Weight). 0 + weight_to w a.k a.table.kinds a.table.numbers x) c.clauses.ensures; all_mentioned = c.requires.all_mentioned.0 }
 
 pub returns-in-No : goal.returns-in-No
 returns-in-No c = nodes_unmet _ _ _ c.ask_nodes.ensures c.in-No.is
@@ -41,7 +41,7 @@ returns-then-high c =
 pub returns : goal.returns
 returns c =
     let a = c.args in
-    let last = c.sums-last.ensures.total ∙ ap (λ (w : Weight). 0 + weight_to w a.k a.t2.kinds a.t2.numbers a.t2.count) c.clauses.ensures in
+    let last = c.sums-last.ensures.total ∙ ap (λ (w : Weight). 0 + weight_to w a.k a.table.kinds a.table.numbers a.table.count) c.clauses.ensures in
     root_unmet _ _ _ c.ask_nodes.ensures c.in_default.is
     (c.high.ensures ∙ ap (λ v. value_in a.assignment.now (v + a.k)) c.seat.ensures.0) c.if-high.false
-    (row_number a.c a.k a.t2.kinds a.t2.numbers a.t2.sizes a.firsts.now a.t2.count last)
+    (row_number a.c a.k a.table.kinds a.table.numbers a.table.sizes a.firsts.now a.table.count last)

@@ -1,6 +1,5 @@
 -- The gate at the cursor is that of the definition in its place: the first gate
 -- with an unmet clause answers, and else the next clause's number is how many there were (Walk.antt).
-use Prim.Native.Nat.{◌-◌}
 use native.Mathlib.Omega.{arith}
 use Rattle.table_nodes.proofs.Walk.{walkable, one_less, all_defined, gate_asked, gate_defined}
 use Rattle.check_clauses.proofs.Walk.{met_begun, met_done, gate_asks, gate_few, block_turn, block_stopped}
@@ -13,7 +12,7 @@ pub loop-cursor-init : goal.loop-cursor-init
 loop-cursor-init c = let e = c.start-cursor.ensures in (e.0, met_begun e.1)
 
 pub gate_at-gate-requires : goal.gate_at-gate-requires
-gate_at-gate-requires c = gate_asked c.requires.bounded.0.0 c.loop-cursor.invariant.0 c.loop-cursor-test.true c.requires.bounded.2
+gate_at-gate-requires c = let both = gate_asked c.requires.bounded.0.0 c.loop-cursor.invariant.0 c.loop-cursor-test.true c.requires.bounded.2 in record { bounded = both.0; placed = both.1 }
 
 pub overflow_add-block : goal.overflow_add-block
 overflow_add-block c =

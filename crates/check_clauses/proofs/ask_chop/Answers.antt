@@ -9,7 +9,7 @@ use Rattle.check_clauses.proofs.ask_chop.Goals as goal
 
 pub ask_block-requires : goal.ask_block-requires
 ask_block-requires c =
-    let h = halves c.args.block c.beyond-w.ensures c.triples_of-triples.ensures c.intervals_of-intervals.ensures in 
+    let h = halves c.args.block c.beyond-w.ensures c.triples_of-triples.ensures c.intervals_of-intervals.ensures in
     record { bounded = (triples_bounded _ h c.requires.fine.0, omega (arith, c.requires.fine.1), c.requires.fine.2); all_mentioned = triples_mentioned _ h c.requires.all_mentioned }
 
 pub returns-in-No : goal.returns-in-No
@@ -24,7 +24,7 @@ weigh-before-requires c =
 
 pub ask_block-requires-2 : goal.ask_block-requires-2
 ask_block-requires-2 c =
-    let h = halves c.args.block c.beyond-w.ensures c.triples_of-triples.ensures c.intervals_of-intervals.ensures in 
+    let h = halves c.args.block c.beyond-w.ensures c.triples_of-triples.ensures c.intervals_of-intervals.ensures in
     record { bounded = (intervals_bounded _ h c.requires.fine.0, omega (arith, c.requires.fine.1, c.weigh-before.ensures.1), c.requires.fine.2); all_mentioned = intervals_mentioned _ h c.requires.all_mentioned }
 
 pub returns : goal.returns

@@ -1,8 +1,6 @@
 -- The variables passed are low;
 -- the loop ends at the first that is high, or at n.
 use native.Mathlib.Omega.{arith}
-use Prim.Native.Nat.{◌+◌, ◌-◌, ◌≤◌, ◌<◌}
-use mathlib.Core.Path.{◌≡◌}
 use borrow.Author.Count.{below_none, below_more}
 use Rattle.check_gate.proofs.first_high.Goals as goal
 

@@ -1,7 +1,6 @@
 -- Each way through the code gives the number that the gate's table has for it;
 -- that this is the first unmet clause's is shown there (Gates.antt).
 use mathlib.Core.Path.{refl, sym}
-use borrow.Author.Tests.{not-true, not-false}
 use Rattle.check_gate.proofs.Gates.{unmet_known}
 use Rattle.check_gate.proofs.first_unmet.Goals as goal
 
@@ -15,7 +14,7 @@ pub first_high-requires : goal.first_high-requires
 first_high-requires c = let e = c.in-AnyOf.is in ((rw e at c.requires.1).1, rw e at c.requires.0)
 
 pub high-requires-then-up-4 : goal.high-requires-then-up-4
-high-requires-then-up-4 c = let p = rw c.in-Step.is at c.requires.0 in search (p.1, p.2)
+high-requires-then-up-4 c = (rw c.in-Step.is at c.requires.0).1
 
 pub high-requires-else-up-4 : goal.high-requires-else-up-4
 high-requires-else-up-4 c = (rw c.in-Step.is at c.requires.0).0
@@ -36,13 +35,13 @@ pub returns-else-up-2 : goal.returns-else-up-2
 returns-else-up-2 c = unmet_known _ _ c.in-Inverse.is (rw c.if-up-2.false)
 
 pub returns-then-not-up : goal.returns-then-not-up
-returns-then-not-up c = unmet_known _ _ c.in-Both.is (rw (not-true c.args.up c.if-not-up.true))
+returns-then-not-up c = unmet_known _ _ c.in-Both.is (rw c.if-not-up.true)
 
 pub returns-then-high : goal.returns-then-high
 returns-then-high c =
     unmet_known _ _ c.in-Both.is
     (rw (
-      not-false c.args.up c.if-not-up.false,
+      c.if-not-up.false,
       sym c.high.ensures,
       c.if-high.true,
     ))
@@ -51,7 +50,7 @@ pub returns-else-high : goal.returns-else-high
 returns-else-high c =
     unmet_known _ _ c.in-Both.is
     (rw (
-      not-false c.args.up c.if-not-up.false,
+      c.if-not-up.false,
       sym c.high.ensures,
       c.if-high.false,
     ))

@@ -4,7 +4,6 @@ use Rattle.lists.proofs.Filled.{begun, turn, done}
 use Rattle.paper_assignments.specs.Extension.{recording_by}
 use Rattle.check_recording.proofs.Channels.{row_fits}
 use mathlib.Core.Path.{refl}
-use Prim.Native.Nat.{◌-◌, ◌*◌, ◌^◌}
 use native.Mathlib.Omega.{arith}
 use borrow.Author.Rules.{rules}
 use Rattle.check_recording.proofs.put_recording.Goals as goal

@@ -3,8 +3,7 @@
 use Rattle.paper_grammar.specs.Limits.{max_channels}
 use Rattle.truth_word.proofs.Words.{packed_more}
 use Rattle.check_recording.proofs.Channels.{channel_bit, byte_done}
-use mathlib.Core.Path.{◌≡◌}
-use Prim.Native.Nat.{◌+◌, ◌-◌, ◌*◌, ◌≤◌}
+use Prim.Native.Nat.{◌+◌}
 use native.Mathlib.Omega.{arith}
 use lib.Pow.{pow_mono}
 use Rattle.check_recording.proofs.recorded.Goals as goal

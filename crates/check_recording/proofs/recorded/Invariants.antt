@@ -4,7 +4,7 @@ use Rattle.paper_assignments.specs.Extension.{value_in}
 use Rattle.paper_circuit.specs.Circuit.{channel_of}
 use Rattle.paper_meaning.proofs.Words.{Packed}
 use mathlib.Core.Path.{◌≡◌}
-use Prim.Native.Nat.{◌+◌, ◌-◌, ◌*◌, ◌≤◌}
+use Prim.Native.Nat.{◌-◌, ◌*◌, ◌≤◌}
 use Rattle.check_recording.proofs.recorded.Given as goal
 
 abbrev pub invariant-loop-b : goal.invariant-loop-b

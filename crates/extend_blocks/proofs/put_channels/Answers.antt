@@ -1,7 +1,7 @@
 -- `put_channels` fills one part a turn with the channels of the next instant,
 -- and each part has a byte for each channel (Parts.antt of extend_triples).
-use mathlib.Core.Path.{◌≡◌, refl, ap, ◌∙◌}
-use Prim.Native.Nat.{ℕ, ◌+◌, ◌-◌}
+use mathlib.Core.Path.{refl, ap, ◌∙◌}
+use Prim.Native.Nat.{ℕ, ◌+◌}
 use Rattle.lists.specs.Listing.{tab}
 use Rattle.lists.proofs.Listing.{length_tab}
 use Rattle.paper_meaning.specs.Meaning.{bit, channel_at}

@@ -31,4 +31,4 @@ returns c =
     let w : length (take n.result a.out.now) ≡ count_of a.k = length-take-le n.result a.out.now (omega arith) ∙ n.ensures.0 in
     let T = c.chop_table.ensures _ _ (bits_table c.requires.2) (bits_table c.requires.3) in let t = c.put_table in
     let e = t.ensures ∙ table_values a.k _ w T in
-    rest_put n.result t.new.0 (drop n.result a.out.now) _ (search rules) ∙ ap₂ (λ (x y : List ℕ). x ++ y) e c.put_triples.ensures
+    rest_put n.result t.new.out (drop n.result a.out.now) _ (search rules) ∙ ap₂ (λ (x y : List ℕ). x ++ y) e c.put_triples.ensures

@@ -1,7 +1,6 @@
 -- `put_instant` writes one channel's bit a turn, at the channel's place,
 -- and after the last turn all are written (Filled.antt of extend_truths).
-use mathlib.Core.Path.{◌≡◌, refl}
-use Prim.Native.Nat.{◌-◌}
+use mathlib.Core.Path.{refl}
 use Rattle.lists.proofs.Filled.{begun, turn, done}
 use native.Mathlib.Omega.{arith}
 use Rattle.extend_blocks.proofs.put_instant.Goals as goal

@@ -1,7 +1,7 @@
 -- `put_levels` fills one part a turn with the table of the next level (Parts.antt of extend_triples), which gives that level's truths in order
 -- (Tables.antt). The word measures as the state assertion does.
 use mathlib.Core.Path.{◌≡◌, refl, ◌∙◌}
-use Prim.Native.Nat.{suc, ◌+◌, ◌-◌}
+use Prim.Native.Nat.{suc, ◌+◌}
 use Rattle.interval.specs.Places.{count_of}
 use Rattle.paper_grammar.specs.declared.Sort.TheVariants.{Formula}
 use Rattle.paper_meaning.specs.Meaning.{bit_at, lasts}

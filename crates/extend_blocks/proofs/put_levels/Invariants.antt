@@ -1,8 +1,8 @@
 -- `put_levels` fills one part a turn with the table of the next level (Parts.antt of extend_triples), which gives that level's truths in order
 -- (Tables.antt). The word measures as the state assertion does.
-use mathlib.Core.Path.{◌≡◌, ◌∙◌}
+use mathlib.Core.Path.{◌≡◌}
 use mathlib.Core.Bool.{Bool}
-use Prim.Native.Nat.{ℕ, suc, ◌+◌, ◌-◌}
+use Prim.Native.Nat.{ℕ, suc, ◌-◌}
 use Rattle.interval.specs.Places.{count_of}
 use Rattle.paper_grammar.specs.declared.Sort.TheVariants.{Formula}
 use Rattle.paper_meaning.specs.Meaning.{lasts}

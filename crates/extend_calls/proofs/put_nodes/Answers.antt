@@ -15,13 +15,13 @@ block_at-block-requires c =
 pub put_node-requires : goal.put_node-requires
 put_node-requires c =
     let e = c.block_at-block.ensures in
-    let f = block_fits c.loop-x.invariant (search rules) e.0 c.requires.by_index.0 c.requires.by_index.1 (e.1 0 (omega arith)) in
+    let f = block_fits c.loop-x.invariant (search rules) e.value c.requires.by_index.0 c.requires.by_index.1 (e.by_index 0 (omega arith)) in
     (c.requires.k_le_max_steps.0, f, c.requires.k_le_max_steps.4)
 
 pub overflow_sub-end : goal.overflow_sub-end
 overflow_sub-end c =
     let e = c.block_at-block.ensures in
-    (block_fits c.loop-x.invariant (search rules) e.0 c.requires.by_index.0 c.requires.by_index.1 (e.1 0 (omega arith))).0
+    (block_fits c.loop-x.invariant (search rules) e.value c.requires.by_index.0 c.requires.by_index.1 (e.by_index 0 (omega arith))).0
 
 pub loop-x-preserved : goal.loop-x-preserved
 loop-x-preserved c =

@@ -1,13 +1,11 @@
 -- `put_cuts` writes one byte a turn, P's on [i, m] with Q's on [m, j], and goes on to where [m + 1, j] stands (Cutting.antt).
 -- After the last turn all cuts are written (Filled.antt of extend_truths).
-use mathlib.Core.Path.{◌≡◌}
-use mathlib.Core.Logic.{⊎_elim}
-use Prim.Native.Nat.{◌+◌, ◌-◌}
 use Rattle.lists.proofs.Filled.{begun, turn, done}
 use Rattle.extend_triples.proofs.Cutting.{next_cut, first_cut, last_cut, cut_small, cut_byte}
 use native.Mathlib.Omega.{arith}
 use borrow.Author.Rules.{rules}
 use Rattle.extend_triples.proofs.put_cuts.Goals as goal
+use Rattle.extend_triples.proofs.put_cuts.Goals.{then-e-steps, else-e-steps}
 
 pub loop-e-init : goal.loop-e-init
 loop-e-init c = (omega arith, begun (omega arith), first_cut c.place-at.ensures.0)
@@ -29,7 +27,10 @@ loop-e-preserved c =
     let b = cut_byte (omega arith) l.invariant.2 c.place-first.ensures.0 (omega arith) c.requires.3 c.requires.4 in (
       l.invariant.0,
       turn l.invariant.1 (omega arith) b,
-      ⊎_elim (λ w. next_cut (omega arith) l.invariant.2 w.0.true w.1) (λ w. last_cut (omega arith) l.invariant.2 w.0.left) c.if-e-steps.branch,
+      elim c.if-e-steps.branch [
+        | then-e-steps w ↦ next_cut (omega arith) l.invariant.2 w.if-e-steps.true w.at-is
+        | else-e-steps w ↦ last_cut (omega arith) l.invariant.2 w.if-e-steps.false
+      ],
     )
 
 pub returns : goal.returns

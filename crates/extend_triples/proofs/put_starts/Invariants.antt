@@ -1,7 +1,7 @@
 -- `put_starts` fills one part a turn, the cuts of the next longer interval from i on, which are one more than its steps (Parts.antt).
 -- With all of them it has as many as there are intervals of k − i steps (Listed.antt).
-use mathlib.Core.Path.{◌≡◌, ◌∙◌}
-use Prim.Native.Nat.{suc, ◌+◌, ◌-◌}
+use mathlib.Core.Path.{◌≡◌}
+use Prim.Native.Nat.{suc, ◌-◌}
 use Rattle.truth_table.specs.Table.{high_at}
 use Rattle.extend_triples.specs.Cuts.{cuts_from}
 use Rattle.extend_triples.proofs.Parts.{Parts}

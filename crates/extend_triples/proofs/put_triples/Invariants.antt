@@ -1,7 +1,7 @@
 -- `put_triples` fills one part a turn, the triples from the next start on, as many as there are intervals of k − i steps (Parts.antt).
 -- Start by start they are all triples, in order (Listed.antt).
-use mathlib.Core.Path.{◌≡◌, ◌∙◌}
-use Prim.Native.Nat.{suc, ◌-◌, ◌≤◌}
+use mathlib.Core.Path.{◌≡◌}
+use Prim.Native.Nat.{suc, ◌-◌}
 use Rattle.interval.specs.Places.{count_of}
 use Rattle.truth_table.specs.Table.{high_at}
 use Rattle.extend_triples.specs.Cuts.{triples_from}

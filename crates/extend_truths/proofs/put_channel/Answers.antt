@@ -1,7 +1,7 @@
 -- `put_channel` stores the channel's bit of the recording's byte t at turn t, and past the recording's end of a 0,
 -- as the definition has it: the slice is filled by these.
 use mathlib.Core.Path.{refl, ap, ◌∙◌}
-use Prim.Native.Nat.{ℕ, ◌-◌}
+use Prim.Native.Nat.{ℕ}
 use borrow.Author.Rules.{rules}
 use Rattle.paper_meaning.specs.Meaning.{bit, bit_at, channel_at}
 use Rattle.lists.proofs.Filled.{begun, turn, done}

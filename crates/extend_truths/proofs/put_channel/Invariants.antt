@@ -1,6 +1,5 @@
 -- `put_channel` stores the channel's bit of the recording's byte t at turn t, and past the recording's end of a 0,
 -- as the definition has it: the slice is filled by these.
-use mathlib.Core.Path.{◌∙◌}
 use Prim.Native.Nat.{◌-◌}
 use lib.ListN.{length}
 use Rattle.paper_meaning.specs.Meaning.{bit, channel_at}

@@ -1,7 +1,7 @@
 -- `put_inverse` inverts the byte of place e at turn e; it is a bit, which inverts as a truth does,
 -- so the slice is filled by the inverse truths.
 use mathlib.Core.Path.{refl, ap, ◌∙◌}
-use Prim.Native.Nat.{ℕ, ◌-◌}
+use Prim.Native.Nat.{ℕ}
 use lib.Bits.{bit_xor}
 use borrow.Author.Rules.{rules}
 use Rattle.truth_table.specs.Table.{high_at}

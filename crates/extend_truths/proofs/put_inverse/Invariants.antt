@@ -1,6 +1,5 @@
 -- `put_inverse` inverts the byte of place e at turn e; it is a bit, which inverts as a truth does,
 -- so the slice is filled by the inverse truths.
-use mathlib.Core.Path.{◌∙◌}
 use mathlib.Core.Bool.{not}
 use Prim.Native.Nat.{◌-◌}
 use lib.ListN.{length}

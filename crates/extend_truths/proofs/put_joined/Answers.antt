@@ -1,7 +1,6 @@
 -- `put_joined` joins the bytes of place e at turn e; both are bits, which join as truths do,
 -- so the slice is filled by the joined truths.
 use mathlib.Core.Path.{refl, ap₂, ◌∙◌}
-use Prim.Native.Nat.{◌-◌}
 use borrow.Author.Rules.{rules}
 use Rattle.truth_table.specs.Table.{high_at, joined_byte}
 use Rattle.truth_table.proofs.Joined.{joined_bits}

@@ -1,6 +1,5 @@
 -- `put_joined` joins the bytes of place e at turn e; both are bits, which join as truths do,
 -- so the slice is filled by the joined truths.
-use mathlib.Core.Path.{◌∙◌}
 use Prim.Native.Nat.{◌-◌}
 use lib.ListN.{length}
 use Rattle.paper_meaning.specs.Meaning.{bit}

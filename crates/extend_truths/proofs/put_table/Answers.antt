@@ -1,7 +1,6 @@
 -- `put_table` copies one byte a turn, so the slice is filled by the table's bytes in order;
 -- the slice is no longer than the table, so that each is there.
 use mathlib.Core.Path.{refl}
-use Prim.Native.Nat.{◌-◌}
 use borrow.Author.Rules.{rules}
 use Rattle.lists.proofs.Filled.{begun, turn, done}
 use Rattle.extend_truths.proofs.put_table.Goals as goal

@@ -1,9 +1,8 @@
 -- `truth_from` fills the first places with bits, as many as the assignment has from `at` on but at most n, and leaves 0 at the others;
 -- whichever way it goes, `at` is one before `first`.
 use mathlib.Core.Path.{◌≡◌, ap, ◌∙◌}
-use mathlib.Core.Logic.{⊎_elim}
 use mathlib.Core.List.{List}
-use Prim.Native.Nat.{ℕ, ◌+◌, ◌-◌, ◌≤◌}
+use Prim.Native.Nat.{ℕ, ◌-◌}
 use native.Mathlib.Omega.{arith}
 use lib.ListN.{length, get_or}
 use borrow.Author.Rules.{rules}
@@ -25,5 +24,5 @@ loop-e-preserved c =
 pub returns : goal.returns
 returns c =
     let j = c.if-first-eq0 in
-    let o : j.at ≡ c.args.first - 1 = ⊎_elim (λ w. omega arith) (λ w. omega arith) j.branch in
+    let o : j.at ≡ c.args.first - 1 = omega arith in
     taken c.args.assignment.now c.args.first j.at c.args.n o (omega arith) c.loop-e.invariant.1

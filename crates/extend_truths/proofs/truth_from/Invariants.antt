@@ -1,6 +1,5 @@
 -- `truth_from` fills the first places with bits, as many as the assignment has from `at` on but at most n, and leaves 0 at the others;
 -- whichever way it goes, `at` is one before `first`.
-use mathlib.Core.Path.{◌≡◌, ◌∙◌}
 use Prim.Native.Nat.{◌+◌, ◌-◌, ◌≤◌}
 use Rattle.interval.specs.Limits.{max_count}
 use Rattle.lists.proofs.Fill.{Upto}
