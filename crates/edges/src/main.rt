@@ -3,128 +3,131 @@
 // how many bytes it writes, and whether the rest of its array is as it was. Then searches, in arrays of 255 before.
 #![tactic(auto)]
 
+ghost use Rattle.std.specs.Prelude.{◌≤◌, length};
+
 use file_line::FILE_BYTES;
 use paper_search::Answer;
 use refusal::Reply;
+use std::io;
 
-fn put(bytes: &[u8]) {
-    io::write_all(1, bytes);
+fn put(rt: &impl Print, bytes: &[u8]) -> io::Result<()> {
+    rt.write_all(bytes)
 }
 
-fn put_number(before: &[u8], n: u32) {
-    put(before);
-    io::print_decimal(1, n as u64);
+fn put_number(rt: &impl Print, before: &[u8], n: u32) -> io::Result<()> {
+    put(rt, before)?;
+    rt.print(n)
 }
 
-fn put_reply(r: Reply) {
+fn put_reply(rt: &impl Print, r: Reply) -> io::Result<()> {
     match r {
-        Reply::Yes => put(b"yes"),
+        Reply::Yes => put(rt, b"yes"),
         Reply::No(r) => {
-            put_number(b"no ", r.number);
-            put_number(b" at ", r.place);
+            put_number(rt, b"no ", r.number)?;
+            put_number(rt, b" at ", r.place)
         }
     }
 }
 
 // Questions 1 to 7, and the count of the node table.
-fn put_accepted(text: &[u8], c: u32, k: u32) {
+fn put_accepted(rt: &impl Print, text: &[u8], c: u32, k: u32) -> io::Result<()> {
     let answer = formula_text::accept(text, c, k);
-    put_reply(answer);
+    put_reply(rt, answer)?;
     let tabled = node_calls::node_table(text, c, k);
     let table = tabled.table;
-    put(b" | ");
-    io::print_decimal(1, table.count as u64);
+    put(rt, b" | ")?;
+    rt.print(table.count)
 }
 
 // Questions 1 to 8, and node x.
-fn put_node(text: &[u8], c: u32, k: u32, x: u32) {
-    put_number(b" nodes | node ", x);
-    put(b": ");
+fn put_node(rt: &impl Print, text: &[u8], c: u32, k: u32, x: u32) -> io::Result<()> {
+    put_number(rt, b" nodes | node ", x)?;
+    put(rt, b": ")?;
     let refusal = node_calls::node_refusal(text, c, k, x);
-    put_reply(refusal);
-    put(b" `");
-    put(node_calls::node_text(text, c, k, x));
-    put(b"`\n");
+    put_reply(rt, refusal)?;
+    put(rt, b" `")?;
+    put(rt, node_calls::node_text(text, c, k, x))?;
+    put(rt, b"`\n")
 }
 
 // One line.
-fn edge(label: &[u8], text: &[u8], c: u32, k: u32, x: u32) {
-    put(label);
-    put_number(b" | C ", c);
-    put_number(b", k ", k);
-    put(b" | ");
-    put_accepted(text, c, k);
-    put_node(text, c, k, x);
+fn edge(rt: &impl Print, label: &[u8], text: &[u8], c: u32, k: u32, x: u32) -> io::Result<()> {
+    put(rt, label)?;
+    put_number(rt, b" | C ", c)?;
+    put_number(rt, b", k ", k)?;
+    put(rt, b" | ")?;
+    put_accepted(rt, text, c, k)?;
+    put_node(rt, text, c, k, x)
 }
 
 // A text that is its own label.
-fn own(text: &[u8], c: u32, k: u32, x: u32) {
-    edge(text, text, c, k, x);
+fn own(rt: &impl Print, text: &[u8], c: u32, k: u32, x: u32) -> io::Result<()> {
+    edge(rt, text, text, c, k, x)
 }
 
-fn unstarred() {
-    edge(b"empty", b"", 1, 0, 1);
-    own(b"(T&T", 1, 0, 1);
-    edge(b"T and a blank", b"T ", 1, 0, 1);
-    own(b"#a>=01", 1, 0, 1);
-    own(b"#b>=1", 1, 0, 1);
-    own(b"#b>=1", 2, 0, 2);
-    own(b"#a>=33", 1, 0, 1);
-    own(b"#a>=32", 1, 0, 1);
-    own(b"T", 1, 33, 1);
-    own(b"T", 1, 32, 1);
+fn unstarred(rt: &impl Print) -> io::Result<()> {
+    edge(rt, b"empty", b"", 1, 0, 1)?;
+    own(rt, b"(T&T", 1, 0, 1)?;
+    edge(rt, b"T and a blank", b"T ", 1, 0, 1)?;
+    own(rt, b"#a>=01", 1, 0, 1)?;
+    own(rt, b"#b>=1", 1, 0, 1)?;
+    own(rt, b"#b>=1", 2, 0, 2)?;
+    own(rt, b"#a>=33", 1, 0, 1)?;
+    own(rt, b"#a>=32", 1, 0, 1)?;
+    own(rt, b"T", 1, 33, 1)?;
+    own(rt, b"T", 1, 32, 1)
 }
 
-fn long_texts() {
+fn long_texts(rt: &impl Print) -> io::Result<()> {
     let mut long = [b'!'; 256];
-    edge(b"256 bytes", &long, 1, 0, 1);
+    edge(rt, b"256 bytes", &long, 1, 0, 1)?;
     long[63] = b'T';
-    edge(b"63 ! and T", &long[..64], 1, 0, 64);
+    edge(rt, b"63 ! and T", &long[..64], 1, 0, 64)?;
     long[63] = b'!';
     long[64] = b'T';
-    edge(b"64 ! and T", &long[..65], 1, 0, 1);
+    edge(rt, b"64 ! and T", &long[..65], 1, 0, 1)
 }
 
-fn longest_texts() {
+fn longest_texts(rt: &impl Print) -> io::Result<()> {
     let mut early = [b'!'; 255];
-    edge(b"255 bytes end early", &early, 1, 0, 1);
+    edge(rt, b"255 bytes end early", &early, 1, 0, 1)?;
     early[254] = b'T';
-    edge(b"254 ! and T", &early, 1, 0, 1);
+    edge(rt, b"254 ! and T", &early, 1, 0, 1)
 }
 
-fn many_digits() {
+fn many_digits(rt: &impl Print) -> io::Result<()> {
     let mut digits = [b'9'; 204];
     digits[0] = b'#';
     digits[1] = b'a';
     digits[2] = b'>';
     digits[3] = b'=';
-    edge(b"200 digits", &digits, 1, 0, 1);
+    edge(rt, b"200 digits", &digits, 1, 0, 1)
 }
 
-fn wrong_turns() {
-    edge(b"a blank inside", b"(T &T)", 1, 0, 1);
-    edge(b"NUL inside", b"(T&\0)", 1, 0, 1);
-    edge(b"byte 255 inside", b"[\xff]", 1, 0, 1);
-    own(b"(#a>=33;#b>=1)", 1, 0, 1);
-    own(b"T", 0, 0, 1);
-    own(b"T", 9, 0, 1);
-    own(b"T", 4294967295, 4294967295, 4294967295);
-    own(b"[i]", 8, 0, 1);
-    own(b"[(a;b)]", 8, 0, 1);
-    own(b"a", 8, 0, 1);
+fn wrong_turns(rt: &impl Print) -> io::Result<()> {
+    edge(rt, b"a blank inside", b"(T &T)", 1, 0, 1)?;
+    edge(rt, b"NUL inside", b"(T&\0)", 1, 0, 1)?;
+    edge(rt, b"byte 255 inside", b"[\xff]", 1, 0, 1)?;
+    own(rt, b"(#a>=33;#b>=1)", 1, 0, 1)?;
+    own(rt, b"T", 0, 0, 1)?;
+    own(rt, b"T", 9, 0, 1)?;
+    own(rt, b"T", 4294967295, 4294967295, 4294967295)?;
+    own(rt, b"[i]", 8, 0, 1)?;
+    own(rt, b"[(a;b)]", 8, 0, 1)?;
+    own(rt, b"a", 8, 0, 1)
 }
 
 // Every node of a text, and the numbers before and after.
-fn node_numbers(text: &[u8]) {
-    own(text, 2, 32, 0);
-    own(text, 2, 32, 1);
-    own(text, 2, 32, 2);
-    own(text, 2, 32, 3);
-    own(text, 2, 32, 4);
-    own(text, 2, 32, 5);
-    own(text, 2, 32, 6);
-    own(text, 2, 32, 7);
-    own(text, 2, 32, 4294967295);
+fn node_numbers(rt: &impl Print, text: &[u8]) -> io::Result<()> {
+    own(rt, text, 2, 32, 0)?;
+    own(rt, text, 2, 32, 1)?;
+    own(rt, text, 2, 32, 2)?;
+    own(rt, text, 2, 32, 3)?;
+    own(rt, text, 2, 32, 4)?;
+    own(rt, text, 2, 32, 5)?;
+    own(rt, text, 2, 32, 6)?;
+    own(rt, text, 2, 32, 7)?;
+    own(rt, text, 2, 32, 4294967295)
 }
 
 // Whether every byte from a place on is 7.
@@ -140,49 +143,64 @@ fn sevens_from(bytes: &[u8; FILE_BYTES], at: usize) -> bool {
 }
 
 // One line of the file program.
-fn file(label: &[u8], input: &[u8]) {
+fn file(rt: &impl Print, label: &[u8], input: &[u8]) -> io::Result<()> {
     let mut file = [7u8; FILE_BYTES];
     let n = file_line::file_of_input(input, &mut file);
-    put(label);
-    put(b" | ");
-    io::print_decimal(1, n as u64);
+    put(rt, label)?;
+    put(rt, b" | ")?;
+    rt.print(n)?;
     if sevens_from(&file, n) {
-        put(b" bytes | the rest as it was\n");
+        put(rt, b" bytes | the rest as it was\n")
     } else {
-        put(b" bytes | the rest changed\n");
+        put(rt, b" bytes | the rest changed\n")
+    }
+}
+
+// The place of the first bar from a place on, or the list's length where there is none.
+fn bar_from(list: &[u8], at: usize) -> usize
+    requires { at ≤ length list.now }
+    ensures from { at ≤ result }
+    ensures within { result ≤ length list.now }
+{
+    match list[at..].iter().position(|b| *b == b'|') {
+        Some(n) => at + n,
+        None => list.len(),
     }
 }
 
 // Labels and inputs in turn, each with a bar after it.
-fn files(list: &[u8]) {
+fn files(rt: &impl Print, list: &[u8]) -> io::Result<()> {
     let mut at = 0;
     while at < list.len() {
-        let bar = bytes::scan::find(list, at, list.len(), b'|');
+        let bar = bar_from(list, at);
         if bar == list.len() {
-            return;
+            return Ok(());
         }
         let first = bar + 1;
-        let end = bytes::scan::find(list, first, list.len(), b'|');
-        file(&list[at..bar], &list[first..end]);
+        let end = bar_from(list, first);
+        file(rt, &list[at..bar], &list[first..end])?;
         if end == list.len() {
-            return;
+            return Ok(());
         }
         at = end + 1;
     }
+    Ok(())
 }
 
-fn good_lines() {
+fn good_lines(rt: &impl Print) -> io::Result<()> {
     files(
+        rt,
         b"the example|1 1 #a>=1\n|\
 C 1, k 0|1 0 T\n|\
 C 8, k 32|8 32 T\n|\
 8,192 literals|1 27 !!#!!!T>=1\n|\
 8,193 literals|1 7 !#!!!a>=25\n|",
-    );
+    )
 }
 
-fn bad_lines() {
+fn bad_lines(rt: &impl Print) -> io::Result<()> {
     files(
+        rt,
         b"empty input||\
 a line feed alone|\n|\
 no line feed|1 1 #a>=1|\
@@ -201,11 +219,12 @@ no k|1 #a>=1\n|\
 #a>=01|1 1 #a>=01\n|\
 #b>=1|1 1 #b>=1\n|\
 #a>=33|1 1 #a>=33\n|",
-    );
+    )
 }
 
-fn bad_numbers() {
+fn bad_numbers(rt: &impl Print) -> io::Result<()> {
     files(
+        rt,
         b"C 01|01 1 #a>=1\n|\
 k 01|1 01 #a>=1\n|\
 C 4294967297|4294967297 1 #a>=1\n|\
@@ -213,24 +232,24 @@ k 4294967297|1 4294967297 #a>=1\n|\
 C 0|0 1 #a>=1\n|\
 C 9|9 1 #a>=1\n|\
 k 33|1 33 #a>=1\n|",
-    );
+    )
 }
 
-fn put_byte(before: &[u8], b: u8) {
-    put_number(before, b as u32);
+fn put_byte(rt: &impl Print, before: &[u8], b: u8) -> io::Result<()> {
+    put_number(rt, before, b as u32)
 }
 
-fn put_answer(a: Answer) {
+fn put_answer(rt: &impl Print, a: Answer) -> io::Result<()> {
     match a {
-        Answer::Found(n) => put_number(b"found ", n),
-        Answer::None(n) => put_number(b"none ", n),
-        Answer::Spent(n) => put_number(b"spent ", n),
-        Answer::Refused(r) => put_reply(Reply::No(r)),
+        Answer::Found(n) => put_number(rt, b"found ", n),
+        Answer::None(n) => put_number(rt, b"none ", n),
+        Answer::Spent(n) => put_number(rt, b"spent ", n),
+        Answer::Refused(r) => put_reply(rt, Reply::No(r)),
     }
 }
 
 // One line: the answer with its count, and the four bytes lent for the recording.
-fn sought(text: &[u8], c: u32, k: u32, limit: u32) {
+fn sought(rt: &impl Print, text: &[u8], c: u32, k: u32, limit: u32) -> io::Result<()> {
     let mut variables = [4294967295; 2048];
     let mut marks = [255; 2048];
     let mut values = [255; 256];
@@ -247,45 +266,45 @@ fn sought(text: &[u8], c: u32, k: u32, limit: u32) {
         &mut trail,
         &mut recording,
     );
-    put(text);
-    put_number(b" | C ", c);
-    put_number(b", k ", k);
-    put_number(b", B ", limit);
-    put(b" | ");
-    put_answer(answer);
-    put_byte(b" | ", recording[0]);
-    put_byte(b" ", recording[1]);
-    put_byte(b" ", recording[2]);
-    put_byte(b" ", recording[3]);
-    put(b"\n");
+    put(rt, text)?;
+    put_number(rt, b" | C ", c)?;
+    put_number(rt, b", k ", k)?;
+    put_number(rt, b", B ", limit)?;
+    put(rt, b" | ")?;
+    put_answer(rt, answer)?;
+    put_byte(rt, b" | ", recording[0])?;
+    put_byte(rt, b" ", recording[1])?;
+    put_byte(rt, b" ", recording[2])?;
+    put_byte(rt, b" ", recording[3])?;
+    put(rt, b"\n")
 }
 
 // Instants before channels, the first of two ways, forced values that are no tries, dead tries, and the limit beside N.
-fn searches() {
-    sought(b"((#!a>=1;#a>=1)|(#b>=1;#!b>=1))", 2, 2, 100);
-    sought(b"(([a];[!a])|([!a];[a]))", 1, 3, 100);
-    sought(b"#a>=3", 1, 3, 0);
-    sought(b"(#a>=1&!#b>=1)", 2, 3, 100);
-    sought(b"(#a>=1&!#b>=1)", 2, 3, 2);
-    sought(b"(#a>=1&!#b>=1)", 2, 3, 1);
-    sought(b"(#a>=2&#!a>=2)", 1, 3, 100);
-    sought(b"(#a>=2&#!a>=3)", 1, 4, 4);
-    sought(b"(#a>=2&#!a>=3)", 1, 4, 3);
-    sought(b"T", 2, 4, 4294967295);
-    sought(b"T", 2, 4, 7);
-    sought(b"T", 8, 32, 4294967295);
-    sought(b"T", 9, 4, 1);
+fn searches(rt: &impl Print) -> io::Result<()> {
+    sought(rt, b"((#!a>=1;#a>=1)|(#b>=1;#!b>=1))", 2, 2, 100)?;
+    sought(rt, b"(([a];[!a])|([!a];[a]))", 1, 3, 100)?;
+    sought(rt, b"#a>=3", 1, 3, 0)?;
+    sought(rt, b"(#a>=1&!#b>=1)", 2, 3, 100)?;
+    sought(rt, b"(#a>=1&!#b>=1)", 2, 3, 2)?;
+    sought(rt, b"(#a>=1&!#b>=1)", 2, 3, 1)?;
+    sought(rt, b"(#a>=2&#!a>=2)", 1, 3, 100)?;
+    sought(rt, b"(#a>=2&#!a>=3)", 1, 4, 4)?;
+    sought(rt, b"(#a>=2&#!a>=3)", 1, 4, 3)?;
+    sought(rt, b"T", 2, 4, 4294967295)?;
+    sought(rt, b"T", 2, 4, 7)?;
+    sought(rt, b"T", 8, 32, 4294967295)?;
+    sought(rt, b"T", 9, 4, 1)
 }
 
-fn main() {
-    unstarred();
-    long_texts();
-    longest_texts();
-    many_digits();
-    wrong_turns();
-    node_numbers(b"((T;F)|#a>=12)");
-    good_lines();
-    bad_lines();
-    bad_numbers();
-    searches();
+fn main(rt: HostRuntime) -> io::Result<()> {
+    unstarred(&rt)?;
+    long_texts(&rt)?;
+    longest_texts(&rt)?;
+    many_digits(&rt)?;
+    wrong_turns(&rt)?;
+    node_numbers(&rt, b"((T;F)|#a>=12)")?;
+    good_lines(&rt)?;
+    bad_lines(&rt)?;
+    bad_numbers(&rt)?;
+    searches(&rt)
 }

@@ -1,15 +1,15 @@
 // Writes to standard output.
-use libc::STDOUT_FILENO;
+use std::io;
 
-pub fn put(bytes: &[u8]) {
-    io::write_all(STDOUT_FILENO, bytes);
+pub fn put(rt: &impl Print, bytes: &[u8]) -> io::Result<()> {
+    rt.write_all(bytes)
 }
 
-pub fn put_byte(b: u8) {
+pub fn put_byte(rt: &impl Print, b: u8) -> io::Result<()> {
     let one = [b];
-    put(&one);
+    put(rt, &one)
 }
 
-pub fn put_number(n: usize) {
-    io::print_decimal(STDOUT_FILENO, n as u64);
+pub fn put_number(rt: &impl Print, n: usize) -> io::Result<()> {
+    rt.print(n)
 }

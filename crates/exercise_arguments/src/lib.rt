@@ -7,7 +7,7 @@ pub mod search;
 pub mod task;
 
 // What is wrong; of a channel, by its number.
-#[derive(Drop)]
+#[derive(Clone, Copy)]
 pub enum Fault {
     Long,
     Few,

@@ -6,7 +6,7 @@ use exercise_lines::number::Number;
 pub const TRIES: u32 = 100000;
 
 // What a search is asked for: a recording of so many steps, within a limit of tries.
-#[derive(Drop)]
+#[derive(Clone, Copy)]
 pub enum Sought {
     First { steps: u32, limit: u32 },
     Wrong(Fault),

@@ -3,7 +3,7 @@ use crate::Fault;
 use exercise_lines::number::Number;
 
 // What the lines so far say: a bit for each channel that is given, and how many levels each has; the steps; whether there is a path.
-#[derive(Drop)]
+#[derive(Clone, Copy)]
 struct Given {
     channels: u8,
     levels: usize,
@@ -11,14 +11,14 @@ struct Given {
     file: bool,
 }
 
-#[derive(Drop)]
+#[derive(Clone, Copy)]
 enum Taken {
     Good(Given),
     Bad(Fault),
 }
 
 // What is to be done: a recording of so many steps judged, or the clause file of so many written.
-#[derive(Drop)]
+#[derive(Clone, Copy)]
 pub enum Task {
     Judge(usize),
     File(u32),

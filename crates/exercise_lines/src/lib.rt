@@ -20,7 +20,10 @@ pub fn first(bytes: &[u8], n: usize) -> &[u8]
 fn line_length(input: &[u8]) -> usize
     ensures { result ≤ length input.now }
 {
-    bytes::scan::find(input, 0, input.len(), b'\n')
+    input
+        .iter()
+        .position(|b| *b == b'\n')
+        .unwrap_or(input.len())
 }
 
 // The first line.

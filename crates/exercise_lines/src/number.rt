@@ -9,7 +9,7 @@ use formula_reader::Got;
 // The most tries that a search's limit allows.
 pub const MAX_TRIES: u64 = 4294967295;
 
-#[derive(Drop)]
+#[derive(Clone, Copy)]
 pub enum Number {
     Of(u32),
     // It has a zero before it.

@@ -2,12 +2,14 @@
 #![tactic(auto)]
 
 use file_line::FILE_BYTES;
-use libc::{STDIN_FILENO, STDOUT_FILENO};
+use std::io;
+use std::io::Read;
 
-fn main() {
+fn main(rt: HostRuntime) -> io::Result<()> {
     let mut input = file_line::room_for_input();
-    let n = io::read_full(STDIN_FILENO, &mut input);
+    let room = input.len();
+    let n = io::copy(&mut rt.stdin().take(room as u64), &mut input.as_mut_slice())?;
     let mut file = [0u8; FILE_BYTES];
-    let bytes = file_line::file_of_input(&input[..n], &mut file);
-    io::write_all(STDOUT_FILENO, &file[..bytes]);
+    let bytes = file_line::file_of_input(&input[..room.min(n as usize)], &mut file);
+    rt.write_all(&file[..bytes])
 }
