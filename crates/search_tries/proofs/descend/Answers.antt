@@ -76,7 +76,7 @@ try_literal-last-requires c =
 
 pub overflow_add-n-in-loop-last : goal.overflow_add-n-in-loop-last
 overflow_add-n-in-loop-last c =
-    search (c.loop-last.invariant.2.few, c.if-n-limit-2.false, c.fits.limit, rules)
+    search (c.loop-last.invariant.2.few, c.if-n-limit-2.false, c.ranges.limit.fits, rules)
 
 pub loop-last-preserved : goal.loop-last-preserved
 loop-last-preserved c =
