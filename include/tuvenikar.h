@@ -26,7 +26,7 @@
  * definitions that are. Not proved: the stack figures, measured on x86-64, and TUV_MOST_*, counted.
  *
  * Language: C99 or later, or C++11 or later. Target: x86-64, System V calling convention, 64-bit pointers and size_t. Link
- * libtuvenikar.a, which `rt staticlib tuvenikar` writes; of the firmware it needs memcpy and memset, and nothing else.
+ * libtuvenikar.a, which `rt lib` writes in crates/tuvenikar; of the firmware it needs memcpy and memset, and nothing else.
  * docs/REFERENCE.md says what formulas, tables, files and tries are.
  */
 #ifndef TUVENIKAR_H
