@@ -23,11 +23,10 @@ pub put_sizes-requires : goal.put_sizes-requires
 put_sizes-requires c = (room_enough _ _ _ _ (sym c.ask_room.ensures ∙ c.in_default-ask_room.is)).0
 
 pub read_numbers-requires : goal.read_numbers-requires
-read_numbers-requires c =
-    (
-      file_held _ (asked_file _ (sym c.ask_file.ensures ∙ c.in_default.is)) c.sizes_at-s.ensures,
-      (room_enough _ _ _ _ (sym c.ask_room.ensures ∙ c.in_default-ask_room.is)).1,
-    )
+read_numbers-requires c = (
+  file_held _ (asked_file _ (sym c.ask_file.ensures ∙ c.in_default.is)) c.sizes_at-s.ensures,
+  (room_enough _ _ _ _ (sym c.ask_room.ensures ∙ c.in_default-ask_room.is)).1,
+)
 
 pub marks_at-requires : goal.marks_at-requires
 marks_at-requires c =

@@ -6,9 +6,8 @@ use borrow.Author.Rules.{rules}
 use Rattle.node_rows.proofs.part_at.Goals as goal
 
 pub returns : goal.returns
-returns c =
-    (
-      ap₂ (λ (n m : ℕ). record { size = n; length = m }) (c.wide.ensures ∙ c.byte_at.ensures) (c.wide-2.ensures ∙ c.byte_at-2.ensures),
-      search rules,
-      search rules,
-    )
+returns c = (
+  ap₂ (λ (n m : ℕ). record { size = n; length = m }) (c.wide.ensures ∙ c.byte_at.ensures) (c.wide-2.ensures ∙ c.byte_at-2.ensures),
+  search rules,
+  search rules,
+)

@@ -28,7 +28,7 @@ overflow_step-i c =
 
 pub loop-i-preserved : goal.loop-i-preserved
 loop-i-preserved c =
-    let i = c.loop-i.invariant in 
+    let i = c.loop-i.invariant in
     (c.visit_rise-r.auto.values ∙ i.0, c.visit_rise-r.auto.trail ∙ i.1, omega (arith, c.loop-i-test.true), loop_turn _ _ i.3 refl c.visit_rise-r.ensures c.if-r.false)
 
 pub returns : goal.returns

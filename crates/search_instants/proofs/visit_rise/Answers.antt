@@ -48,12 +48,11 @@ overflow_sub-first c =
     whole_some 0 _ c.args.block c.requires.2 c.requires.3 c.requires.4 c.if-a-eq0.true c.place.ensures.0
 
 pub settle_both-requires : goal.settle_both-requires
-settle_both-requires c =
-    (
-      c.requires.0.trailing,
-      variable_here c.requires.0 (is_placed (goal.at.settle_both-requires c).Then-a-eq0),
-      inputs_here c.requires.0 (is_placed (goal.at.settle_both-requires c).Then-a-eq0) (whole_both _ _ _ c.requires.2 c.requires.3 c.requires.4 c.if-a-eq0.true c.place.ensures.0 c.if-i-t.false),
-    )
+settle_both-requires c = (
+  c.requires.0.trailing,
+  variable_here c.requires.0 (is_placed (goal.at.settle_both-requires c).Then-a-eq0),
+  inputs_here c.requires.0 (is_placed (goal.at.settle_both-requires c).Then-a-eq0) (whole_both _ _ _ c.requires.2 c.requires.3 c.requires.4 c.if-a-eq0.true c.place.ensures.0 c.if-i-t.false),
+)
 
 pub returns-then-a-eq0 : goal.returns-then-a-eq0
 returns-then-a-eq0 c =

@@ -13,6 +13,9 @@ returns c =
     let a = c.args in let d : length a.kinds.now ≡ max_nodes = search rules in
     let e : length a.firsts.now ≡ max_nodes = search rules in let f : length a.seats.now ≡ max_nodes = search rules in
     let l = seat_told a.kinds.now a.numbers.now a.firsts.now a.seats.now a.k c.requires.3 d e f _ c.number_at-left.ensures in
-    let r = seat_told a.kinds.now a.numbers.now a.firsts.now a.seats.now a.k c.requires.3 d e f _ c.number_at-right.ensures in record { value = block_read _ _ _ _ _ _ _ c.rule_of.ensures c.number_at.ensures c.byte_at-kind.ensures c.byte_at.ensures c.second.ensures.0
-          c.points_of.ensures.0 l.0 r.0; by_index = block_fine a.kinds.now a.numbers.now a.sizes.now a.firsts.now a.k a.x _ c.rule_of.ensures c.number_at.ensures (search rules)
-          (search rules) c.requires.2 c.points_of.ensures.1 l.1 r.1 }
+    let r = seat_told a.kinds.now a.numbers.now a.firsts.now a.seats.now a.k c.requires.3 d e f _ c.number_at-right.ensures in record {
+      value = block_read _ _ _ _ _ _ _ c.rule_of.ensures c.number_at.ensures c.byte_at-kind.ensures c.byte_at.ensures c.second.ensures.0
+          c.points_of.ensures.0 l.0 r.0;
+      by_index = block_fine a.kinds.now a.numbers.now a.sizes.now a.firsts.now a.k a.x _ c.rule_of.ensures c.number_at.ensures (search rules)
+          (search rules) c.requires.2 c.points_of.ensures.1 l.1 r.1;
+    }

@@ -13,7 +13,7 @@ cell_at-at-requires c = let p = c.requires.le_u in some_channel c.args.c c.args.
 
 pub reach_letters-requires : goal.reach_letters-requires
 reach_letters-requires c =
-    let a = c.args in 
+    let a = c.args in
     record { on_ground = c.requires.on_ground; t_lt_k = (instant_below a.c a.k (a.u - 1) (omega (arith, c.requires.le_u.0, c.requires.le_u.1)) c.cell_at-at.ensures, c.requires.le_u.2) }
 
 pub returns : goal.returns

@@ -9,7 +9,7 @@ use Rattle.search_letters.proofs.reach_letter.Goals as goal
 
 pub visit_line-requires : goal.visit_line-requires
 visit_line-requires c =
-    let a = c.args in 
+    let a = c.args in
     let n = node_at a.x c.requires.on_ground.0 refl c.requires.x_lt_count.0 c.block_of-block.ensures.value (c.block_of-block.ensures.by_index a.c c.requires.on_ground.0.channels) c.requires.on_ground.1 in
     let l = speaks_line a.c a.k c.block_of-block.result a.e c.block_of-block.result.rule
     (letter_speaks a.c a.k a.kinds.now a.numbers.now a.sizes.now a.firsts.now a.t a.e a.x

@@ -49,12 +49,11 @@ overflow_add-last-then-is_throughout c =
     omega (arith, throughout_position c.requires.placed (is_whole (goal.at.overflow_add-last-then-is_throughout c).Then-is_throughout), c.requires.standing.0.bounded.steps, c.requires.standing.0.bounded.left)
 
 pub settle_both-requires : goal.settle_both-requires
-settle_both-requires c =
-    (
-      c.requires.standing.0.trailing,
-      variable_here c.requires.standing.0 c.requires.placed,
-      inputs_here c.requires.standing.0 c.requires.placed (whole_gate _ _ _ _ _ _ _ (is_whole (goal.at.settle_both-requires c).Then-is_throughout) (omega (arith, c.if-d-lt2.false)) refl),
-    )
+settle_both-requires c = (
+  c.requires.standing.0.trailing,
+  variable_here c.requires.standing.0 c.requires.placed,
+  inputs_here c.requires.standing.0 c.requires.placed (whole_gate _ _ _ _ _ _ _ (is_whole (goal.at.settle_both-requires c).Then-is_throughout) (omega (arith, c.if-d-lt2.false)) refl),
+)
 
 pub returns-then-is_throughout : goal.returns-then-is_throughout
 returns-then-is_throughout c =
@@ -112,13 +111,12 @@ overflow_add-left-2 c =
     )
 
 pub settle_step-requires : goal.settle_step-requires
-settle_step-requires c =
-    (
-      c.requires.standing.0.trailing,
-      variable_here c.requires.standing.0 c.requires.placed,
-      inputs_here c.requires.standing.0 c.requires.placed (level_gate_lem _ _ _ _ _ _ _ (level_rule c.is_throughout.ensures c.requires.standing.2 c.if-is_throughout.false).1 c.if-a-eq0.false
-          c.if-d-eq0-2.false refl (omega (arith, c.requires.standing.1)) refl),
-    )
+settle_step-requires c = (
+  c.requires.standing.0.trailing,
+  variable_here c.requires.standing.0 c.requires.placed,
+  inputs_here c.requires.standing.0 c.requires.placed (level_gate_lem _ _ _ _ _ _ _ (level_rule c.is_throughout.ensures c.requires.standing.2 c.if-is_throughout.false).1 c.if-a-eq0.false
+      c.if-d-eq0-2.false refl (omega (arith, c.requires.standing.1)) refl),
+)
 
 pub returns : goal.returns
 returns c =

@@ -17,16 +17,19 @@ place-requires c =
 
 pub visit_at-requires : goal.visit_at-requires
 visit_at-requires c =
-    let a = c.args in 
+    let a = c.args in
     let v = c.interval_at-v.result in let o = c.interval_at-v.ensures in
     let b = a.block in
-    let h = halves b c.beyond.ensures refl c.intervals_of-whole.ensures in record { standing = (intervals_stand c.requires.0 c.requires.2 h, c.requires.1, c.requires.3.rows_of); placed = (
+    let h = halves b c.beyond.ensures refl c.intervals_of-whole.ensures in record {
+      standing = (intervals_stand c.requires.0 c.requires.2 h, c.requires.1, c.requires.3.rows_of);
+      placed = (
         interval_here a.k b c.beyond.result c.intervals_of-whole.ensures v o,
         before_at a.k b c.beyond.result c.intervals_of-whole.ensures v o.0 c.place.ensures.0,
-      ) }
+      );
+    }
 
 pub returns : goal.returns
 returns c =
-    let a = c.args in 
+    let a = c.args in
     reached (interval_suffices a.c a.k _ a.block c.requires.2 c.requires.0.laid refl c.requires.4)
     (visited_named (interval_clauses a.c a.k a.block a.x c.beyond.ensures c.intervals_of-whole.ensures) c.visit_at.ensures)

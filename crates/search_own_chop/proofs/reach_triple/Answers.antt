@@ -53,7 +53,7 @@ visit_one-requires c =
 
 pub returns : goal.returns
 returns c =
-    let a = c.args in 
+    let a = c.args in
     let t = c.triple_at-t.result in
     reached (triple_suffices a.c a.k _ a.block c.requires.2 c.requires.0.laid t c.triple_at-t.ensures.0
     (ap (λ (x : ℕ). a.block.first + count_of a.k + x) (sym c.triple_at-t.ensures.1)))

@@ -12,7 +12,7 @@ loop-u-init c = (refl, refl, visits_none _ c.requires.trailing.0)
 
 pub next_forced-next-requires : goal.next_forced-next-requires
 next_forced-next-requires c =
-    let i = c.loop-u.invariant in 
+    let i = c.loop-u.invariant in
     record { by_index = (i.2.grown.trailing.small, c.requires.trailing.1); four = (there i.0 c.requires.four.0, there i.0 c.requires.four.1, there i.0 c.requires.four.2, there i.0 c.requires.four.3) }
 
 pub overflow_mul-result : goal.overflow_mul-result

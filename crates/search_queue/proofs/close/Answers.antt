@@ -26,7 +26,7 @@ bounds-trail-h c = let i = c.loop-h.invariant in omega (arith, i.1, pending_fits
 
 pub reach-r-requires : goal.reach-r-requires
 reach-r-requires c =
-    let i = c.loop-h.invariant in 
+    let i = c.loop-h.invariant in
     record { on_ground = (ground_still i.0 c.requires.on_ground.0, i.2.trailing); tables = (c.requires.on_ground.1, i.5, next_variable i.4 (omega (arith, c.loop-h-test.true))) }
 
 pub returns-then-r : goal.returns-then-r

@@ -24,8 +24,7 @@ block_of-block-requires c =
 
 pub reach-r-requires : goal.reach-r-requires
 reach-r-requires c =
-    let g = c.requires.on_ground.0 in let z = c.last_from-z.ensures in
-    (
+    let g = c.requires.on_ground.0 in let z = c.last_from-z.ensures in (
       node_at c.last_from-z.result g refl z.below c.block_of-block.ensures.value (c.block_of-block.ensures.by_index c.args.c g.channels) c.requires.on_ground.1,
       c.requires.tables.1,
       c.requires.tables.0,
@@ -52,14 +51,17 @@ block_of-up-requires c =
 
 pub reach-requires : goal.reach-requires
 reach-requires c =
-    let g = c.requires.on_ground.0 in let z = c.last_from-z.ensures in 
+    let g = c.requires.on_ground.0 in let z = c.last_from-z.ensures in
     let l = g.grid.upward c.last_from-z.result z.below in
-    let i = row_found g c.requires.tables.3 z.below z.from z.next in record { node = (
+    let i = row_found g c.requires.tables.3 z.below z.from z.next in record {
+      node = (
         node_at _ g c.reach-r.auto.values l c.block_of-up.ensures.value (c.block_of-up.ensures.by_index c.args.c g.channels) c.reach-r.ensures.grown.trailing,
         c.requires.tables.1,
         not_own g.grid _ l c.last_from-z.result c.args.u z.below i (other_row g z.below c.if-z-ne0.true) c.block_of-up.ensures.value,
         c.requires.tables.2,
-      ); tables = c.requires.tables.0 }
+      );
+      tables = c.requires.tables.0;
+    }
 
 pub returns-then-z-ne0 : goal.returns-then-z-ne0
 returns-then-z-ne0 c =

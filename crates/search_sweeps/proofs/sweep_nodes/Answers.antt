@@ -15,8 +15,11 @@ block_at-block-requires c = let s = c.requires.c_le_max_channels in (s.1, omega 
 
 pub sweep_node-r-requires : goal.sweep_node-r-requires
 sweep_node-r-requires c =
-    let i = c.loop-x.invariant in record { fine = (c.block_at-block.ensures.by_index _ c.requires.c_le_max_channels.0, i.3.grown.trailing, c.requires.c_le_max_channels.5); all_mentioned = row_mentioned c.args.c c.args.k _ _ _ _ _ c.block_at-block.result c.block_at-block.ensures.value i.0
-          (c.requires.by_index _ c.loop-x-test.true) }
+    let i = c.loop-x.invariant in record {
+      fine = (c.block_at-block.ensures.by_index _ c.requires.c_le_max_channels.0, i.3.grown.trailing, c.requires.c_le_max_channels.5);
+      all_mentioned = row_mentioned c.args.c c.args.k _ _ _ _ _ c.block_at-block.result c.block_at-block.ensures.value i.0
+          (c.requires.by_index _ c.loop-x-test.true);
+    }
 
 pub returns-then-r : goal.returns-then-r
 returns-then-r c =

@@ -29,14 +29,13 @@ pub overflow_add-e-end : goal.overflow_add-e-end
 overflow_add-e-end c = omega (arith, c.requires.0.bounded.steps)
 
 pub loop-e-init : goal.loop-e-init
-loop-e-init c =
-    (
-      refl,
-      refl,
-      omega arith,
-      first_begun c.requires.2 c.requires.3 c.requires.4 c.place.ensures.0 c.place-start.ensures.0 c.place-2.ensures.0,
-      loop_begun _ c.requires.0.trailing,
-    )
+loop-e-init c = (
+  refl,
+  refl,
+  omega arith,
+  first_begun c.requires.2 c.requires.3 c.requires.4 c.place.ensures.0 c.place-start.ensures.0 c.place-2.ensures.0,
+  loop_begun _ c.requires.0.trailing,
+)
 
 pub overflow_add-y : goal.overflow_add-y
 overflow_add-y c =

@@ -26,14 +26,13 @@ pub overflow_add-i-end : goal.overflow_add-i-end
 overflow_add-i-end c = omega (arith, c.requires, c.requires.0.bounded.steps)
 
 pub loop-i-init : goal.loop-i-init
-loop-i-init c =
-    (
-      refl,
-      refl,
-      omega arith,
-      second_begun c.requires.2 c.requires.3 c.requires.4 c.place-start.ensures.0 c.requires.1 c.place.ensures.0,
-      loop_begun _ c.requires.0.trailing,
-    )
+loop-i-init c = (
+  refl,
+  refl,
+  omega arith,
+  second_begun c.requires.2 c.requires.3 c.requires.4 c.place-start.ensures.0 c.requires.1 c.place.ensures.0,
+  loop_begun _ c.requires.0.trailing,
+)
 
 pub overflow_add-y : goal.overflow_add-y
 overflow_add-y c =

@@ -25,7 +25,7 @@ returns-then-r c =
 
 pub loop-e-preserved : goal.loop-e-preserved
 loop-e-preserved c =
-    let i = c.loop-e.invariant in 
+    let i = c.loop-e.invariant in
     (c.settle_by-r.auto.values ∙ i.0, c.settle_by-r.auto.trail ∙ i.1, omega (arith, c.loop-e-test.true), loop_turn _ _ i.3 (raised_pattern _ _ _) (settled_visited c.settle_by-r.ensures) c.if-r.false)
 
 pub returns : goal.returns

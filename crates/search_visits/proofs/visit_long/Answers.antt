@@ -30,7 +30,7 @@ loop-e-preserved c =
     let i = c.loop-e.invariant in let o = sym c.opposed-in-loop-e.ensures in (
       omega (arith, c.loop-e-test.true),
       elim c.if-not-opposed.branch [
-        then-not-opposed+else-free-eq1 w ↦ reading_moved w.free-is w.last-is w.mark-is
+        | then-not-opposed+else-free-eq1 w ↦ reading_moved w.free-is w.last-is w.mark-is
             (reading_first i.1 (o ∙ w.if-not-opposed.true) w.if-free-eq1.false (c.requires.2.1 _ c.loop-e-test.true))
         | else-not-opposed w ↦ reading_moved w.free-is w.last-is w.mark-is (reading_same i.1 (o ∙ w.if-not-opposed.false))
       ],

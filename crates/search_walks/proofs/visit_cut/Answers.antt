@@ -26,8 +26,7 @@ place-requires-2 c = let q = triple_position c.requires.placed c.requires.standi
 
 pub settle_both-requires : goal.settle_both-requires
 settle_both-requires c =
-    let a = c.args in
-    (
+    let a = c.args in (
       c.requires.standing.0.trailing,
       variable_here c.requires.standing.0 c.requires.placed,
       inputs_here c.requires.standing.0 c.requires.placed (cut_gate _ _ _ _ _ _ _ c.requires.standing.2 c.place.ensures.0
@@ -36,7 +35,7 @@ settle_both-requires c =
 
 pub returns : goal.returns
 returns c =
-    let a = c.args in 
+    let a = c.args in
     visited_here c.requires.standing.0 c.requires.placed (cut_gate _ _ _ _ _ _ _ c.requires.standing.2 c.place.ensures.0
     (c.place-2.ensures.0 ∙ ap (λ (j : ℕ). place_of a.k (record { i = a.i + a.e; j = j })) (omega (arith, triple_position c.requires.placed c.requires.standing.2))))
     c.settle_both.ensures

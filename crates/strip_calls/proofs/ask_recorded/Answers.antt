@@ -24,11 +24,10 @@ returns-in-No-ask_recording c =
     )
 
 pub ask_bytes-requires : goal.ask_bytes-requires
-ask_bytes-requires c =
-    (
-      (channels_yes _ (sym c.ask_channels.ensures ∙ c.in_default.is)).1,
-      omega (arith, steps_yes _ (sym c.ask_steps.ensures ∙ c.in_default-ask_steps.is), recording_length _ _ (sym c.ask_recording.ensures ∙ c.in_default-ask_recording.is)),
-    )
+ask_bytes-requires c = (
+  (channels_yes _ (sym c.ask_channels.ensures ∙ c.in_default.is)).1,
+  omega (arith, steps_yes _ (sym c.ask_steps.ensures ∙ c.in_default-ask_steps.is), recording_length _ _ (sym c.ask_recording.ensures ∙ c.in_default-ask_recording.is)),
+)
 
 pub returns : goal.returns
 returns c =

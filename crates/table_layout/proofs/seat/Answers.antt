@@ -13,16 +13,15 @@ overflow_add-result c =
     omega (arith, level_low c.byte_at-n.result c.count.result (search rules) (search rules), c.number_at-first.ensures, c.requires.1 c.args.y)
 
 pub returns-then-byte_at-eq-FORMULA_DURATION : goal.returns-then-byte_at-eq-FORMULA_DURATION
-returns-then-byte_at-eq-FORMULA_DURATION c =
-    (
-      seat_lasting _ _ _ _ _ c.number_at-first.ensures c.byte_at.ensures c.if-byte_at-eq-FORMULA_DURATION.true c.byte_at-n.ensures c.count.ensures.0,
-      omega (
-        arith,
-        level_low c.byte_at-n.result c.count.result (search rules) (search rules),
-        c.number_at-first.ensures,
-        c.requires.1 c.args.y,
-      ),
-    )
+returns-then-byte_at-eq-FORMULA_DURATION c = (
+  seat_lasting _ _ _ _ _ c.number_at-first.ensures c.byte_at.ensures c.if-byte_at-eq-FORMULA_DURATION.true c.byte_at-n.ensures c.count.ensures.0,
+  omega (
+    arith,
+    level_low c.byte_at-n.result c.count.result (search rules) (search rules),
+    c.number_at-first.ensures,
+    c.requires.1 c.args.y,
+  ),
+)
 
 pub returns : goal.returns
 returns c =

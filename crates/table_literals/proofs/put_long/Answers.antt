@@ -19,8 +19,11 @@ last w n = entry (w + (n - 1)) 3 ∷ []
 
 pub put_run-d-requires : goal.put_run-d-requires
 put_run-d-requires c =
-    let a = c.args in record { room = room_first (room_next c.requires.room (entry a.v 0 ∷ []) (inputs a.w a.n ++ last a.w a.n) refl (c.put-b.ensures _ refl refl)) (inputs a.w a.n)
-          (last a.w a.n) refl; n_bound = search rules }
+    let a = c.args in record {
+      room = room_first (room_next c.requires.room (entry a.v 0 ∷ []) (inputs a.w a.n ++ last a.w a.n) refl (c.put-b.ensures _ refl refl)) (inputs a.w a.n)
+          (last a.w a.n) refl;
+      n_bound = search rules;
+    }
 
 pub put-requires : goal.put-requires
 put-requires c =

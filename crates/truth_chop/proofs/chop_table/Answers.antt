@@ -25,12 +25,15 @@ loop-i-init c =
 pub chop_row-requires : goal.chop_row-requires
 chop_row-requires c =
     let l = c.loop-i in
-    let w = l.invariant.1 in record { k_le_max_steps = (search rules, omega arith, w.starts, row_length max_count _ _ _ _ _ w (omega arith), row_zeros max_count _ _ _ _ _ w); k_in_bounds = (
+    let w = l.invariant.1 in record {
+      k_le_max_steps = (search rules, omega arith, w.starts, row_length max_count _ _ _ _ _ w (omega arith), row_zeros max_count _ _ _ _ _ w);
+      k_in_bounds = (
         omega (arith, w.room),
         omega (arith, w.room),
         c.next_rows-nexts.ensures.0,
         c.requires.1,
-      ) }
+      );
+    }
 
 pub loop-i-preserved : goal.loop-i-preserved
 loop-i-preserved c =
