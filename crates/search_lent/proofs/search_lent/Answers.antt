@@ -39,9 +39,10 @@ slice_bounds-draw-end-6 c = sym (length-take-le _ _ c.requires.variables_in_boun
 pub draw-requires : goal.draw-requires
 draw-requires c =
     let p = c.requires.c_le_max_channels in let h = c.requires.variables_in_bounds in
-    parts_fit _ _ p.3.0 p.3.1.is c.requires.measured c.args.values.now c.args.trail.now c.args.recording.now h.0 h.1 h.2
+    let both = parts_fit _ _ p.3.0 p.3.1.is c.requires.measured c.args.values.now c.args.trail.now c.args.recording.now h.0 h.1 h.2
     (omega (arith, c.struct_known-1.given)) p.3.1.letters p.0 p.1 p.2 c.put_seats.ensures c.put_parents.ensures
-    c.put_tables.ensures
+    c.put_tables.ensures in
+    record { ground_of = both.0; values_in_bounds = both.1 }
 
 pub returns : goal.returns
 returns c =

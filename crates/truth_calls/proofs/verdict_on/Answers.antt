@@ -33,10 +33,10 @@ pub returns-then-holds_on : goal.returns-then-holds_on
 returns-then-holds_on c =
     λ f l w.
     simp (sym c.ask_recording.ensures ∙ c.in_default.is, sym c.ask_bytes.ensures ∙ c.in_default-ask_bytes.is)
-    (ap verdict_of (sym c.if-holds_on.true ∙ c.Holds-on.ensures f l w))
+    (ap verdict_of (sym c.if-holds_on.true ∙ c.holds_on.ensures f l w))
 
 pub returns-else-holds_on : goal.returns-else-holds_on
 returns-else-holds_on c =
     λ f l w.
     simp (sym c.ask_recording.ensures ∙ c.in_default.is, sym c.ask_bytes.ensures ∙ c.in_default-ask_bytes.is)
-    (ap verdict_of (sym c.if-holds_on.false ∙ c.Holds-on.ensures f l w))
+    (ap verdict_of (sym c.if-holds_on.false ∙ c.holds_on.ensures f l w))
