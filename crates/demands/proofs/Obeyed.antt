@@ -27,6 +27,7 @@ use Rattle.demands.specs.Calls.{IsText, Ungrammatical, Follows, formula_replies,
 pub yes_both : (p q : List Reply) → AllYes (p ++ q) → AllYes p × AllYes q
 yes_both [] q h = (none_left, h)
 yes_both (Yes ∷ p) q (yes_then h) = let w = yes_both p q h in (yes_then w.0, w.1)
+yes_both (No _ ∷ p) q h = elim h [ ]
 
 first_front : {p : List Reply} (q : List Reply) {r : Refusal} → FirstNo p r → FirstNo (p ++ q) r
 first_front q here = here

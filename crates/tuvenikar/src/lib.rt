@@ -88,8 +88,8 @@ pub extern "C" fn tuv_search(
     recording: &mut [u8],
 ) -> u64
     ensures { let before = arrays variables.old marks.old values.old trail.old recording.old in
-        let after = arrays (new variables) (new marks) (new values) (new trail) (new recording) in
-        SearchLeft (searchedWith c k (old text) limit before) result before after }
+        let after = arrays variables.new marks.new values.new trail.new recording.new in
+        SearchLeft (searched_with c k text.now limit before) result before after }
 {
     answers::pack_answer(search_calls::search(
         text, c, k, limit, variables, marks, values, trail, recording,
