@@ -9,8 +9,10 @@ ghost use Rattle.search_clauses.specs.Clauses.{table_by};
 ghost use Rattle.search_fanout.specs.Fanout.{OnGround};
 ghost use Rattle.search_attempts.specs.Attempts.{Openness, Ready, Undoable, TriesLiteral, TriesHigh};
 
+// The crates above reach the queue through this one: rt goes every way that leads down, and there are fewer then.
 use paper_grammar::MAX_NODES;
 use search_closing::Closed;
+pub use search_queue::start;
 
 // No variable has a value.
 pub fn clear(values: &mut [u8])

@@ -15,9 +15,9 @@ use Rattle.paper_assignments.proofs.Recordings.{recording_length, recording_belo
 use Rattle.paper_closure.specs.Runs.{dead, found, high_in}
 use Rattle.paper_closure.specs.Tree.{Trial, trial, tree}
 use Rattle.search_closing.specs.Values.{held_in}
-use Rattle.search_tries.specs.Tries.{Result, Started}
-use Rattle.search_tries.specs.declared.Below.{Below}
-use Rattle.search_tries.specs.declared.Below.TheVariants.{Dead, Found, Spent}
+use Rattle.search_tree.specs.Tries.{Result, Started}
+use Rattle.search_tree.specs.Below.{Below}
+use Rattle.search_tree.specs.Below.TheVariants.{Dead, Found, Spent}
 use Rattle.paper_search.specs.Search.{unwritten, ended, limited}
 use Rattle.paper_search.specs.declared.Answer.TheVariants as answer
 

@@ -4,14 +4,14 @@
 ghost use Rattle.std.specs.Prelude.{◌≡◌, ◌*◌, ◌^◌, ◌≤◌, ◌<◌, length};
 ghost use Rattle.paper_closure.specs.Tree.{tree};
 ghost use Rattle.search_decode.specs.Decode.{Tables};
-ghost use Rattle.search_tries.specs.Tries.{GroundOf, table_clauses};
+ghost use Rattle.search_tree.specs.Tries.{GroundOf, table_clauses};
 ghost use Rattle.paper_search.specs.Search.{limited};
 ghost use Rattle.paper_search.specs.Left.{left};
 
 use node_rows::NodeTable;
 use paper_grammar::MAX_NODES;
 use paper_search::Answer;
-use search_tries::Below;
+use search_tree::Below;
 
 // The tree of tries of a node table, with values and trail for its variables and a byte for each instant.
 pub fn draw(

@@ -8,9 +8,9 @@ use Rattle.paper_clauses.specs.Clauses.{Clause}
 use Rattle.paper_closure.specs.Closure.{nothing}
 use Rattle.search_closing.specs.Closing.{ClosedTo}
 use Rattle.search_closing.specs.declared.Closed.{Closed}
-use Rattle.search_attempts.specs.Attempts.{Holding}
-use Rattle.search_attempts.proofs.Values.{zero_nothing}
-use Rattle.search_attempts.proofs.Attempts.{holding}
+use Rattle.search_tries.specs.Attempts.{Holding}
+use Rattle.search_tries.proofs.Values.{zero_nothing}
+use Rattle.search_tries.proofs.Attempts.{holding}
 use Rattle.search_tries.specs.Tries.{Started}
 use Rattle.search_tries.specs.declared.Below.{Below}
 

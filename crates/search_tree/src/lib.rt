@@ -7,7 +7,7 @@ ghost use Rattle.search_tries.specs.Tries.{GroundOf, table_clauses, Started};
 
 use node_rows::NodeTable;
 use paper_grammar::MAX_NODES;
-use search_tries::Below;
+pub use search_tries::Below;
 
 // The whole tree, whatever values and trail held before.
 pub fn start(
@@ -28,8 +28,8 @@ pub fn start(
     requires values_in_bounds { (length values.old ≤ length trail.old) × (length values.old < 2 ^ 32) }
     ensures { Started (table_clauses c k table firsts.now) (length values.old) (k * c) limit values.new result }
 {
-    search_attempts::clear(values);
-    let closed = search_queue::start(
+    search_tries::clear(values);
+    let closed = search_tries::start(
         values,
         trail,
         &table.kinds,

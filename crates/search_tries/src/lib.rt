@@ -8,9 +8,11 @@ ghost use Rattle.search_decode.specs.Decode.{Tables};
 ghost use Rattle.search_attempts.specs.Attempts.{Holding};
 ghost use Rattle.search_tries.specs.Tries.{GroundOf, table_clauses, Started};
 
+// The crates above reach these through this one: rt goes every way that leads down, and there are fewer then.
 use interval::Interval;
 use node_rows::NodeTable;
 use paper_grammar::{MAX_CHANNELS, MAX_NODES};
+pub use search_attempts::{clear, start};
 use search_closing::Closed;
 
 // So many tries high can be left to make: each is of another channel variable.

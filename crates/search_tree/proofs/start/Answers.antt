@@ -3,7 +3,7 @@
 use mathlib.Core.Path.{◌∙◌}
 use native.Mathlib.Omega.{arith}
 use Rattle.search_fanout.proofs.Ground.{ground_still}
-use Rattle.search_attempts.proofs.Values.{zero_trailing}
+use Rattle.search_tries.proofs.Values.{zero_trailing}
 use Rattle.search_tree.proofs.Begun.{begun, started_long}
 use Rattle.search_tree.proofs.start.Goals as goal
 
