@@ -16,5 +16,5 @@ abbrev pub Slice : Type 0
 Slice = Both (MutBor (List ℕ)) (MutBor (List ℕ))
 
 -- "In every lent output, places beyond those written are untouched."
-abbrev pub over : {A : Type 0} → List A → List A → List A
+abbrev pub over : List ℕ → List ℕ → List ℕ
 over written before = written ++ drop (length written) before
