@@ -1,7 +1,7 @@
 #!/usr/bin/env python3
 """Brings the repository's own definitions and lemmas to today's spelling: words in snake case, a prime as an apostrophe.
 
-usage: python3 tools/spell.py            at the top, once, after /opt/rattle/port/port.py
+usage: python3 tools/spell.py            at the top, once, after port.py of the kit
        python3 tools/spell.py --check    prints the names that would fall together, and writes nothing
 
     tripleCountOf, no-further, write′  ->  triple_count_of, no_further, write'
