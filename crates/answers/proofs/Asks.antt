@@ -3,8 +3,7 @@
 use mathlib.Core.List.{List, [], ◌∷◌, ◌++◌}
 use Prim.Native.Nat.{ℕ, ◌^◌}
 use lib.ListN.{length}
-use Rattle.refusal.specs.Asked.{Asks, ask_places}
-use Rattle.refusal.specs.declared.Reply.{Reply}
+use Rattle.refusal.specs.Asked.{Asks, ask_places, Reply}
 use Rattle.refusal.proofs.Numbers.{asks_append, places_gives}
 use Rattle.interval.proofs.Gives.{steps_gives, interval_gives}
 use Rattle.paper_grammar.specs.Nodes.{nodes_in}

@@ -10,10 +10,9 @@ use native.Mathlib.Omega.{arith}
 use lib.Dec.{ltb}
 use lib.ListN.{length, drop}
 use borrow.Author.Tests.{ltb-true}
-use Rattle.refusal.specs.Asked.{asked, AllYes, Asks}
+use Rattle.std.specs.Prelude.{Ok, Err}
+use Rattle.refusal.specs.Asked.{asked, AllYes, Asks, Reply, ok}
 use Rattle.refusal.specs.declared.Refusal.{Refusal}
-use Rattle.refusal.specs.declared.Reply.{Reply}
-use Rattle.refusal.specs.declared.Reply.TheVariants.{Yes, No}
 use Rattle.refusal.proofs.Laws.{all_yes_answers}
 use Rattle.refusal.proofs.Numbers.{asked_meets}
 use Rattle.paper_grammar.specs.Limits.{max_length}
@@ -24,7 +23,6 @@ use Rattle.paper_grammar.specs.Nodes.{Node, nodes_in}
 use Rattle.paper_grammar.specs.Questions.{formula_questions}
 use Rattle.formula_text.proofs.Laws.{accepted}
 use Rattle.node_calls.specs.Calls.{node_questions, node_refusal_of, part_place, node_place_of}
-use Rattle.node_calls.specs.declared.Located.TheVariants.{Refused}
 use Rattle.node_calls.proofs.Laws.{both_yes, part_within}
 use Rattle.truth_calls.specs.Evaluation.{recording_questions, read_holds, evaluated}
 use Rattle.table_calls.specs.Table.{After, ask_room, table_questions, tabled}
@@ -102,14 +100,14 @@ module _ (C k : ℕ) (t : List ℕ) where
   unfolding node_place_of node_refusal_of
   located_told x =
       call (Told pack_located located_by) node_numbers (node_questions C k x t) (node_asks C k t x) refl
-      located_refused (λ y. go (drop (x - 1) (nodes_in t)) (all_yes_answers Refused _ y) (short (all_yes_answers No Yes y)))
+      located_refused (λ y. go (drop (x - 1) (nodes_in t)) (all_yes_answers Err _ y) (short (all_yes_answers Err ok y)))
     where
-      short : node_refusal_of C k x t ≡ Yes → length t ≤ max_length
+      short : node_refusal_of C k x t ≡ ok → length t ≤ max_length
       short e = (accepted C k t (both_yes C k x t e).0).bytes.1
 
-      go : (l : List Node) → node_place_of C k x t ≡ part_place l → length t ≤ max_length → Told pack_located located_by (part_place l)
-      go [] e h = part_told 0 0 (omega arith)
-      go (w ∷ l) e h = part_told w.first (length (text_of w.part)) (omega (arith, part_within C k x t w.first (length (text_of w.part)) e))
+      go : (l : List Node) → node_place_of C k x t ≡ Ok (part_place l) → length t ≤ max_length → Told pack_located located_by (Ok (part_place l))
+      go [] e h = part_told (part_place []) (omega arith)
+      go (w ∷ l) e h = part_told (part_place (w ∷ l)) (omega (arith, part_within C k x t (part_place (w ∷ l)) e))
 
 pub file_written_told : (s : Sizes) (variables marks file : List ℕ) → Told pack_written written_by (file_written s variables marks file).answer
 unfolding file_written

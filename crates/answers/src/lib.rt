@@ -5,11 +5,9 @@
 ghost use Rattle.std.specs.Prelude.{◌≡◌};
 ghost use Rattle.answers.specs.Answers.{packed, pack_refusal, pack_verdict, pack_located, pack_written, pack_printed, pack_checked, pack_answer};
 
-use node_calls::Located;
-use paper_assignments::Checked;
+use node_calls::Span;
 use paper_search::Answer;
-use refusal::{Printed, Refusal, Written};
-use truth_calls::Verdict;
+use refusal::Refusal;
 
 // Evaluation: the formula does not hold; it holds.
 pub const TUV_NO: u32 = 64;
@@ -47,67 +45,73 @@ fn pack_refusal(a: Refusal) -> u64
 }
 
 // A node's first byte and length as one value, or the refusal.
-pub fn pack_located(a: Located) -> u64
+#[tactic(auto, unfolding(crate::specs::Answers::pack_located))]
+pub fn pack_located(a: Result<Span, Refusal>) -> u64
     ensures { result ≡ pack_located a }
 {
     match a {
-        Located::Part { first, length } => pack(
+        Ok(span) => pack(
             TUV_NODE_TEXT,
-            first as u32 + 256 * (length as u32),
+            u32::from(span.first) + 256 * u32::from(span.length),
         ),
-        Located::Refused(r) => pack_refusal(r),
+        Err(r) => pack_refusal(r),
     }
 }
 
 // No or yes, or the refusal.
-pub fn pack_verdict(a: Verdict) -> u64
+#[tactic(auto, unfolding(crate::specs::Answers::pack_verdict))]
+pub fn pack_verdict(a: Result<bool, Refusal>) -> u64
     ensures { result ≡ pack_verdict a }
 {
     match a {
-        Verdict::No => pack(TUV_NO, 0),
-        Verdict::Yes => pack(TUV_YES, 0),
-        Verdict::Refused(r) => pack_refusal(r),
+        Ok(false) => pack(TUV_NO, 0),
+        Ok(true) => pack(TUV_YES, 0),
+        Err(r) => pack_refusal(r),
     }
 }
 
 // Written, or the refusal.
-pub fn pack_written(a: Written) -> u64
+#[tactic(auto, unfolding(crate::specs::Answers::pack_written))]
+pub fn pack_written(a: Result<(), Refusal>) -> u64
     ensures { result ≡ pack_written a }
 {
     match a {
-        Written::Done => pack(TUV_WRITTEN, 0),
-        Written::Refused(r) => pack_refusal(r),
+        Ok(()) => pack(TUV_WRITTEN, 0),
+        Err(r) => pack_refusal(r),
     }
 }
 
 // Written with the number of bytes, or the refusal.
-pub fn pack_printed(a: Printed) -> u64
+#[tactic(auto, unfolding(crate::specs::Answers::pack_printed))]
+pub fn pack_printed(a: Result<u32, Refusal>) -> u64
     ensures { result ≡ pack_printed a }
 {
     match a {
-        Printed::Bytes(n) => pack(TUV_WRITTEN, n),
-        Printed::Refused(r) => pack_refusal(r),
+        Ok(n) => pack(TUV_WRITTEN, n),
+        Err(r) => pack_refusal(r),
     }
 }
 
 // Accepted, or the refusal.
-pub fn pack_checked(a: Checked) -> u64
+#[tactic(auto, unfolding(crate::specs::Answers::pack_checked))]
+pub fn pack_checked(a: Result<(), Refusal>) -> u64
     ensures { result ≡ pack_checked a }
 {
     match a {
-        Checked::Accepted => pack(TUV_ACCEPTED, 0),
-        Checked::Refused(r) => pack_refusal(r),
+        Ok(()) => pack(TUV_ACCEPTED, 0),
+        Err(r) => pack_refusal(r),
     }
 }
 
 // Found, none or spent with the count, or the refusal.
-pub fn pack_answer(a: Answer) -> u64
+#[tactic(auto, unfolding(crate::specs::Answers::pack_answer))]
+pub fn pack_answer(a: Result<Answer, Refusal>) -> u64
     ensures { result ≡ pack_answer a }
 {
     match a {
-        Answer::Found(n) => pack(TUV_FOUND, n),
-        Answer::None(n) => pack(TUV_NONE, n),
-        Answer::Spent(n) => pack(TUV_SPENT, n),
-        Answer::Refused(r) => pack_refusal(r),
+        Ok(Answer::Found(n)) => pack(TUV_FOUND, n),
+        Ok(Answer::None(n)) => pack(TUV_NONE, n),
+        Ok(Answer::Spent(n)) => pack(TUV_SPENT, n),
+        Err(r) => pack_refusal(r),
     }
 }

@@ -6,9 +6,9 @@ use mathlib.Core.List.{List, [], ◌∷◌, ◌++◌, flat_map}
 use Prim.Native.Nat.{ℕ, ◌+◌, ◌≤◌, ◌<◌}
 use native.Mathlib.Omega.{arith}
 use lib.ListN.{length}
+use Rattle.std.specs.Prelude.{Err}
+use Rattle.refusal.specs.Asked.{Reply, ok}
 use Rattle.refusal.specs.declared.Refusal.{Refusal}
-use Rattle.refusal.specs.declared.Reply.{Reply}
-use Rattle.refusal.specs.declared.Reply.TheVariants.{Yes, No}
 use Rattle.lists.specs.Listing.{rows}
 use Rattle.lists.proofs.Listing.{rows_rest, rows_next}
 use Rattle.paper_grammar.specs.Trees.{Tree}
@@ -40,21 +40,21 @@ module _ (D : ℕ → List Definition) {n x : ℕ} (h : x < n) where
   after = rows_rest D n (x + 1) (omega arith)
 
   -- the rows before x are met, and row x is asked about, its first clause having the number m
-  module _ (a : Assignment) {m : ℕ} (w : m ≡ 0 + length (clauses_by (rows x D))) (y : Yes ≡ ask_clauses a 0 (clauses_by (rows x D))) {q : Reply} (o : q ≡ ask_clauses a m (clauses_by (D x))) where
+  module _ (a : Assignment) {m : ℕ} (w : m ≡ 0 + length (clauses_by (rows x D))) (y : ok ≡ ask_clauses a 0 (clauses_by (rows x D))) {q : Reply} (o : q ≡ ask_clauses a m (clauses_by (D x))) where
     row_asked : q ≡ ask_clauses a 0 (clauses_by (rows (x + 1) D))
     row_asked = then_asked (rows x D) (D x) (rows_next D x) a 0 y refl w o
 
-    pub row_met : q ≡ Yes → Yes ≡ ask_clauses a 0 (clauses_by (rows (x + 1) D))
+    pub row_met : q ≡ ok → ok ≡ ask_clauses a 0 (clauses_by (rows (x + 1) D))
     row_met e = sym e ∙ row_asked
 
-    pub row_unmet : {r : Refusal} → q ≡ No r → No r ≡ ask_clauses a 0 (clauses_by (rows n D))
+    pub row_unmet : {r : Refusal} → q ≡ Err r → Err r ≡ ask_clauses a 0 (clauses_by (rows n D))
     row_unmet e = first_no (rows (x + 1) D) after.0 after.1 a 0 row_asked e
 
-pub none_met : (a : Assignment) (D : ℕ → List Definition) → Yes ≡ ask_clauses a 0 (clauses_by (rows 0 D))
+pub none_met : (a : Assignment) (D : ℕ → List Definition) → ok ≡ ask_clauses a 0 (clauses_by (rows 0 D))
 unfolding rows clauses_by flat_map ask_clauses
 none_met a D = refl
 
-pub all_met : (a : Assignment) (D : ℕ → List Definition) {n x : ℕ} → x ≤ n → n ≤ x → Yes ≡ ask_clauses a 0 (clauses_by (rows x D)) → Yes ≡ ask_clauses a 0 (clauses_by (rows n D))
+pub all_met : (a : Assignment) (D : ℕ → List Definition) {n x : ℕ} → x ≤ n → n ≤ x → ok ≡ ask_clauses a 0 (clauses_by (rows x D)) → ok ≡ ask_clauses a 0 (clauses_by (rows n D))
 all_met a D {n} {x} h g y = let e : x ≡ n = omega arith in y ∙ ap (λ (n : ℕ). ask_clauses a 0 (clauses_by (rows n D))) e
 
 -- the number of a row's first clause
@@ -82,24 +82,24 @@ module _ (a : Assignment) (T : List Clause) (v : ℕ) {q : Reply} (f : q ≡ ask
 
   -- what the last clause says, its variable being high or low
   abbrev lastly : Bool → Reply
-  lastly h = cond (h || false) Yes (No (record { number = 14; place = 0 + length T }))
+  lastly h = cond (h || false) ok (Err (record { number = 14; place = 0 + length T }))
 
   root_after : either q (lastly (a v)) ≡ ask_clauses a 0 whole
   unfolding ask_clauses meets_clause
   root_after = sym (ask_append a 0 T ((plain v ∷ []) ∷ []) ∙ ap (λ (q : Reply). either q (lastly (a v))) (sym f))
 
-  pub nodes_unmet : {r : Refusal} → q ≡ No r → No r ≡ ask_clauses a 0 whole
+  pub nodes_unmet : {r : Refusal} → q ≡ Err r → Err r ≡ ask_clauses a 0 whole
   nodes_unmet e = sym (ap (λ (q : Reply). either q (lastly (a v))) e) ∙ root_after
 
-  module _ (y : q ≡ Yes) {h : Bool} (g : h ≡ a v) where
+  module _ (y : q ≡ ok) {h : Bool} (g : h ≡ a v) where
     root_next : (b : Bool) → h ≡ b → lastly b ≡ ask_clauses a 0 whole
     root_next b e = ap lastly (sym e ∙ g) ∙ sym (ap (λ (q : Reply). either q (lastly (a v))) y) ∙ root_after
 
-    pub root_met : h ≡ true → Yes ≡ ask_clauses a 0 whole
+    pub root_met : h ≡ true → ok ≡ ask_clauses a 0 whole
     root_met e = root_next true e
 
-    pub root_unmet : h ≡ false → {m : ℕ} → m ≡ 0 + length T → No (record { number = 14; place = m }) ≡ ask_clauses a 0 whole
-    root_unmet e n = ap (λ (m : ℕ). No (record { number = 14; place = m })) n ∙ root_next false e
+    pub root_unmet : h ≡ false → {m : ℕ} → m ≡ 0 + length T → Err (record { number = 14; place = m }) ≡ ask_clauses a 0 whole
+    root_unmet e n = ap (λ (m : ℕ). Err (record { number = 14; place = m })) n ∙ root_next false e
 
 -- ---- a formula's table
 

@@ -1,7 +1,6 @@
 -- What the code asks of a node table before it looks variables up, and the questions that it then asks. Nothing here need be believed: no
 -- call open to others cites it.
 use Rattle.std.specs.Prelude.{List, [], ◌∷◌, ◌++◌, ℕ, ◌+◌}
-use Rattle.refusal.specs.declared.Reply.{Reply}
 use Rattle.lists.specs.Listing.{rows}
 use Rattle.paper_grammar.specs.Trees.{Tree}
 use Rattle.paper_grammar.specs.declared.Sort.TheVariants.{Formula}
@@ -11,7 +10,7 @@ use Rattle.paper_circuit.specs.Circuit.{Definition, variables_of}
 use Rattle.paper_clauses.specs.Clauses.{Clause, plain, clauses_by, clause_table}
 use Rattle.table_layout.specs.Rows.{seat_by, row_definitions}
 use Rattle.paper_assignments.specs.Extension.{value_in}
-use Rattle.refusal.specs.Asked.{ask_places}
+use Rattle.refusal.specs.Asked.{ask_places, Reply}
 use Rattle.paper_assignments.specs.Calls.{ask_assignment, ask_values, ask_clauses}
 
 -- the definitions of the nodes of a table, and their clauses with the last one

@@ -1,8 +1,8 @@
 // A proposed assignment, from anyone: whether it meets every clause, and the recording read from its channel variables.
 #![tactic(auto)]
 
-ghost use Rattle.std.specs.Prelude.{◌≡◌, ℕ, ◌+◌, ◌≤◌, ◌<◌, length, get_or};
-ghost use Rattle.refusal.specs.Asked.{asked};
+ghost use Rattle.std.specs.Prelude.{◌≡◌, ℕ, ◌+◌, ◌≤◌, ◌<◌, length, get_or, Err};
+ghost use Rattle.refusal.specs.Asked.{asked, ok};
 ghost use Rattle.interval.specs.Limits.{max_steps};
 ghost use Rattle.interval.specs.Rows.{RowsOf};
 ghost use Rattle.paper_grammar.specs.Limits.{max_nodes, max_channels};
@@ -19,9 +19,8 @@ ghost use Rattle.check_calls.specs.Rows.{defined_in, root_in, clauses_for, check
 
 use interval::Interval;
 use node_rows::NodeTable;
-use paper_assignments::Checked;
 use paper_grammar::MAX_NODES;
-use refusal::{Refusal, Reply};
+use refusal::Refusal;
 
 // Question 14 of the clauses of all nodes, in number order; `numbered` has the number of each node's first clause.
 fn ask_nodes(
@@ -32,7 +31,7 @@ fn ask_nodes(
     c: u32,
     rows: &[u32],
     k: u32,
-) -> Reply
+) -> Result<(), Refusal>
     requires c_le_max_channels { (c ≤ max_channels) × (k ≤ max_steps) × (table.count ≤ max_nodes) × Low firsts.now × Low numbered.now × RowsOf k rows.now }
     requires by_index { (x : ℕ) → x < table.count → get_or numbered.now x 0 ≡ 0 + weight_to clause_weight k table.kinds table.numbers x }
     requires all_mentioned { AllMentioned (length assignment.now) (defined_in c k table firsts.now) }
@@ -47,11 +46,9 @@ fn ask_nodes(
             k,
             x,
         );
-        if let Reply::No(r) = check_clauses::ask_node(assignment, c, rows, k, block, numbered[x]) {
-            return Reply::No(r);
-        }
+        check_clauses::ask_node(assignment, c, rows, k, block, numbered[x])?;
     }
-    Reply::Yes
+    Ok(())
 }
 
 // Question 14 of the whole table: the nodes' clauses, then the root alone.
@@ -61,7 +58,7 @@ fn ask_table(
     firsts: &[u32; MAX_NODES],
     c: u32,
     k: u32,
-) -> Reply
+) -> Result<(), Refusal>
     requires c_le_max_channels { (c ≤ max_channels) × (k ≤ max_steps) × (table.count ≤ max_nodes) × Low firsts.now }
     requires all_mentioned { AllMentioned (length assignment.now) (defined_in c k table firsts.now)
         × Variable (length assignment.now) (root_in table firsts.now k) }
@@ -79,54 +76,52 @@ fn ask_table(
     );
     let mut rows = [0; Interval::MAX_ROWS];
     Interval::put_rows(&mut rows, k);
-    if let Reply::No(r) = ask_nodes(assignment, table, firsts, &numbered, c, &rows, k) {
-        return Reply::No(r);
-    }
+    ask_nodes(assignment, table, firsts, &numbered, c, &rows, k)?;
     let root = table_layout::seat(&table.kinds, &table.numbers, firsts, k, 0) + k;
     if check_gate::high(assignment, root) {
-        return Reply::Yes;
+        return Ok(());
     }
-    Reply::No(Refusal {
+    Err(Refusal {
         number: 14,
         place: last,
     })
 }
 
 // Questions 12 to 14 and 18, of an accepted formula's node table, with as many places lent for the recording.
-fn ask_proposal(table: NodeTable, c: u32, k: u32, assignment: &[u8], places: usize) -> Reply
+fn ask_proposal(
+    table: NodeTable,
+    c: u32,
+    k: u32,
+    assignment: &[u8],
+    places: usize,
+) -> Result<(), Refusal>
     requires { (c ≤ max_channels) × (k ≤ max_steps) × (table.count ≤ max_nodes) × ((f : Tree Formula) × TableFor c f table) }
-    ensures { (f : Tree Formula) → table ≡ node_table_of f → result ≡ asked (check_questions c k f assignment.now places) Reply.No Reply.Yes }
+    ensures { (f : Tree Formula) → table ≡ node_table_of f → result ≡ asked (check_questions c k f assignment.now places) Err ok }
 {
     let layout = table_layout::layout_of(table, c, k);
     let s = layout.sizes;
     let whole = assignment.len() == s.variables as usize;
     let room = k as usize <= places;
-    if let Reply::No(r) = refusal::ask(12, whole) {
-        return Reply::No(r);
-    }
-    if let Reply::No(r) = recording_questions::ask_below(13, 2, assignment) {
-        return Reply::No(r);
-    }
-    if let Reply::No(r) = ask_table(assignment, table, &layout.firsts, c, k) {
-        return Reply::No(r);
-    }
+    refusal::ask(12, whole)?;
+    recording_questions::ask_below(13, 2, assignment)?;
+    ask_table(assignment, table, &layout.firsts, c, k)?;
     refusal::ask(18, room)
 }
 
 // Whether a proposed assignment meets every clause of a formula of C channels over k steps; the recording is written where it does.
-pub fn check(text: &[u8], c: u32, k: u32, assignment: &[u8], recording: &mut [u8]) -> Checked
+#[tactic(auto, using(crate::proofs::Call::refused_first))]
+pub fn check(
+    text: &[u8],
+    c: u32,
+    k: u32,
+    assignment: &[u8],
+    recording: &mut [u8],
+) -> Result<(), Refusal>
     ensures { record { answer = result; recording = recording.new } ≡ proposed c k text.now assignment.now recording.old }
 {
-    let tabled = node_calls::node_table(text, c, k);
-    let reply = tabled.reply;
-    if let Reply::No(r) = reply {
-        return Checked::Refused(r);
-    }
-    let table = tabled.table;
-    if let Reply::No(r) = ask_proposal(table, c, k, assignment, recording.len()) {
-        return Checked::Refused(r);
-    }
+    let table = node_calls::node_table(text, c, k)?;
+    ask_proposal(table, c, k, assignment, recording.len())?;
     let steps = k as usize;
     check_recording::put_recording(&mut recording[..steps], assignment, c as usize);
-    Checked::Accepted
+    Ok(())
 }

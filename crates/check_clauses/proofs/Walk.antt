@@ -8,9 +8,9 @@ use native.Mathlib.Numerals.{add-one}
 use native.Mathlib.Omega.{arith}
 use lib.ListN.{length, take, drop, length-append, take-append-drop}
 use lib.Seq.{take-suc, take_all}
+use Rattle.std.specs.Prelude.{Err, Ok}
+use Rattle.refusal.specs.Asked.{Reply, ok}
 use Rattle.refusal.specs.declared.Refusal.{Refusal}
-use Rattle.refusal.specs.declared.Reply.{Reply}
-use Rattle.refusal.specs.declared.Reply.TheVariants.{Yes, No}
 use Rattle.interval.specs.Places.{count_of}
 use Rattle.interval.specs.Limits.{max_count}
 use Rattle.lists.specs.Listing.{rows, sum}
@@ -42,10 +42,10 @@ use Rattle.check_gate.proofs.Gates.{no, gate_met, unmet_known}
 
 -- the first no of two
 abbrev pub either : Reply → Reply → Reply
-either Yes q = q
-either (No r) q = No r
+either (Ok _) q = q
+either (Err r) q = Err r
 
-unless : (b : Bool) (p q : Reply) (r : Refusal) → cond b (either p q) (No r) ≡ either (cond b p (No r)) q
+unless : (b : Bool) (p q : Reply) (r : Refusal) → cond b (either p q) (Err r) ≡ either (cond b p (Err r)) q
 unless true p q r = refl
 unless false p q r = refl
 
@@ -71,16 +71,16 @@ module _ (D E : List Definition) {F : List Definition} (e : D ++ E ≡ F) where
     both_asked : ask_clauses a n (clauses_by F) ≡ either q (ask_clauses a (n + length (clauses_by D)) (clauses_by E))
     both_asked = ap (ask_clauses a n) joined ∙ ask_append a n (clauses_by D) (clauses_by E) ∙ rw f refl
 
-    pub first_no : {r : Refusal} → q ≡ No r → No r ≡ ask_clauses a n (clauses_by F)
+    pub first_no : {r : Refusal} → q ≡ Err r → Err r ≡ ask_clauses a n (clauses_by F)
     first_no g = sym (both_asked ∙ rw g refl)
 
-    pub then_asked : {m : ℕ} {p : Reply} → q ≡ Yes → m ≡ n + length (clauses_by D) → p ≡ ask_clauses a m (clauses_by E) → p ≡ ask_clauses a n (clauses_by F)
+    pub then_asked : {m : ℕ} {p : Reply} → q ≡ ok → m ≡ n + length (clauses_by D) → p ≡ ask_clauses a m (clauses_by E) → p ≡ ask_clauses a n (clauses_by F)
     then_asked g h i = sym (both_asked ∙ rw (g, ← h) (sym i))
 
 -- ---- a loop: of D the first x definitions are met, whose clauses have the numbers from n on to m
 
 pub record Met (a : Assignment) (n : ℕ) (D : List Definition) (m x : ℕ) : Type 0 where
-  pub all : Yes ≡ ask_clauses a n (clauses_by (take x D))
+  pub all : ok ≡ ask_clauses a n (clauses_by (take x D))
   pub next : m ≡ n + length (clauses_by (take x D))
 
 module _ {a : Assignment} {n : ℕ} {D : List Definition} where
@@ -89,7 +89,7 @@ module _ {a : Assignment} {n : ℕ} {D : List Definition} where
   met_begun e = subst (Met a n D n) (sym e) (record { all = refl; next = omega arith })
 
   module _ {m x : ℕ} (t : Met a n D m x) where
-    pub met_done : length D ≤ x → Yes ≡ ask_clauses a n (clauses_by D)
+    pub met_done : length D ≤ x → ok ≡ ask_clauses a n (clauses_by D)
     met_done h = t.all ∙ ap (λ (E : List Definition). ask_clauses a n (clauses_by E)) (take_all x D h)
 
     -- the definition in place x comes next
@@ -105,10 +105,10 @@ module _ {a : Assignment} {n : ℕ} {D : List Definition} where
         up_to_here : q ≡ ask_clauses a n (clauses_by (take (x + 1) D))
         up_to_here = then_asked (take x D) (define v gate ∷ []) one_more a n t.all refl t.next (rw one f)
 
-        pub met_turn : {w : ℕ} → q ≡ Yes → w ≡ weight_of clause_weight gate → Met a n D (m + w) (x + 1)
+        pub met_turn : {w : ℕ} → q ≡ ok → w ≡ weight_of clause_weight gate → Met a n D (m + w) (x + 1)
         met_turn g i = record { all = sym g ∙ up_to_here; next = omega (arith, t.next, i, length_joined (take x D) (define v gate ∷ []) one_more, ap length one, gate_clauses v gate) }
 
-        pub met_stopped : {r : Refusal} → q ≡ No r → No r ≡ ask_clauses a n (clauses_by D)
+        pub met_stopped : {r : Refusal} → q ≡ Err r → Err r ≡ ask_clauses a n (clauses_by D)
         met_stopped g = first_no (take (x + 1) D) (drop (x + 1) D) (take-append-drop (x + 1) D) a n up_to_here g
 
       -- no number is more than all clauses come to
@@ -149,10 +149,10 @@ module _ {C k : ℕ} {block : Block} (s : Bounded C k block × (block.points ≤
         (d.variable, d.inputs, g.within, gate_few.0, omega (arith, gate_few.1))
 
     module _ {q : Reply} (f : q ≡ ask_clauses a m (clauses_of (block.first + c.place) gate)) where
-      pub block_turn : {w x : ℕ} → q ≡ Yes → w ≡ weight_of clause_weight gate → x ≡ c.place + 1 → Met a n (defined_by C k block) (m + w) x
+      pub block_turn : {w x : ℕ} → q ≡ ok → w ≡ weight_of clause_weight gate → x ≡ c.place + 1 → Met a n (defined_by C k block) (m + w) x
       block_turn {w} e i j = subst (Met a n (defined_by C k block) (m + w)) (sym j) (met_turn t inside g.here f e i)
 
-      pub block_stopped : {r : Refusal} → q ≡ No r → No r ≡ ask_clauses a n (clauses_by (defined_by C k block))
+      pub block_stopped : {r : Refusal} → q ≡ Err r → Err r ≡ ask_clauses a n (clauses_by (defined_by C k block))
       block_stopped e = met_stopped t inside g.here f e
 
 -- ---- a constant's block: one clause a variable
@@ -168,7 +168,7 @@ module _ (a : Assignment) (m w n : ℕ) (up : Bool) where
   pub constants_begun : Met a m (constants w n up) (m + 0) 0
   constants_begun = let s : Met a m (constants w n up) m 0 = met_begun refl in record { all = s.all; next = omega (arith, s.next) }
 
-  pub constants_done : {e : ℕ} → Met a m (constants w n up) (m + e) e → n ≤ e → Yes ≡ ask_clauses a m (clauses_by (constants w n up))
+  pub constants_done : {e : ℕ} → Met a m (constants w n up) (m + e) e → n ≤ e → ok ≡ ask_clauses a m (clauses_by (constants w n up))
   constants_done t h = met_done t (omega (arith, length_tab n (λ e. define (w + e) (Constant up))))
 
   module _ {e : ℕ} (t : Met a m (constants w n up) (m + e) e) (h : e < n) {b : Bool} (f : b ≡ a (w + e)) where
@@ -207,10 +207,10 @@ module _ (C : ℕ) {k : ℕ} {b t s : Block} (h : Halves k b t s) where
   whole = chopped_by C k (b.first + count_of k) b
 
   module _ (a : Assignment) (n : ℕ) {q : Reply} (f : q ≡ ask_clauses a n (clauses_by (defined_by C k t))) where
-    pub triples_no : {r : Refusal} → q ≡ No r → No r ≡ ask_clauses a n (clauses_by whole)
+    pub triples_no : {r : Refusal} → q ≡ Err r → Err r ≡ ask_clauses a n (clauses_by whole)
     triples_no g = first_no (defined_by C k t) (defined_by C k s) (chopped C h) a n f g
 
-    pub intervals_asked : {w : Weight} {m : ℕ} {p : Reply} → q ≡ Yes → w ≡ clause_weight → m ≡ weight_by w k b.points Cut → p ≡ ask_clauses a (n + m) (clauses_by (defined_by C k s))
+    pub intervals_asked : {w : Weight} {m : ℕ} {p : Reply} → q ≡ ok → w ≡ clause_weight → m ≡ weight_by w k b.points Cut → p ≡ ask_clauses a (n + m) (clauses_by (defined_by C k s))
         → p ≡ ask_clauses a n (clauses_by whole)
     intervals_asked g o e i =
         let m = e ∙ ap (λ (w : Weight). weight_by w k b.points Cut) o ∙ ap (λ (t : Block). weight_by clause_weight k t.points t.rule) (sym h.triples) ∙ sym (block_clauses C k t) in

@@ -14,30 +14,35 @@ ghost use Rattle.paper_assignments.specs.Calls.{ask_clauses};
 ghost use Rattle.table_gates.specs.Mentioned.{Variable, AllMentioned};
 ghost use Rattle.check_clauses.specs.Walk.{constants};
 
-use refusal::{Refusal, Reply};
+use refusal::Refusal;
 use table_blocks::{Block, Rule};
 use table_nodes::cursor::Cursor;
 
 // Question 14 of the clauses of n variables from w on that are all to be high or low (up), one clause each, numbered from m on.
-fn ask_constants(assignment: &[u8], w: u32, n: u32, up: bool, m: u32) -> Reply
+fn ask_constants(assignment: &[u8], w: u32, n: u32, up: bool, m: u32) -> Result<(), Refusal>
     requires { (w < bound) × (n ≤ max_count) × (m < bound) × ((e : ℕ) → e < n → Variable (length assignment.now) (w + e)) }
     ensures { result ≡ ask_clauses (value_in assignment.now) m (clauses_by (constants w n up)) }
 {
-    let mut e = 0;
-    while e < n {
+    for e in 0..n {
         if check_gate::high(assignment, w + e) != up {
-            return Reply::No(Refusal {
+            return Err(Refusal {
                 number: 14,
                 place: m + e,
             });
         }
-        e += 1;
     }
-    Reply::Yes
+    Ok(())
 }
 
 // Question 14 of a block's clauses, gate after gate.
-fn ask_block(assignment: &[u8], c: u32, rows: &[u32], k: u32, block: Block, n: u32) -> Reply
+fn ask_block(
+    assignment: &[u8],
+    c: u32,
+    rows: &[u32],
+    k: u32,
+    block: Block,
+    n: u32,
+) -> Result<(), Refusal>
     requires bounded { (Bounded c k block × (block.points ≤ max_count)) × (n ≤ max_sum + max_weight) × RowsOf k rows.now }
     requires all_mentioned { AllMentioned (length assignment.now) (defined_by c k block) }
     ensures { result ≡ ask_clauses (value_in assignment.now) n (clauses_by (defined_by c k block)) }
@@ -54,22 +59,22 @@ fn ask_block(assignment: &[u8], c: u32, rows: &[u32], k: u32, block: Block, n: u
             cursor.place,
             cursor.position,
         );
-        if let Reply::No(r) = check_gate::ask_gate(
-            assignment,
-            block.first + cursor.place,
-            gate,
-            m,
-        ) {
-            return Reply::No(r);
-        }
+        check_gate::ask_gate(assignment, block.first + cursor.place, gate, m)?;
         m += check_gate::clause_count(gate);
         cursor = cursor.next(k, block);
     }
-    Reply::Yes
+    Ok(())
 }
 
 // A chop: its triples, then its intervals.
-fn ask_chop(assignment: &[u8], c: u32, rows: &[u32], k: u32, block: Block, n: u32) -> Reply
+fn ask_chop(
+    assignment: &[u8],
+    c: u32,
+    rows: &[u32],
+    k: u32,
+    block: Block,
+    n: u32,
+) -> Result<(), Refusal>
     requires fine { Fine c k block × (n ≤ max_sum) × RowsOf k rows.now }
     requires all_mentioned { AllMentioned (length assignment.now) (chopped_by c k (block.first + count_of k) block) }
     ensures { result ≡ ask_clauses (value_in assignment.now) n (clauses_by (chopped_by c k (block.first + count_of k) block)) }
@@ -77,15 +82,20 @@ fn ask_chop(assignment: &[u8], c: u32, rows: &[u32], k: u32, block: Block, n: u3
     let w = table_nodes::beyond(block.first, rows, k);
     let triples = table_nodes::triples_of(w, block);
     let intervals = table_nodes::intervals_of(w, block);
-    if let Reply::No(r) = ask_block(assignment, c, rows, k, triples, n) {
-        return Reply::No(r);
-    }
+    ask_block(assignment, c, rows, k, triples, n)?;
     let before = table_sizes::weigh(table_sizes::clauses(), k, block.points, Rule::Cut);
     ask_block(assignment, c, rows, k, intervals, n + before)
 }
 
 // Question 14 of the clauses of a node's own definitions, numbered from n on. A constant needs no gates.
-pub fn ask_node(assignment: &[u8], c: u32, rows: &[u32], k: u32, block: Block, n: u32) -> Reply
+pub fn ask_node(
+    assignment: &[u8],
+    c: u32,
+    rows: &[u32],
+    k: u32,
+    block: Block,
+    n: u32,
+) -> Result<(), Refusal>
     requires fine { Fine c k block × (n ≤ max_sum) × RowsOf k rows.now }
     requires all_mentioned { AllMentioned (length assignment.now) (node_by c k block (is_chop block.rule)) }
     ensures { result ≡ ask_clauses (value_in assignment.now) n (clauses_by (node_by c k block (is_chop block.rule))) }

@@ -8,6 +8,8 @@ use native.Mathlib.Omega.{arith}
 use borrow.Author.Tests.{not-true, ltb-true, ltb-false}
 use lib.Dec.{ltb}
 use lib.ListN.{length, get_or}
+use Rattle.std.specs.Prelude.{Err, Ok}
+use Rattle.refusal.specs.Asked.{Reply, ok}
 use Rattle.lists.specs.Listing.{tab}
 use Rattle.lists.proofs.Listing.{length_tab, get_or_tab}
 use Rattle.lists.proofs.Tests.{both}
@@ -20,8 +22,6 @@ use Rattle.table_sizes.specs.Weights.{weight_of, clause_weight}
 use Rattle.paper_clauses.specs.Clauses.{plain, negated, Clause, clauses_of, meets_clause, meets_all}
 use Rattle.table_sizes.proofs.Sizes.{gate_clauses}
 use Rattle.paper_clauses.proofs.Meets.{beq_exactly, by_table, any_some, meets_exactly}
-use Rattle.refusal.specs.declared.Reply.{Reply}
-use Rattle.refusal.specs.declared.Reply.TheVariants.{Yes, No}
 use Rattle.paper_assignments.specs.Calls.{ask_clauses}
 use Rattle.check_gate.specs.First.{FirstHigh}
 
@@ -36,11 +36,11 @@ At a up (AnyOf w n) r = FirstHigh a w n r
 At a up (Step p q s) r = r ≡ cond up (cond (a q) 1 0) (cond (a p) 2 3)
 
 abbrev pub no : ℕ → Reply
-no p = No (record { number = 14; place = p })
+no p = Err (record { number = 14; place = p })
 
 abbrev place_of : Reply → ℕ
-place_of Yes = 0
-place_of (No r) = r.place
+place_of (Ok _) = 0
+place_of (Err r) = r.place
 
 -- r are true, and the next is not
 abbrev first_at : List Bool → ℕ → Bool
@@ -64,12 +64,12 @@ bits (b ∷ B) zero = b
 bits (b ∷ B) (suc v) = bits B v
 
 module _ (a : Assignment) where
-  all_met : (n : ℕ) (T : List Clause) → meets_all a T ≡ true → Yes ≡ ask_clauses a n T
+  all_met : (n : ℕ) (T : List Clause) → meets_all a T ≡ true → ok ≡ ask_clauses a n T
   unfolding meets_all ask_clauses
   all_met n [] e = refl
   all_met n (c ∷ T) e = let w = both (meets_clause a c) (meets_all a T) e in rw w.0 (all_met (suc n) T w.1)
 
-  pub gate_met : (v n : ℕ) (g : Gate) → a v ≡ value_of a g → Yes ≡ ask_clauses a n (clauses_of v g)
+  pub gate_met : (v n : ℕ) (g : Gate) → a v ≡ value_of a g → ok ≡ ask_clauses a n (clauses_of v g)
   gate_met v n g e = all_met n (clauses_of v g) ((meets_exactly a v g).1 e)
 
   abbrev met : List Clause → List Bool

@@ -13,7 +13,7 @@ ghost use Rattle.table_gates.specs.Mentioned.{Variable, InputsIn};
 ghost use Rattle.check_gate.specs.First.{FirstHigh, FirstUnmet};
 
 use paper_circuit::Gate;
-use refusal::{Refusal, Reply};
+use refusal::Refusal;
 
 // Whether variable v is high.
 pub fn high(assignment: &[u8], v: u32) -> bool
@@ -28,14 +28,7 @@ fn first_high(assignment: &[u8], w: u32, n: u32) -> u32
     requires { (w + n ≤ 4294967296) × ((e : ℕ) → e < n → Variable (length assignment.now) (w + e)) }
     ensures { FirstHigh (value_in assignment.now) w n result }
 {
-    let mut e = 0;
-    while e < n {
-        if high(assignment, w + e) {
-            return e;
-        }
-        e += 1;
-    }
-    e
+    (0..n).find(|&e| high(assignment, w + e)).unwrap_or(n)
 }
 
 // The gate's value.
@@ -87,33 +80,32 @@ fn first_unmet(assignment: &[u8], up: bool, gate: Gate) -> u32
 }
 
 // Question 14 of a gate's clauses, numbered from n on: all are met where the variable has the gate's value.
-pub fn ask_gate(assignment: &[u8], v: u32, gate: Gate, n: u32) -> Reply
+pub fn ask_gate(assignment: &[u8], v: u32, gate: Gate, n: u32) -> Result<(), Refusal>
     requires { Variable (length assignment.now) v × InputsIn (length assignment.now) gate × Within gate
         × (weight_of clause_weight gate ≤ max_weight) × (n < bound) }
     ensures { result ≡ ask_clauses (value_in assignment.now) n (clauses_of v gate) }
 {
     let up = high(assignment, v);
     if up == value(assignment, gate) {
-        return Reply::Yes;
+        return Ok(());
     }
-    Reply::No(Refusal {
+    Err(Refusal {
         number: 14,
         place: n + first_unmet(assignment, up, gate),
     })
 }
 
 // How many clauses a gate has.
+#[tactic(auto, unfolding(table_sizes::specs::Weights::weight_of))]
 pub fn clause_count(gate: Gate) -> u32
     requires { weight_of clause_weight gate ≤ max_weight }
     ensures { result ≡ weight_of clause_weight gate }
 {
     match gate {
         Gate::Constant(_) => 1,
-        Gate::Copy(_) => 2,
-        Gate::Inverse(_) => 2,
-        Gate::Both(_, _) => 3,
-        Gate::Either(_, _) => 3,
+        Gate::Copy(_) | Gate::Inverse(_) => 2,
+        Gate::Both(..) | Gate::Either(..) => 3,
         Gate::AnyOf(_, n) => n + 1,
-        Gate::Step(_, _, _) => 4,
+        Gate::Step(..) => 4,
     }
 }

@@ -3,8 +3,7 @@
 use mathlib.Core.Path.{◌≡◌, sym, ap, ◌∙◌, subst}
 use mathlib.Core.Bool.{Bool}
 use mathlib.Core.List.{List}
-use Prim.Native.Nat.{ℕ, suc, ◌+◌, ◌-◌, ◌*◌, ◌^◌, ◌≤◌, ◌<◌}
-use native.Mathlib.Nat.{suc-mul, mul-le-mul_right}
+use Prim.Native.Nat.{ℕ, ◌+◌, ◌-◌, ◌*◌, ◌^◌, ◌≤◌}
 use native.Mathlib.Omega.{arith}
 use lib.Dec.{eqb}
 use lib.ListN.{get_or}
@@ -20,7 +19,3 @@ channel_bit A C t b {at} e q = let o : at + b ≡ channel_of C t b - 1 = omega (
 
 pub byte_done : (f : ℕ → Bool) {b c w : ℕ} → b ≤ c → c ≤ b → Packed b f w → w ≡ sum (λ c. bit (f c) * 2 ^ c) c
 byte_done f {b} {c} {w} h g p = let e : b ≡ c = omega arith in sym (packed_only f w c (subst (λ (n : ℕ). Packed n f w) e p))
-
--- the bytes of an instant are among those of all
-pub row_fits : (t k c : ℕ) {n : ℕ} → t < k → k * c ≤ n → t * c + c ≤ n
-row_fits t k c h g = omega (arith, suc-mul t c, mul-le-mul_right {m = suc t} c h)

@@ -16,8 +16,8 @@ fn recorded(assignment: &[u8], c: usize, t: usize) -> u8
 {
     let at = t * c;
     let mut byte: u8 = 0;
-    for b in 0..c {
-        byte += truth_table::byte_of(assignment[at + b] == 1) << b;
+    for (b, value) in assignment[at..at + c].iter().enumerate() {
+        byte += u8::from(*value == 1) << b;
     }
     byte
 }
@@ -27,7 +27,7 @@ pub fn put_recording(out: &mut [u8], assignment: &[u8], c: usize)
     requires { (c ≤ max_channels) × (length out.old ≤ max_steps) × (length out.old * c ≤ length assignment.now) }
     ensures { out.new ≡ recording_of c (length out.old) assignment.now }
 {
-    for t in 0..out.len() {
-        out[t] = recorded(assignment, c, t);
+    for (t, byte) in out.iter_mut().enumerate() {
+        *byte = recorded(assignment, c, t);
     }
 }

@@ -1,14 +1,13 @@
 -- Demand 2 leaves one answer to each call: ours obeys it, since it asks the same questions and its answer is right; and what is right is
 -- one thing, an equation for most calls, the one extension, the one recording with these channels, the one table of a file for the rest.
 use mathlib.Core.Path.{◌≡◌, refl, sym, ap, ap₂, ◌∙◌, subst}
-use mathlib.Core.Bool.{◌&&◌}
+use mathlib.Core.Bool.{Bool, ◌&&◌}
 use mathlib.Core.List.{List, [], ◌∷◌, ◌++◌}
 use Prim.Native.Nat.{ℕ, ◌-◌}
 use lib.Dec.{leb}
 use lib.ListN.{length, drop}
-use Rattle.refusal.specs.Asked.{question, AllYes, ask_places}
-use Rattle.refusal.specs.declared.Reply.{Reply}
-use Rattle.refusal.specs.declared.Reply.TheVariants.{Yes, No}
+use Rattle.std.specs.Prelude.{Err, Result, Ok}
+use Rattle.refusal.specs.Asked.{question, AllYes, ask_places, Reply, ok}
 use Rattle.refusal.proofs.Laws.{all_yes_answers}
 use Rattle.paper_grammar.specs.Trees.{Tree}
 use Rattle.paper_grammar.specs.Reader.{Read, on_tree}
@@ -17,20 +16,18 @@ use Rattle.paper_grammar.specs.Nodes.{Node, nodes_of, nodes_in}
 use Rattle.formula_text.proofs.Standing.{text_is}
 use Rattle.formula_text.proofs.Laws.{nodes_read_lem}
 use Rattle.node_calls.specs.Calls.{ask_node, node_refusal_of, part_place, node_place_of}
-use Rattle.node_calls.specs.declared.Located.{Located}
+use Rattle.node_calls.specs.declared.Span.{Span}
 use Rattle.node_calls.proofs.Laws.{chosen}
 use Rattle.paper_circuit.specs.Circuit.{variables_of}
 use Rattle.paper_clauses.specs.Clauses.{clause_table}
 use Rattle.paper_clauses.specs.Entries.{flat, places_in}
 use Rattle.table_calls.specs.Table.{sizes_of, sizes_in, ask_room, After, written_table, tabled}
 use Rattle.moments.specs.Moments.{over}
-use Rattle.refusal.specs.declared.Written.TheVariants.{Done}
 use Rattle.paper_meaning.specs.Recording.{ask_recording, ask_bytes}
-use Rattle.truth_calls.specs.Evaluation.{recording_questions, read_holds, verdict_of, evaluated}
-use Rattle.truth_calls.specs.declared.Verdict.{Verdict}
+use Rattle.truth_calls.specs.Evaluation.{recording_questions, read_holds, evaluated}
+use Rattle.refusal.specs.declared.Refusal.{Refusal}
 use Rattle.paper_assignments.specs.Extension.{value_in, extension_of, recording_of}
 use Rattle.paper_assignments.specs.Calls.{ask_assignment, ask_values, ask_clauses, clauses_in, Extended, extended, Proposed, proposed}
-use Rattle.paper_assignments.specs.declared.Checked.TheVariants as checked
 use Rattle.paper_assignments.proofs.Values.{extension_length}
 use Rattle.paper_assignments.proofs.Recordings.{recording_length, recording_below, recording_channels, recording_only}
 use Rattle.paper_assignments.proofs.Laws.{extension_bits, extension_channels, extension_meets, extension_only}
@@ -45,15 +42,15 @@ module _ (C k i j : ℕ) (t recording : List ℕ) where
   unfolding evaluated
   evaluated_obeys =
       asked_obeys C k t _ _ _ (recording_questions C k i j recording) _ (λ f w. refl)
-      (λ f w y. ap (λ (o : Read Formula). verdict_of (read_holds recording o (record { i = i; j = j }))) (reads_as t f w))
+      (λ f w y. ap (λ (o : Read Formula). Ok (read_holds recording o (record { i = i; j = j }))) (reads_as t f w))
 
-  pub evaluated_only : (v : Verdict) → Evaluates C k i j t recording v → v ≡ evaluated C k i j t recording
+  pub evaluated_only : (v : Result Bool Refusal) → Evaluates C k i j t recording v → v ≡ evaluated C k i j t recording
   evaluated_only v p = obeys_same C k t _ _ _ (λ f w y a b. a ∙ sym b) p evaluated_obeys
 
 -- ---- a node's text
 
 module _ (C k x : ℕ) (t : List ℕ) where
-  node_text : (f : Tree Formula) → IsText t f → node_refusal_of C k x t ≡ Yes → NodeText t x f (part_place (drop (x - 1) (nodes_in t)))
+  node_text : (f : Tree Formula) → IsText t f → node_refusal_of C k x t ≡ ok → NodeText t x f (Ok (part_place (drop (x - 1) (nodes_in t))))
   node_text f w e =
       let c = chosen C k x t e in
       let n = nodes_read_lem t f (reads_as t f w) in
@@ -61,12 +58,12 @@ module _ (C k x : ℕ) (t : List ℕ) where
         node = c.chosen;
         rest = _;
         numbered = ap (drop (x - 1)) (sym n) ∙ c.back;
-        part = ap part_place c.back;
+        part = ap (λ (l : List Node). Ok (part_place l)) c.back;
         prints = text_is t c.chosen.part c.chosen.first c.holds.0;
       }
 
-  one_text : (f : Tree Formula) (l m : Located) → NodeText t x f l → NodeText t x f m → l ≡ m
-  one_text f l m v w = v.part ∙ ap part_place (sym v.numbered ∙ w.numbered) ∙ sym w.part
+  one_text : (f : Tree Formula) (l m : Result Span Refusal) → NodeText t x f l → NodeText t x f m → l ≡ m
+  one_text f l m v w = v.part ∙ ap (λ (l : List Node). Ok (part_place l)) (sym v.numbered ∙ w.numbered) ∙ sym w.part
 
   -- question 8, of n nodes
   abbrev asks : ℕ → List Reply
@@ -77,9 +74,9 @@ module _ (C k x : ℕ) (t : List ℕ) where
   located_obeys =
       let same : (f : Tree Formula) → IsText t f → asks (length (nodes_in t)) ≡ asks (length (nodes_of f 0)) = λ f w. ap (λ (l : List Node). asks (length l)) (nodes_read_lem t f (reads_as t f w)) in
       asked_obeys C k t _ _ _ (asks (length (nodes_in t))) _ same
-      (λ f w y. node_text f w (all_yes_answers No Yes (subst AllYes (ap₂ ◌++◌ (sym (formula_asked C k t f w)) (sym (same f w))) y)))
+      (λ f w y. node_text f w (all_yes_answers Err ok (subst AllYes (ap₂ ◌++◌ (sym (formula_asked C k t f w)) (sym (same f w))) y)))
 
-  pub located_only : (l : Located) → Locates C k x t l → l ≡ node_place_of C k x t
+  pub located_only : (l : Result Span Refusal) → Locates C k x t l → l ≡ node_place_of C k x t
   located_only l p = obeys_same C k t _ _ _ (λ f w y a b. one_text f _ _ a b) p located_obeys
 
 -- ---- the table
@@ -114,7 +111,7 @@ module _ (C k : ℕ) (t recording assignment : List ℕ) where
       (λ f w y. (
         extension_of C k recording (nodes_of f 0),
         extension_is f w (yes_both (formula_replies C k t f) _ y).0,
-        ap (λ (l : List Node). record { answer = Done; assignment = over (extension_of C k recording l) assignment }) (nodes_read_lem t f (reads_as t f w)),
+        ap (λ (l : List Node). record { answer = ok; assignment = over (extension_of C k recording l) assignment }) (nodes_read_lem t f (reads_as t f w)),
       ))
 
   pub one_extension : (f : Tree Formula) → IsText t f → AllYes (formula_replies C k t f) → (A : List ℕ) → ExtensionOf C k f recording A → A ≡ extension_of C k recording (nodes_of f 0)
@@ -123,7 +120,7 @@ module _ (C k : ℕ) (t recording assignment : List ℕ) where
   pub extended_only : (x : Extended) → Extends C k t recording assignment x → x ≡ extended C k t recording assignment
   extended_only x p =
       obeys_same C k t _ _ _ (λ f w y a b. let g = (yes_both (formula_replies C k t f) _ y).0 in
-      a.2 ∙ ap (λ (A : List ℕ). record { answer = Done; assignment = over A assignment }) (one_extension f w g a.0 a.1 ∙
+      a.2 ∙ ap (λ (A : List ℕ). record { answer = ok; assignment = over A assignment }) (one_extension f w g a.0 a.1 ∙
       sym (one_extension f w g b.0 b.1)) ∙ sym b.2) p extended_obeys
 
 -- ---- the check
@@ -150,5 +147,5 @@ module _ (C k : ℕ) (t A recording : List ℕ) where
   pub proposed_only : (x : Proposed) → Checks C k t A recording x → x ≡ proposed C k t A recording
   proposed_only x p =
       obeys_same C k t _ _ _ (λ f w y a b. a.2 ∙
-      ap (λ (r : List ℕ). record { answer = checked.Accepted; recording = over r recording }) (one_recording a.0 a.1 ∙
+      ap (λ (r : List ℕ). record { answer = ok; recording = over r recording }) (one_recording a.0 a.1 ∙
       sym (one_recording b.0 b.1)) ∙ sym b.2) p proposed_obeys

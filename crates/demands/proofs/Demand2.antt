@@ -6,9 +6,9 @@ use mathlib.Core.List.{List, [], ◌∷◌, ◌++◌}
 use Prim.Native.Nat.{ℕ, ◌+◌, ◌-◌, ◌*◌, ◌^◌, ◌≤◌}
 use lib.Dec.{leb}
 use lib.ListN.{length, take}
-use Rattle.refusal.specs.Asked.{question, asked, AllYes, FirstNo, ask_places}
+use Rattle.std.specs.Prelude.{Err, Ok}
+use Rattle.refusal.specs.Asked.{question, asked, AllYes, FirstNo, ask_places, ok}
 use Rattle.refusal.specs.declared.Refusal.{Refusal}
-use Rattle.refusal.specs.declared.Reply.TheVariants.{Yes, No}
 use Rattle.interval.specs.Limits.{ask_interval}
 use Rattle.paper_grammar.specs.Trees.{Tree}
 use Rattle.paper_grammar.specs.declared.Sort.TheVariants.{Formula}
@@ -22,12 +22,10 @@ use Rattle.paper_clauses.specs.Entries.{flat, variables_in, marks_in, places_in}
 use Rattle.table_calls.specs.Table.{sizes_of, sizes_in, five_of, ask_room, refused, written, written_table, tabled}
 use Rattle.moments.specs.Moments.{over}
 use Rattle.table_layout.specs.declared.Sizes.{Sizes}
-use Rattle.refusal.specs.declared.Written.TheVariants.{Done}
 use Rattle.paper_meaning.specs.Recording.{ask_recording, ask_bytes, EachBelow}
-use Rattle.truth_calls.specs.Evaluation.{verdict_of, evaluated}
+use Rattle.truth_calls.specs.Evaluation.{evaluated}
 use Rattle.paper_assignments.specs.Extension.{value_in, extension_of, recording_of, meets_last}
 use Rattle.paper_assignments.specs.Calls.{extended, not_accepted, proposed}
-use Rattle.paper_assignments.specs.declared.Checked.TheVariants.{Accepted}
 use Rattle.file_numbers.specs.File.{file_of, file_length, sizes_by, sizes_at, variables_at, marks_at, Words, Octets}
 use Rattle.file_questions.specs.Questions.{ask_file_room, array_questions, file_questions}
 use Rattle.file_calls.specs.Calls.{file_refused, file_written, file_read}
@@ -49,7 +47,7 @@ use Rattle.demands.proofs.Checked as checked
 module _ (C k : ℕ) (t : List ℕ) (f : Tree Formula) (is : IsText t f) where
   -- evaluation is the meaning, on any [i, j]
   pub evaluation_is_meaning : (i j : ℕ) (recording : List ℕ) → AllYes (formula_replies C k t f ++ ask_interval i j k ∷ ask_recording k recording ∷ ask_bytes C recording ∷ [])
-      → evaluated C k i j t recording ≡ verdict_of (holds recording f (record { i = i; j = j }))
+      → evaluated C k i j t recording ≡ Ok (holds recording f (record { i = i; j = j }))
   evaluation_is_meaning i j recording = ((evaluated_obeys C k i j t recording).of_formula f is).all_yes
 
   -- a node's text is that part of the lent text which the node prints
@@ -78,13 +76,13 @@ module _ (C k : ℕ) (t : List ℕ) (f : Tree Formula) (is : IsText t f) where
     -- it is what the extension's call writes;
     pub extension_written : (assignment : List ℕ)
         → AllYes (formula_replies C k t f ++ ask_recording k recording ∷ ask_bytes C recording ∷ ask_places (variables_of C k (nodes_of f 0)) (length assignment) ∷ [])
-        → (A : List ℕ) × ExtensionOf C k f recording A × (extended C k t recording assignment ≡ record { answer = Done; assignment = over A assignment })
+        → (A : List ℕ) × ExtensionOf C k f recording A × (extended C k t recording assignment ≡ record { answer = ok; assignment = over A assignment })
     extension_written assignment = ((extended_obeys C k t recording assignment).of_formula f is).all_yes
 
     module _ (A : List ℕ) (extension : ExtensionOf C k f recording A) (out : List ℕ) where
       -- and the check accepts it and hands the recording back, where that satisfies the formula,
       pub extension_accepted : length recording ≡ k → EachBelow (2 ^ C) recording → holds recording f (record { i = 0; j = k }) ≡ true → k ≤ length out
-          → proposed C k t A out ≡ record { answer = Accepted; recording = over recording out }
+          → proposed C k t A out ≡ record { answer = ok; recording = over recording out }
       extension_accepted = checked.extension_accepted C k t f is yes-1-to-7 recording A extension out
 
       -- or else refuses it at clause M − 1
@@ -93,28 +91,28 @@ module _ (C k : ℕ) (t : List ℕ) (f : Tree Formula) (is : IsText t f) where
       extension_refused = checked.extension_refused C k t f is yes-1-to-7 recording A extension out
 
   -- an accepted assignment is the extension of the recording handed out, which satisfies the formula
-  pub accepted_is_extension : AllYes (formula_replies C k t f) → (A out : List ℕ) → (proposed C k t A out).answer ≡ Accepted
+  pub accepted_is_extension : AllYes (formula_replies C k t f) → (A out : List ℕ) → (proposed C k t A out).answer ≡ ok
       → (A ≡ extension_of C k (recording_of C k A) (nodes_of f 0)) × (holds (recording_of C k A) f (record { i = 0; j = k }) ≡ true)
       × ((proposed C k t A out).recording ≡ over (recording_of C k A) out)
   accepted_is_extension = checked.accepted_extends C k t f is
 
 -- a file written is read back equal, wherever there is room,
-pub written_read_back : (s : Sizes) (variables marks : List ℕ) → Words (five_of s) → Words variables → asked (array_questions s variables marks) No Yes ≡ Yes
+pub written_read_back : (s : Sizes) (variables marks : List ℕ) → Words (five_of s) → Words variables → asked (array_questions s variables marks) Err ok ≡ ok
     → (sizes' variables' marks' : List ℕ) → file_read (file_of (five_of s) variables marks) sizes' variables' marks'
     ≡ asked (ask_room s.literals (length sizes') (length variables') (length marks') ∷ []) (refused sizes' variables' marks')
     (written (five_of s) variables marks sizes' variables' marks')
 written_read_back = read_written
 
 -- and a file that is read is written back equal
-pub read_written_back : (file : List ℕ) → Octets file → asked (file_questions file) No Yes ≡ Yes
+pub read_written_back : (file : List ℕ) → Octets file → asked (file_questions file) Err ok ≡ ok
     → (file' : List ℕ) → file_written (sizes_at file) (variables_at file) (marks_at file) file'
-    ≡ asked (ask_file_room (sizes_at file).literals (length file') ∷ []) (file_refused file') (record { answer = Done; file = over file file' })
+    ≡ asked (ask_file_room (sizes_at file).literals (length file') ∷ []) (file_refused file') (record { answer = ok; file = over file file' })
 read_written_back = write_read
 
 -- a table that is written is one that the file's writer takes
-pub table_is_file : (C k : ℕ) (t : List ℕ) → accept_of C k t ≡ Yes → (file : List ℕ) → file_length (length (places_in C k t)) ≤ length file
+pub table_is_file : (C k : ℕ) (t : List ℕ) → accept_of C k t ≡ ok → (file : List ℕ) → file_length (length (places_in C k t)) ≤ length file
     → file_written (sizes_by (sizes_in C k t)) (variables_in (places_in C k t)) (marks_in (places_in C k t)) file
-    ≡ record { answer = Done; file = over (file_of (sizes_in C k t) (variables_in (places_in C k t)) (marks_in (places_in C k t))) file }
+    ≡ record { answer = ok; file = over (file_of (sizes_in C k t) (variables_in (places_in C k t)) (marks_in (places_in C k t))) file }
 table_is_file = table_written
 
 -- the file program writes the file of the line's table, and no bytes for a line that is refused or any other input

@@ -7,13 +7,13 @@ use mathlib.Core.List.{List, ◌++◌}
 use Prim.Native.Nat.{ℕ, ◌+◌, ◌-◌, ◌*◌, ◌^◌, ◌≤◌}
 use native.Mathlib.Omega.{arith}
 use lib.ListN.{length}
+use Rattle.std.specs.Prelude.{Err}
 use Rattle.paper_meaning.specs.Recording.{EachBelow}
 use Rattle.refusal.specs.Asked.{AllYes, FirstNo}
 use Rattle.refusal.specs.declared.Refusal.{Refusal}
 use Rattle.paper_grammar.specs.Trees.{Tree}
 use Rattle.paper_grammar.specs.declared.Sort.TheVariants.{Formula}
 use Rattle.paper_search.specs.Search.{Arrays, earlier, tree_of, unwritten, searched}
-use Rattle.paper_search.specs.declared.Answer.TheVariants.{Refused}
 use Rattle.paper_search.proofs.Order.{order_one_way, order_either}
 use Rattle.paper_search.proofs.Outcome.{trials_bound}
 use Rattle.demands.specs.Calls.{IsText, Ungrammatical, formula_replies}
@@ -50,10 +50,10 @@ module _ (C k : ℕ) (t : List ℕ) (B : ℕ) (lent : Arrays) where
 
     -- refused by the first no, and the recording's array is as it was
     pub search_refused : (r : Refusal) → FirstNo (formula_replies C k t f ++ own C k t B lent f) r
-        → searched C k t B (lengths lent) lent.recording ≡ unwritten lent.recording (Refused r)
+        → searched C k t B (lengths lent) lent.recording ≡ unwritten lent.recording (Err r)
     search_refused = ((ours_obeys C k t B lent).of_formula f is).first_no
 
   -- so where the text is no formula's
   pub no_formula_refused : (p : ℕ) → Ungrammatical t p → (r : Refusal) → FirstNo (other_replies C k t p) r
-      → searched C k t B (lengths lent) lent.recording ≡ unwritten lent.recording (Refused r)
+      → searched C k t B (lengths lent) lent.recording ≡ unwritten lent.recording (Err r)
   no_formula_refused p u = ((ours_obeys C k t B lent).of_other p u).first_no

@@ -8,9 +8,8 @@ use native.Mathlib.Omega.{arith}
 use lib.ListN.{length, drop, take, take-append-drop}
 use lib.Seq.{take-add}
 use borrow.Author.Tests.{eq-eqb}
-use Rattle.refusal.specs.Asked.{asked, AllYes, yes_then}
-use Rattle.refusal.specs.declared.Reply.{Reply}
-use Rattle.refusal.specs.declared.Reply.TheVariants.{Yes, No}
+use Rattle.std.specs.Prelude.{Err, Ok}
+use Rattle.refusal.specs.Asked.{asked, AllYes, yes_then, Reply, ok}
 use Rattle.refusal.proofs.Laws.{all_yes_answers, one_yes}
 use Rattle.lists.specs.Listing.{rows}
 use Rattle.paper_grammar.specs.Reader.{Read, on_tree}
@@ -20,7 +19,6 @@ use Rattle.paper_clauses.specs.Clauses.{clause_table}
 use Rattle.paper_clauses.specs.Entries.{flat, variables_in, marks_in, places_in}
 use Rattle.table_calls.specs.Table.{sizes_of, sizes_in, five_of, ask_room, After, refused, written}
 use Rattle.table_layout.specs.declared.Sizes.{Sizes}
-use Rattle.refusal.specs.declared.Written.TheVariants.{Done, Refused}
 use Rattle.file_numbers.specs.File.{bytes_of, file_of, number_at, sizes_at, variables_at, marks_at, Words, Octets}
 use Rattle.file_questions.specs.Questions.{ask_arrays, entry_questions, file_questions}
 use Rattle.file_numbers.specs.Held.{Held}
@@ -59,7 +57,7 @@ module _ (file : List ℕ) (o : Octets file) (y : AllYes (file_questions file)) 
   held : Held file S
   held = file_held file (one_yes y).0 refl
 
-  arrays_yes : ask_arrays S.literals (length (variables_at file)) (length (marks_at file)) ≡ Yes
+  arrays_yes : ask_arrays S.literals (length (variables_at file)) (length (marks_at file)) ≡ ok
   unfolding ask_arrays
   arrays_yes = rw (eq-eqb (length (variables_at file)) S.literals (sym (variables_count held)), eq-eqb (length (marks_at file)) S.literals (marks_count held))
 
@@ -97,17 +95,17 @@ module _ (file sizes variables marks : List ℕ) (o : Octets file) where
   read_follows = asked_follows _ _ _ (λ y. (sizes_at file, variables_at file, marks_at file, file_of_lem file o (yes_both (file_questions file) _ y).0, refl))
 
   -- a file has one table
-  one_table : (file_read file sizes variables marks).answer ≡ Done → (s : Sizes) (v m : List ℕ) → FileOf file s v m
+  one_table : (file_read file sizes variables marks).answer ≡ ok → (s : Sizes) (v m : List ℕ) → FileOf file s v m
       → written (five_of s) v m sizes variables marks ≡ file_read file sizes variables marks
   one_table d s v m h =
       go (room s.literals) (subst (λ (f : List ℕ). file_read f sizes variables marks ≡ asked (room s.literals ∷ []) (refused sizes variables marks)
       (written (five_of s) v m sizes variables marks)) h.is
-      (read_written s v m h.sizes h.numbers (all_yes_answers No Yes h.taken) sizes variables marks))
+      (read_written s v m h.sizes h.numbers (all_yes_answers Err ok h.taken) sizes variables marks))
     where
       go : (q : Reply) → file_read file sizes variables marks ≡ asked (q ∷ []) (refused sizes variables marks) (written (five_of s) v m sizes variables marks)
           → written (five_of s) v m sizes variables marks ≡ file_read file sizes variables marks
-      go Yes e = sym e
-      go (No r) e = let p : Refused r ≡ Done = sym (ap (λ (x : After). x.answer) e) ∙ d in let z : ◌≡◌ {A = ℕ} 0 1 = cc in absurd (omega arith)
+      go (Ok _) e = sym e
+      go (Err r) e = let p : Err r ≡ ok = sym (ap (λ (x : After). x.answer) e) ∙ d in let z : ◌≡◌ {A = ℕ} 0 1 = cc in absurd (omega arith)
 
   pub read_only : (x : After) → Reads file sizes variables marks x → x ≡ file_read file sizes variables marks
   read_only x p = follows_two (λ x y. x ≡ y) (λ r. refl) (λ y a b. a.4 ∙ one_table (ap (λ (z : After). z.answer) b.4) a.0 a.1 a.2 a.3) p read_follows

@@ -6,10 +6,9 @@ use mathlib.Core.List.{List, [], ◌∷◌, ◌++◌}
 use Prim.Native.Nat.{ℕ, ◌<◌}
 use native.Mathlib.Decide.{dec_lt}
 use native.Mathlib.Omega.{arith}
-use Rattle.refusal.specs.Asked.{asked, AllYes, none_left, yes_then, FirstNo, here, later}
+use Rattle.std.specs.Prelude.{Err, Ok}
+use Rattle.refusal.specs.Asked.{asked, AllYes, none_left, yes_then, FirstNo, here, later, Reply, ok}
 use Rattle.refusal.specs.declared.Refusal.{Refusal}
-use Rattle.refusal.specs.declared.Reply.{Reply}
-use Rattle.refusal.specs.declared.Reply.TheVariants.{Yes, No}
 use Rattle.refusal.proofs.Laws.{all_yes_or_first_no, all_yes_answers, first_no_answers}
 use Rattle.interval.specs.Limits.{ask_steps}
 use Rattle.paper_grammar.specs.Trees.{Tree, Letters, Place}
@@ -26,14 +25,14 @@ use Rattle.demands.specs.Calls.{IsText, Ungrammatical, Follows, formula_replies,
 
 pub yes_both : (p q : List Reply) → AllYes (p ++ q) → AllYes p × AllYes q
 yes_both [] q h = (none_left, h)
-yes_both (Yes ∷ p) q (yes_then h) = let w = yes_both p q h in (yes_then w.0, w.1)
-yes_both (No _ ∷ p) q h = elim h [ ]
+yes_both (Ok _ ∷ p) q (yes_then h) = let w = yes_both p q h in (yes_then w.0, w.1)
+yes_both (Err _ ∷ p) q h = elim h [ ]
 
 first_front : {p : List Reply} (q : List Reply) {r : Refusal} → FirstNo p r → FirstNo (p ++ q) r
 first_front q here = here
 first_front q (later f) = later (first_front q f)
 
-never_no : {r : Refusal} {q : List Reply} → AllYes (No r ∷ q) → ⊥
+never_no : {r : Refusal} {q : List Reply} → AllYes (Err r ∷ q) → ⊥
 never_no = elim [ ]
 
 -- ---- a call by its own questions
@@ -92,7 +91,7 @@ stops_there t p u = go (read t) refl
 
 -- the replies to 1 to 4 where the text is no formula's
 abbrev pub other_replies : ℕ → ℕ → List ℕ → ℕ → List Reply
-other_replies C k t p = ask_channels C ∷ ask_steps k ∷ ask_length t ∷ No (record { number = 4; place = p }) ∷ []
+other_replies C k t p = ask_channels C ∷ ask_steps k ∷ ask_length t ∷ Err (record { number = 4; place = p }) ∷ []
 
 module _ (C k : ℕ) (t : List ℕ) where
   pub formula_asked : (f : Tree Formula) → IsText t f → formula_questions C k t ≡ formula_replies C k t f
@@ -101,7 +100,7 @@ module _ (C k : ℕ) (t : List ℕ) where
       let e = reads_as t f w in
       let n = nodes_read_lem t f e in
       ap (λ (o : Read Formula). ask_channels C ∷ ask_steps k ∷ ask_length t ∷ on_read o ∷ ask_letters C (nodes_in t) ∷ ask_numbers (nodes_in t) ∷ ask_nodes (nodes_in t) ∷ []) e
-      ∙ ap (λ (l : List Node). ask_channels C ∷ ask_steps k ∷ ask_length t ∷ Yes ∷ ask_letters C l ∷ ask_numbers l ∷ ask_nodes l ∷ []) n
+      ∙ ap (λ (l : List Node). ask_channels C ∷ ask_steps k ∷ ask_length t ∷ ok ∷ ask_letters C l ∷ ask_numbers l ∷ ask_nodes l ∷ []) n
 
   other_asked : (p : ℕ) → Ungrammatical t p → formula_questions C k t ≡ other_replies C k t p ++ (ask_letters C (nodes_in t) ∷ ask_numbers (nodes_in t) ∷ ask_nodes (nodes_in t) ∷ [])
   unfolding ask_grammar
@@ -115,7 +114,7 @@ module _ (C k : ℕ) (t : List ℕ) where
   -- what the formula is where 1 to 7 are answered with yes
   pub taken : (f : Tree Formula) → IsText t f → AllYes (formula_replies C k t f) → Accepted C k t
   unfolding accept_of
-  taken f w y = accepted C k t (all_yes_answers No Yes (subst AllYes (sym (formula_asked f w)) y))
+  taken f w y = accepted C k t (all_yes_answers Err ok (subst AllYes (sym (formula_asked f w)) y))
 
   pub letters_in : (f : Tree Formula) → IsText t f → AllYes (formula_replies C k t f) → Letters C f
   letters_in f w y = let a = taken f w y in subst (Letters C) (same (sym a.reads ∙ reads_as t f w)) a.letters

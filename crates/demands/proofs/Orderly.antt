@@ -10,16 +10,9 @@ use lib.Dec.{leb}
 use lib.ListN.{length, drop, length-append, length-drop, length-map}
 use lib.Seq.{drop-append_seam}
 use borrow.Author.Tests.{leb-true}
-use Rattle.paper_assignments.specs.declared.Checked.TheVariants as checked
-use Rattle.refusal.specs.declared.Written.TheVariants as written
-use Rattle.refusal.specs.declared.Printed.TheVariants as printed
-use Rattle.truth_calls.specs.declared.Verdict.TheVariants as verdict
-use Rattle.node_calls.specs.declared.Located.TheVariants as located
-use Rattle.paper_search.specs.declared.Answer.TheVariants as answer
-use Rattle.refusal.specs.Asked.{asked, AllYes, FirstNo, here, later, Asks, ask_places}
+use Rattle.std.specs.Prelude.{Result, Ok, Err}
+use Rattle.refusal.specs.Asked.{asked, AllYes, FirstNo, here, later, Asks, ask_places, Reply, ok}
 use Rattle.refusal.specs.declared.Refusal.{Refusal}
-use Rattle.refusal.specs.declared.Reply.{Reply}
-use Rattle.refusal.specs.declared.Reply.TheVariants.{Yes, No}
 use Rattle.refusal.proofs.Laws.{all_yes_or_first_no, first_no_answers, all_yes_answers, test_yes, one_yes}
 use Rattle.refusal.proofs.Numbers.{first_no_number}
 use Rattle.lists.proofs.Tests.{both}
@@ -37,10 +30,11 @@ use Rattle.paper_search.proofs.Ends.{End, finds, lacks, spends, end}
 use Rattle.paper_grammar.specs.Reader.{read}
 use Rattle.paper_grammar.specs.Nodes.{Node, nodes_in}
 use Rattle.paper_grammar.specs.Questions.{formula_questions, accept_of}
+use Rattle.node_calls.specs.declared.Span.{Span}
 use Rattle.node_calls.specs.Calls.{node_questions, part_place, part_of, node_place_of, node_text_of, node_refusal_of}
 use Rattle.paper_circuit.specs.Circuit.{variables_of}
 use Rattle.table_layout.specs.declared.Sizes.{Sizes}
-use Rattle.truth_calls.specs.Evaluation.{recording_questions, read_holds, verdict_of, evaluated}
+use Rattle.truth_calls.specs.Evaluation.{recording_questions, read_holds, evaluated}
 use Rattle.paper_assignments.proofs.Values.{extension_length}
 use Rattle.file_numbers.specs.File.{file_of, file_length, sizes_at, variables_at, marks_at}
 use Rattle.file_questions.specs.Questions.{ask_file_room, array_questions, file_questions}
@@ -62,8 +56,8 @@ module _ {A B : Type 0} (tell : A → B) (refusal : Refusal → B) (same : (s r 
     {refused : Refusal → A} (answer : A) (told : (r : Refusal) → tell (refused r) ≡ refusal r) (never : (r : Refusal) → tell answer ≢ refusal r) where
   first_no : (questions : List Reply) {r : Refusal} → tell (asked questions refused answer) ≡ refusal r → FirstNo questions r
   first_no [] {r} e = absurd (never r e)
-  first_no (Yes ∷ q) e = later (first_no q e)
-  first_no (No s ∷ q) {r} e = subst (FirstNo (No s ∷ q)) (same s r (sym (told s) ∙ e)) here
+  first_no (Ok _ ∷ q) e = later (first_no q e)
+  first_no (Err s ∷ q) {r} e = subst (FirstNo (Err s ∷ q)) (same s r (sym (told s) ∙ e)) here
 
   orderly : (numbers : List ℕ) (questions : List Reply) (Left : A → Type 0) → Asks numbers questions → (AllYes questions → Left answer)
       → Orderly tell refusal numbers questions refused Left (asked questions refused answer)
@@ -86,7 +80,7 @@ same_keeps : (n : ℕ) (old new : List ℕ) → new ≡ old → Kept n old new
 same_keeps n old new e = subst (Kept n old) (sym e) (record { long = refl; beyond = refl })
 
 -- question 18 of a table's arrays
-room_yes : (L sizes variables marks : ℕ) → ask_room L sizes variables marks ≡ Yes → (5 ≤ sizes) × (L ≤ variables) × (L ≤ marks)
+room_yes : (L sizes variables marks : ℕ) → ask_room L sizes variables marks ≡ ok → (5 ≤ sizes) × (L ≤ variables) × (L ≤ marks)
 unfolding ask_room
 room_yes L sizes variables marks e =
     let w = both (leb 5 sizes && leb L variables) (leb L marks) (test_yes 18 0 _ e) in
@@ -94,12 +88,12 @@ room_yes L sizes variables marks e =
     (leb-true 5 sizes v.0, leb-true L variables v.1, leb-true L marks w.1)
 
 -- and of one output
-places_yes : (n places : ℕ) → ask_places n places ≡ Yes → n ≤ places
+places_yes : (n places : ℕ) → ask_places n places ≡ ok → n ≤ places
 unfolding ask_places
 places_yes n places e = leb-true n places (test_yes 18 0 _ e)
 
 -- and of the search's recording
-lent_yes : (literals variables k : ℕ) (n : Lent) → ask_lent literals variables k n ≡ Yes → k ≤ n.recording
+lent_yes : (literals variables k : ℕ) (n : Lent) → ask_lent literals variables k n ≡ ok → k ≤ n.recording
 unfolding ask_lent
 lent_yes literals variables k n e =
     let others = leb literals n.variables && leb literals n.marks && leb variables n.values && leb variables n.trail in
@@ -115,93 +109,93 @@ ended_keeps {C} {k} {B} {recording} (spends l) h = same_keeps k recording record
 
 module _ (C k : ℕ) (t : List ℕ) where
   pub evaluation_orderly : (i j : ℕ) (recording : List ℕ)
-      → Orderly (λ v. v) verdict.Refused evaluation_numbers (formula_questions C k t ++ recording_questions C k i j recording) verdict.Refused (λ v. Unit) (evaluated C k i j t recording)
+      → Orderly (λ v. v) Err evaluation_numbers (formula_questions C k t ++ recording_questions C k i j recording) Err (λ v. Unit) (evaluated C k i j t recording)
   unfolding evaluated
   evaluation_orderly i j recording =
-      orderly (λ v. v) verdict.Refused (λ s r q. cc) _ (λ r. refl) (never (read_holds recording (read t) (record { i = i; j = j }))) evaluation_numbers _ _
+      orderly (λ v. v) Err (λ s r q. cc) _ (λ r. refl) (never (read_holds recording (read t) (record { i = i; j = j }))) evaluation_numbers _ _
       (evaluation_asks C k t i j recording) (λ y. tt)
     where
-      never : (b : Bool) (r : Refusal) → verdict_of b ≢ verdict.Refused r
+      never : (b : Bool) (r : Refusal) → ◌≢◌ {A = Result Bool Refusal} (Ok b) (Err r)
       never true r q = absurd (false≢true cc)
       never false r q = absurd (false≢true cc)
 
-  pub node_orderly : (x : ℕ) → Orderly (λ l. l) located.Refused node_numbers (node_questions C k x t) located.Refused (λ l. Unit) (node_place_of C k x t)
+  pub node_orderly : (x : ℕ) → Orderly (λ l. l) Err node_numbers (node_questions C k x t) Err (λ l. Unit) (node_place_of C k x t)
   unfolding node_place_of
-  node_orderly x = orderly (λ l. l) located.Refused (λ s r q. cc) _ (λ r. refl) (never (drop (x - 1) (nodes_in t))) node_numbers _ _ (node_asks C k t x) (λ y. tt)
+  node_orderly x = orderly (λ l. l) Err (λ s r q. cc) _ (λ r. refl) (never (drop (x - 1) (nodes_in t))) node_numbers _ _ (node_asks C k t x) (λ y. tt)
     where
-      never : (l : List Node) (r : Refusal) → part_place l ≢ located.Refused r
+      never : (l : List Node) (r : Refusal) → ◌≢◌ {A = Result Span Refusal} (Ok (part_place l)) (Err r)
       never [] r q = absurd (false≢true cc)
       never (w ∷ l) r q = absurd (false≢true cc)
 
   -- where it is refused, a node's text is the empty part, and the second call gives the number and place
-  pub node_refused : (x : ℕ) (r : Refusal) → node_place_of C k x t ≡ located.Refused r → (node_text_of C k x t ≡ []) × (node_refusal_of C k x t ≡ No r)
+  pub node_refused : (x : ℕ) (r : Refusal) → node_place_of C k x t ≡ Err r → (node_text_of C k x t ≡ []) × (node_refusal_of C k x t ≡ Err r)
   unfolding node_text_of node_refusal_of
-  node_refused x r e = (ap (part_of t) e, first_no_answers No Yes ((node_orderly x).refusals r e).0)
+  node_refused x r e = (ap (part_of t) e, first_no_answers Err ok ((node_orderly x).refusals r e).0)
 
   pub table_orderly : (sizes variables marks : List ℕ)
-      → Orderly (λ (x : After). x.answer) written.Refused table_numbers (table_questions C k t sizes variables marks) (refused sizes variables marks)
+      → Orderly (λ (x : After). x.answer) Err table_numbers (table_questions C k t sizes variables marks) (refused sizes variables marks)
       (λ x. Kept 5 sizes x.sizes × Kept (length (places_in C k t)) variables x.variables × Kept (length (places_in C k t)) marks x.marks) (tabled C k t sizes variables marks)
   unfolding tabled accept_of
   table_orderly sizes variables marks =
       let F = places_in C k t in
-      orderly (λ (x : After). x.answer) written.Refused (λ s r q. cc) _ (λ r. refl) (λ r q. absurd (false≢true cc)) table_numbers
+      orderly (λ (x : After). x.answer) Err (λ s r q. cc) _ (λ r. refl) (λ r q. absurd (false≢true cc)) table_numbers
       (table_questions C k t sizes variables marks) _ (table_asks C k t sizes variables marks)
       (λ y. let w = yes_both (formula_questions C k t) _ y in
       let h = room_yes (length F) (length sizes) (length variables) (length marks) (one_yes w.1).0 in (
-        over_keeps 5 (sizes_in C k t) sizes (five_sizes C k t (all_yes_answers No Yes w.0)).0 h.0,
+        over_keeps 5 (sizes_in C k t) sizes (five_sizes C k t (all_yes_answers Err ok w.0)).0 h.0,
         over_keeps (length F) (variables_in F) variables (length-map F (λ (x : Entry). x.variable)) h.1,
         over_keeps (length F) (marks_in F) marks (length-map F (λ (x : Entry). x.mark)) h.2,
       ))
 
   pub extension_orderly : (recording assignment : List ℕ)
-      → Orderly (λ (x : Extended). x.answer) written.Refused extension_numbers (extension_questions C k t recording assignment) (not_extended assignment)
+      → Orderly (λ (x : Extended). x.answer) Err extension_numbers (extension_questions C k t recording assignment) (not_extended assignment)
       (λ x. Kept (variables_of C k (nodes_in t)) assignment x.assignment) (extended C k t recording assignment)
   unfolding extended
   extension_orderly recording assignment =
-      orderly (λ (x : Extended). x.answer) written.Refused (λ s r q. cc) _ (λ r. refl) (λ r q. absurd (false≢true cc)) extension_numbers
+      orderly (λ (x : Extended). x.answer) Err (λ s r q. cc) _ (λ r. refl) (λ r q. absurd (false≢true cc)) extension_numbers
       (extension_questions C k t recording assignment) _ (extension_asks C k t recording assignment)
       (λ y. over_keeps _ (extension_of C k recording (nodes_in t)) assignment (extension_length C k recording (nodes_in t))
       (places_yes _ _ (one_yes (one_yes (one_yes (yes_both (formula_questions C k t) _ y).1).1).1).0))
 
   pub check_orderly : (A recording : List ℕ)
-      → Orderly (λ (x : Proposed). x.answer) checked.Refused proposal_numbers (proposal_questions C k t A recording) (not_accepted recording)
+      → Orderly (λ (x : Proposed). x.answer) Err proposal_numbers (proposal_questions C k t A recording) (not_accepted recording)
       (λ x. Kept k recording x.recording) (proposed C k t A recording)
   unfolding proposed
   check_orderly A recording =
-      orderly (λ (x : Proposed). x.answer) checked.Refused (λ s r q. cc) _ (λ r. refl) (λ r q. absurd (false≢true cc)) proposal_numbers
+      orderly (λ (x : Proposed). x.answer) Err (λ s r q. cc) _ (λ r. refl) (λ r q. absurd (false≢true cc)) proposal_numbers
       (proposal_questions C k t A recording) _ (proposal_asks C k t A recording)
       (λ y. over_keeps k (recording_of C k A) recording (recording_length C k (value_in A))
       (places_yes _ _ (one_yes (one_yes (one_yes (one_yes (yes_both (formula_questions C k t) _ y).1).1).1).1).0))
 
   pub search_orderly : (B : ℕ) (variables marks values trail recording : List ℕ)
-      → Orderly (λ (x : Searched). x.answer) answer.Refused search_numbers (search_questions C k t (lent_of variables marks values trail recording)) (λ r. unwritten recording (answer.Refused r))
+      → Orderly (λ (x : Searched). x.answer) Err search_numbers (search_questions C k t (lent_of variables marks values trail recording)) (λ r. unwritten recording (Err r))
       (λ x. Kept k recording x.recording) (searched C k t B (lent_of variables marks values trail recording) recording)
   unfolding searched
   search_orderly B variables marks values trail recording =
       let n = lent_of variables marks values trail recording in
       let e = end C k B recording (tree_in C k t) in
-      orderly (λ (x : Searched). x.answer) answer.Refused (λ s r q. cc) _ (λ r. refl) (never_refused e) search_numbers (search_questions C k t n) _ (search_asks C k t n)
+      orderly (λ (x : Searched). x.answer) Err (λ s r q. cc) _ (λ r. refl) (never_refused e) search_numbers (search_questions C k t n) _ (search_asks C k t n)
       (λ y. ended_keeps e (lent_yes (length (places_in C k t)) (variables_of C k (nodes_in t)) k n (one_yes (yes_both (formula_questions C k t) _ y).1).0))
 
 pub writer_orderly : (s : Sizes) (variables marks file : List ℕ)
-    → Orderly (λ (x : FileAfter). x.answer) written.Refused file_numbers (array_questions s variables marks ++ ask_file_room s.literals (length file) ∷ []) (file_refused file)
+    → Orderly (λ (x : FileAfter). x.answer) Err file_numbers (array_questions s variables marks ++ ask_file_room s.literals (length file) ∷ []) (file_refused file)
     (λ x. Kept (file_length s.literals) file x.file) (file_written s variables marks file)
 unfolding file_written
 writer_orderly s variables marks file =
-    orderly (λ (x : FileAfter). x.answer) written.Refused (λ s r q. cc) _ (λ r. refl) (λ r q. absurd (false≢true cc)) file_numbers _ _ (writer_asks s variables marks file)
+    orderly (λ (x : FileAfter). x.answer) Err (λ s r q. cc) _ (λ r. refl) (λ r q. absurd (false≢true cc)) file_numbers _ _ (writer_asks s variables marks file)
     (λ y. let w = yes_both (array_questions s variables marks) _ y in
-    let a = all_yes_answers No Yes w.0 in
+    let a = all_yes_answers Err ok w.0 in
     let l = length_written s variables marks a in
     over_keeps _ (file_of (five_of s) variables marks) file l (omega (arith, l, room_written s variables marks a file (one_yes w.1).0)))
 
 pub reader_orderly : (file sizes variables marks : List ℕ)
-    → Orderly (λ (x : After). x.answer) written.Refused file_numbers
+    → Orderly (λ (x : After). x.answer) Err file_numbers
     (file_questions file ++ ask_room (sizes_at file).literals (length sizes) (length variables) (length marks) ∷ []) (refused sizes variables marks)
     (λ x. Kept 5 sizes x.sizes × Kept (sizes_at file).literals variables x.variables × Kept (sizes_at file).literals marks x.marks) (file_read file sizes variables marks)
 unfolding file_read
 reader_orderly file sizes variables marks =
     let L = (sizes_at file).literals in
-    orderly (λ (x : After). x.answer) written.Refused (λ s r q. cc) _ (λ r. refl) (λ r q. absurd (false≢true cc)) file_numbers _ _ (reader_asks file sizes variables marks)
+    orderly (λ (x : After). x.answer) Err (λ s r q. cc) _ (λ r. refl) (λ r q. absurd (false≢true cc)) file_numbers _ _ (reader_asks file sizes variables marks)
     (λ y. let w = yes_both (file_questions file) _ y in
     let held = file_held file (one_yes w.0).0 refl in
     let h = room_yes L (length sizes) (length variables) (length marks) (one_yes w.1).0 in (
@@ -211,11 +205,11 @@ reader_orderly file sizes variables marks =
     ))
 
 pub strip_orderly : (C k : ℕ) (recording strip : List ℕ)
-    → Orderly (λ (x : Stripped). x.answer) printed.Refused strip_numbers (strip_questions C k recording (length strip)) (not_stripped strip)
+    → Orderly (λ (x : Stripped). x.answer) Err strip_numbers (strip_questions C k recording (length strip)) (not_stripped strip)
     (λ x. Kept ((C + 1) * line_bytes) strip x.strip) (stripped C k recording strip)
 unfolding stripped
 strip_orderly C k recording strip =
-    orderly (λ (x : Stripped). x.answer) printed.Refused (λ s r q. cc) _ (λ r. refl) (λ r q. absurd (false≢true cc)) strip_numbers _ _
+    orderly (λ (x : Stripped). x.answer) Err (λ s r q. cc) _ (λ r. refl) (λ r q. absurd (false≢true cc)) strip_numbers _ _
     (strip_asks C k recording (length strip))
     (λ y. let l = strip_bytes C k recording strip y in
     over_keeps _ (strip_of C k recording) strip l (omega (arith, l, places_yes _ _ (one_yes (yes_both (recorded_questions C k recording) _ y).1).0)))

@@ -8,8 +8,9 @@ use native.Mathlib.Nat.{min-eq_left, min-eq_right}
 use native.Mathlib.Decide.{ℕ_discrete}
 use native.Mathlib.Omega.{arith}
 use lib.ListN.{length}
+use Rattle.std.specs.Prelude.{Result, Ok, Err}
+use Rattle.refusal.specs.Asked.{Reply}
 use Rattle.refusal.specs.declared.Refusal.{Refusal}
-use Rattle.refusal.specs.declared.Reply.{Reply}
 use Rattle.paper_grammar.specs.Trees.{Tree, Letters}
 use Rattle.paper_grammar.specs.Reader.{Read, parsed, stopped, read, on_tree}
 use Rattle.paper_grammar.specs.declared.Sort.TheVariants.{Formula}
@@ -28,7 +29,7 @@ use Rattle.paper_closure.proofs.Runs.{tree_runs, tree_run}
 use Rattle.paper_search.specs.Search.{Arrays, lent_of, ask_lent, tree_of, tree_in, Searched, unwritten, limited, searched, Unchanged, Earliest, count_in}
 use Rattle.paper_search.specs.declared.Lent.{Lent}
 use Rattle.paper_search.specs.declared.Answer.{Answer}
-use Rattle.paper_search.specs.declared.Answer.TheVariants.{Found, None, Spent, Refused}
+use Rattle.paper_search.specs.declared.Answer.TheVariants.{Found, None, Spent}
 use Rattle.paper_search.proofs.Order.{order_one_way}
 use Rattle.paper_search.proofs.Outcome.{dead_none, found_satisfies, found_earliest}
 use Rattle.paper_search.proofs.Ends.{End, finds, lacks, spends, end, found_first, found_within, none_within, spent_beyond, count_least, only_found_writes}
@@ -84,7 +85,7 @@ module _ (C k B : ℕ) (before : List ℕ) (f : Tree Formula) (L : Letters C f) 
     kept = only_found_writes C k B before f L w;
   }
 
-  pub draws_ended : {x : Searched} → End C k B before (tree_of C k f) x → {a : Answer} {after : List ℕ} → Draws C k f B N before a after
+  pub draws_ended : {x : Searched} → End C k B before (tree_of C k f) x → {a : Result Answer Refusal} {after : List ℕ} → Draws C k f B N before a after
       → (a ≡ x.answer) × (after ≡ x.recording)
   draws_ended (finds S e l) d =
       let r = recording_by C k (high_in S) in
@@ -92,18 +93,18 @@ module _ (C k B : ℕ) (before : List ℕ) (f : Tree Formula) (L : Letters C f) 
       let p = d.found_exactly.1 ((r, w.satisfies), l) in
       let m : p.0 ≡ N = sym (ap count_in p.1) ∙ d.count ∙ min-eq_left l in
       let o = d.drawn p.0 p.1 in
-      (p.1 ∙ ap Found m, o.1 ∙ ap (λ (s : List ℕ). over s before) (one_earliest C k f o.0 r o.2 w))
+      (p.1 ∙ ap (λ (n : ℕ). Ok (Found n)) m, o.1 ∙ ap (λ (s : List ℕ). over s before) (one_earliest C k f o.0 r o.2 w))
   draws_ended (lacks e l) d =
       let p = d.none_exactly.1 (dead_none C k f L e, l) in
       let m : p.0 ≡ N = sym (ap count_in p.1) ∙ d.count ∙ min-eq_left l in
-      (p.1 ∙ ap None m, d.kept (λ n q. let z : ◌≡◌ {A = ℕ} 0 1 = cc (p.1, q) in absurd (omega arith)))
+      (p.1 ∙ ap (λ (n : ℕ). Ok (None n)) m, d.kept (λ n q. let z : ◌≡◌ {A = ℕ} 0 1 = cc (p.1, q) in absurd (omega arith)))
   draws_ended (spends l) d =
       let p = d.spent_exactly.1 l in
       let g : B ≤ N = omega arith in
       let m : p.0 ≡ B = sym (ap count_in p.1) ∙ d.count ∙ min-eq_right g in
-      (p.1 ∙ ap Spent m, d.kept (λ n q. let z : ◌≡◌ {A = ℕ} 0 1 = cc (p.1, q) in absurd (omega arith)))
+      (p.1 ∙ ap (λ (n : ℕ). Ok (Spent n)) m, d.kept (λ n q. let z : ◌≡◌ {A = ℕ} 0 1 = cc (p.1, q) in absurd (omega arith)))
 
-pub never_refused : {C k B : ℕ} {before : List ℕ} {t : Trial} {x : Searched} → End C k B before t x → (r : Refusal) → x.answer ≡ Refused r → ⊥
+pub never_refused : {C k B : ℕ} {before : List ℕ} {t : Trial} {x : Searched} → End C k B before t x → (r : Refusal) → x.answer ≡ Err r → ⊥
 never_refused (finds S e l) r q = let z : ◌≡◌ {A = ℕ} 0 1 = cc in omega arith
 never_refused (lacks e l) r q = let z : ◌≡◌ {A = ℕ} 0 1 = cc in omega arith
 never_refused (spends l) r q = let z : ◌≡◌ {A = ℕ} 0 1 = cc in omega arith
@@ -118,7 +119,7 @@ lengths x = lent_of x.variables x.marks x.values x.trail x.recording
 pub record Alike (x y : Search) : Type 0 where
   pub answer : x.answer ≡ y.answer
   pub recording : x.arrays.recording ≡ y.arrays.recording
-  pub refused : (r : Refusal) → x.answer ≡ Refused r → x.arrays ≡ y.arrays
+  pub refused : (r : Refusal) → x.answer ≡ Err r → x.arrays ≡ y.arrays
 
 module _ (C k : ℕ) (t : List ℕ) (B : ℕ) (before : Arrays) where
   abbrev pub ours : Searched
@@ -137,10 +138,10 @@ module _ (C k : ℕ) (t : List ℕ) (B : ℕ) (before : Arrays) where
   abbrev pub own : Tree Formula → List Reply
   own f = ask_lent (length (flat (clause_table C k f))) (variables_of C k (nodes_of f 0)) k (lengths before) ∷ []
 
-  abbrev pub Says : Tree Formula → Answer → List ℕ → Type 0
+  abbrev pub Says : Tree Formula → Result Answer Refusal → List ℕ → Type 0
   Says f a after = (N : ℕ) → Trials C k f N → Draws C k f B N before.recording a after
 
-  pub ours_obeys : Obeys C k t own (λ r. unwritten before.recording (Refused r)) (λ f x. Says f x.answer x.recording) ours
+  pub ours_obeys : Obeys C k t own (λ r. unwritten before.recording (Err r)) (λ f x. Says f x.answer x.recording) ours
   unfolding searched tree_in places_in
   ours_obeys =
       asked_obeys C k t _ _ _ (ask_lent (length (places_in C k t)) (variables_of C k (nodes_in t)) k (lengths before) ∷ []) _
@@ -157,9 +158,9 @@ module _ (C k : ℕ) (t : List ℕ) (B : ℕ) (before : Arrays) where
   pub contract_searches : (x : Search) → Contract x → Searches C k t B before x
   contract_searches x w = obeys_through C k t own no right ours_obeys
     where
-      no : (r : Refusal) → ours ≡ unwritten before.recording (Refused r) → x ≡ record { answer = Refused r; arrays = before }
+      no : (r : Refusal) → ours ≡ unwritten before.recording (Err r) → x ≡ record { answer = Err r; arrays = before }
       no r e =
-          let h : ours.answer ≡ Refused r = ap (λ (s : Searched). s.answer) e in
+          let h : ours.answer ≡ Err r = ap (λ (s : Searched). s.answer) e in
           let g : x.arrays.recording ≡ before.recording = w.recording ∙ ap (λ (s : Searched). s.recording) e in
           λ i. record {
             answer = (w.answer ∙ h) i;
@@ -194,7 +195,7 @@ module _ (C k : ℕ) (t : List ℕ) (B : ℕ) (before : Arrays) where
   pub searches_contract : (x : Search) → Searches C k t B before x → Contract x
   searches_contract x p =
       let s = searches_alike p (contract_searches left left_contract) in
-      let kept : (r : Refusal) → ours.answer ≡ Refused r → x.arrays ≡ left.arrays = λ r e. s.refused r (s.answer ∙ e) in
+      let kept : (r : Refusal) → ours.answer ≡ Err r → x.arrays ≡ left.arrays = λ r e. s.refused r (s.answer ∙ e) in
       record {
         answer = s.answer;
         recording = s.recording;

@@ -2,21 +2,21 @@
 -- as document 01's starred edges print, and each of these parts from one of them.
 use mathlib.Core.Path.{◌≡◌, sym, ap, ◌∙◌}
 use mathlib.Core.Logic.{◌≢◌}
-use mathlib.Core.Bool.{false≢true}
+use mathlib.Core.Bool.{Bool, false≢true}
 use mathlib.Core.List.{List, [], ◌∷◌}
 use Prim.Native.Nat.{ℕ}
 use native.Mathlib.Omega.{arith}
 use lib.ListN.{length, get_or, replicate, length-replicate}
+use Rattle.std.specs.Prelude.{Result, Ok, Err}
 use Rattle.refusal.specs.declared.Refusal.{Refusal}
 use Rattle.paper_grammar.specs.Ascii.{ascii}
 use Rattle.paper_grammar.specs.Nodes.{nodes_in}
 use Rattle.paper_circuit.specs.Circuit.{variables_of}
 use Rattle.paper_clauses.specs.Entries.{places_in}
 use Rattle.table_calls.specs.Table.{After}
-use Rattle.truth_calls.specs.declared.Verdict.{Verdict}
 use Rattle.paper_search.specs.Search.{Arrays, Searched, searched}
 use Rattle.paper_search.specs.declared.Answer.{Answer}
-use Rattle.paper_search.specs.declared.Answer.TheVariants.{Found, None, Spent, Refused}
+use Rattle.paper_search.specs.declared.Answer.TheVariants.{Found, None, Spent}
 use Rattle.paper_search.specs.declared.Lent.{Lent}
 use Rattle.demands_starred.specs.Edges.{most, lent, edges}
 use Rattle.demands_starred.proofs.Edges.{edges_hold}
@@ -42,7 +42,7 @@ lend_enough C k t =
     λ i. record { variables = l i; marks = l i; values = v i; trail = v i; recording = r i }
 
 -- what an engine that fulfils demand 3 makes of them is what `searched` does
-as_searched : (C k : ℕ) (t : List ℕ) (B : ℕ) (x : Search) {a : Answer} {r : List ℕ} → Searches C k t B (lend C k t) x
+as_searched : (C k : ℕ) (t : List ℕ) (B : ℕ) (x : Search) {a : Result Answer Refusal} {r : List ℕ} → Searches C k t B (lend C k t) x
     → searched C k t B (lent C k t) (replicate k 255) ≡ record { answer = a; recording = r } → (x.answer ≡ a) × (x.arrays.recording ≡ r)
 as_searched C k t B x w e =
     let c = searches_contract C k t B (lend C k t) x w in
@@ -58,7 +58,7 @@ module _ (E : ℕ → ℕ → List ℕ → ℕ → Arrays → Search) (good : (C
   drawn = E 2 1 text most (lend 2 1 text)
 
   -- "`(#a>=1|#b>=1)`, C 2, k 1: byte 02, 1 try"
-  printed : (drawn.answer ≡ Found 1) × (drawn.arrays.recording ≡ 2 ∷ [])
+  printed : (drawn.answer ≡ Ok (Found 1)) × (drawn.arrays.recording ≡ 2 ∷ [])
   unfolding edges
   printed = as_searched 2 1 text most drawn (good 2 1 text most (lend 2 1 text)) edges_hold.1.1.1.1.1.0
 
@@ -70,23 +70,23 @@ module _ (E : ℕ → ℕ → List ℕ → ℕ → Arrays → Search) (good : (C
   Always X = (C k : ℕ) (t : List ℕ) (B : ℕ) (before : Arrays) → X k before (E C k t B before)
 
   -- "spent before any try"
-  pub not_spent_at_once : Always (λ k before x. x.answer ≡ Spent 0) → ⊥
+  pub not_spent_at_once : Always (λ k before x. x.answer ≡ Ok (Spent 0)) → ⊥
   not_spent_at_once h = let p = printed.0 in let e = h 2 1 text most (lend 2 1 text) in absurd (false≢true cc)
 
   -- "none for every formula"
-  pub not_always_none : Always (λ k before x. (n : ℕ) × (x.answer ≡ None n)) → ⊥
+  pub not_always_none : Always (λ k before x. (n : ℕ) × (x.answer ≡ Ok (None n))) → ⊥
   not_always_none h = let p = printed.0 in let e = (h 2 1 text most (lend 2 1 text)).1 in absurd (false≢true cc)
 
   -- "every text refused"
-  pub not_always_refused : Always (λ k before x. (r : Refusal) × (x.answer ≡ Refused r)) → ⊥
+  pub not_always_refused : Always (λ k before x. (r : Refusal) × (x.answer ≡ Err r)) → ⊥
   not_always_refused h = let p = printed.0 in let e = (h 2 1 text most (lend 2 1 text)).1 in absurd (false≢true cc)
 
   -- "an invented trial count"
-  pub not_uncounted : Always (λ k before x. (n : ℕ) → x.answer ≡ Found n → n ≡ 0) → ⊥
+  pub not_uncounted : Always (λ k before x. (n : ℕ) → x.answer ≡ Ok (Found n) → n ≡ 0) → ⊥
   not_uncounted h = let z = h 2 1 text most (lend 2 1 text) 1 printed.0 in omega arith
 
   -- "a recording of all low always"
-  pub not_always_low : Always (λ k before x. (n : ℕ) → x.answer ≡ Found n → x.arrays.recording ≡ replicate k 0) → ⊥
+  pub not_always_low : Always (λ k before x. (n : ℕ) → x.answer ≡ Ok (Found n) → x.arrays.recording ≡ replicate k 0) → ⊥
   not_always_low h = let z : ◌≡◌ {A = ℕ} 2 0 = first (sym printed.1 ∙ h 2 1 text most (lend 2 1 text) 1 printed.0) in omega arith
 
   -- "nothing written"
@@ -96,7 +96,7 @@ module _ (E : ℕ → ℕ → List ℕ → ℕ → Arrays → Search) (good : (C
 -- ---- evaluation
 
 -- "a recording of all low always": `(#a>=1;!#a>=1)` is true on 01 and not on 00
-pub not_deaf : (E : List ℕ → Verdict) → ((recording : List ℕ) → Evaluates 1 1 0 1 (ascii "(#a>=1;!#a>=1)") recording (E recording)) → E (1 ∷ []) ≢ E (0 ∷ [])
+pub not_deaf : (E : List ℕ → Result Bool Refusal) → ((recording : List ℕ) → Evaluates 1 1 0 1 (ascii "(#a>=1;!#a>=1)") recording (E recording)) → E (1 ∷ []) ≢ E (0 ∷ [])
 unfolding edges
 not_deaf E good e =
     let p = evaluated_only 1 1 0 1 _ (1 ∷ []) _ (good (1 ∷ [])) ∙ edges_hold.1.1.1.1.1.1.1.0 in

@@ -1,9 +1,8 @@
 -- DEMAND 1: what a refusal gives, and which places of a lent array a call that is not refused may write.
 use Rattle.std.specs.Prelude.{◌≡◌, ◌≢◌, ℕ, length, drop}
 use mathlib.Core.List.{List, Memᴰ}
-use Rattle.refusal.specs.Asked.{FirstNo, Asks}
+use Rattle.refusal.specs.Asked.{FirstNo, Asks, Reply}
 use Rattle.refusal.specs.declared.Refusal.{Refusal}
-use Rattle.refusal.specs.declared.Reply.{Reply}
 
 -- "places beyond those written are untouched": the array is as long as it was, and from place n on as it was
 pub record Kept (n : ℕ) (before after : List ℕ) : Type 0 where

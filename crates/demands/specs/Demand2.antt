@@ -1,13 +1,12 @@
 -- DEMAND 2, of any engine: what evaluation, node text, the table, the extension, the check, the file's writer and reader, the file
 -- program and the strip answer and leave in each lent array. Each is a predicate on the answer with the arrays after it.
-use Rattle.std.specs.Prelude.{◌≡◌, ◌&&◌, List, [], ◌∷◌, ◌++◌, ℕ, ◌-◌, ◌^◌, ◌<◌, leb, length, take, drop}
-use Rattle.refusal.specs.Asked.{question, AllYes, ask_places}
+use Rattle.std.specs.Prelude.{◌≡◌, ◌&&◌, List, [], ◌∷◌, ◌++◌, ℕ, ◌-◌, ◌^◌, ◌<◌, leb, length, take, drop, Result, Ok, Err, Bool}
+use Rattle.refusal.specs.Asked.{question, AllYes, ask_places, ok}
 use Rattle.interval.specs.Limits.{ask_interval}
 use Rattle.paper_grammar.specs.Trees.{Tree, text_of}
 use Rattle.paper_grammar.specs.declared.Sort.TheVariants.{Formula}
 use Rattle.paper_grammar.specs.Nodes.{Node, nodes_of}
-use Rattle.node_calls.specs.declared.Located.{Located}
-use Rattle.node_calls.specs.declared.Located.TheVariants as located
+use Rattle.node_calls.specs.declared.Span.{Span}
 use Rattle.paper_meaning.specs.Meaning.{channel_at, holds}
 use Rattle.paper_circuit.specs.Circuit.{channel_of, variables_of}
 use Rattle.paper_clauses.specs.Clauses.{clause_table}
@@ -15,14 +14,10 @@ use Rattle.paper_clauses.specs.Entries.{flat, variables_in, marks_in}
 use Rattle.table_calls.specs.Table.{sizes_of, five_of, ask_room, After, refused, written}
 use Rattle.moments.specs.Moments.{over}
 use Rattle.table_layout.specs.declared.Sizes.{Sizes}
-use Rattle.refusal.specs.declared.Written.TheVariants.{Done}
 use Rattle.paper_meaning.specs.Recording.{ask_recording, ask_bytes, EachBelow}
-use Rattle.truth_calls.specs.Evaluation.{verdict_of}
-use Rattle.truth_calls.specs.declared.Verdict.{Verdict}
-use Rattle.truth_calls.specs.declared.Verdict.TheVariants as verdict
+use Rattle.refusal.specs.declared.Refusal.{Refusal}
 use Rattle.paper_assignments.specs.Extension.{value_in, MeetsButLast}
 use Rattle.paper_assignments.specs.Calls.{ask_assignment, ask_values, ask_clauses, Extended, not_extended, Proposed, not_accepted}
-use Rattle.paper_assignments.specs.declared.Checked.TheVariants as checked
 use Rattle.file_numbers.specs.File.{file_of, sizes_at, Words}
 use Rattle.file_questions.specs.Questions.{ask_file_room, array_questions, file_questions}
 use Rattle.file_calls.specs.Calls.{FileAfter, file_refused}
@@ -33,21 +28,20 @@ use Rattle.strip.specs.Call.{strip_questions, Stripped, not_stripped, printed}
 use Rattle.demands.specs.Calls.{Follows, Obeys}
 
 -- "A recording is said to satisfy a formula exactly when" the meaning says so, on any [i, j]
-abbrev pub Evaluates : ℕ → ℕ → ℕ → ℕ → List ℕ → List ℕ → Verdict → Type 0
+abbrev pub Evaluates : ℕ → ℕ → ℕ → ℕ → List ℕ → List ℕ → Result Bool Refusal → Type 0
 Evaluates C k i j t recording =
-    Obeys C k t (λ f. ask_interval i j k ∷ ask_recording k recording ∷ ask_bytes C recording ∷ []) verdict.Refused
-    (λ f v. v ≡ verdict_of (holds recording f (record { i = i; j = j })))
+    Obeys C k t (λ f. ask_interval i j k ∷ ask_recording k recording ∷ ask_bytes C recording ∷ []) Err (λ f v. v ≡ Ok (holds recording f (record { i = i; j = j })))
 
 -- "On demand a node's own text is handed back as that part of the lent text": the part prints as node x of the formula
-pub record NodeText (t : List ℕ) (x : ℕ) (f : Tree Formula) (l : Located) : Type 0 where
+pub record NodeText (t : List ℕ) (x : ℕ) (f : Tree Formula) (l : Result Span Refusal) : Type 0 where
   pub node : Node
   pub rest : List Node
   pub numbered : drop (x - 1) (nodes_of f 0) ≡ node ∷ rest
-  pub part : l ≡ located.Part node.first (length (text_of node.part))
+  pub part : l ≡ Ok (record { first = node.first; length = length (text_of node.part) })
   pub prints : take (length (text_of node.part)) (drop node.first t) ≡ text_of node.part
 
-abbrev pub Locates : ℕ → ℕ → ℕ → List ℕ → Located → Type 0
-Locates C k x t = Obeys C k t (λ f. question 8 0 (leb 1 x && leb x (length (nodes_of f 0))) ∷ []) located.Refused (NodeText t x)
+abbrev pub Locates : ℕ → ℕ → ℕ → List ℕ → Result Span Refusal → Type 0
+Locates C k x t = Obeys C k t (λ f. question 8 0 (leb 1 x && leb x (length (nodes_of f 0))) ∷ []) Err (NodeText t x)
 
 -- "The clause table is the one those rules give", in the two arrays, and its sizes
 abbrev pub Tables : ℕ → ℕ → List ℕ → List ℕ → List ℕ → List ℕ → After → Type 0
@@ -65,7 +59,7 @@ pub record ExtensionOf (C k : ℕ) (f : Tree Formula) (recording A : List ℕ) :
 abbrev pub Extends : ℕ → ℕ → List ℕ → List ℕ → List ℕ → Extended → Type 0
 Extends C k t recording assignment =
     Obeys C k t (λ f. ask_recording k recording ∷ ask_bytes C recording ∷ ask_places (variables_of C k (nodes_of f 0)) (length assignment) ∷ [])
-    (not_extended assignment) (λ f x. (A : List ℕ) × ExtensionOf C k f recording A × (x ≡ record { answer = Done; assignment = over A assignment }))
+    (not_extended assignment) (λ f x. (A : List ℕ) × ExtensionOf C k f recording A × (x ≡ record { answer = ok; assignment = over A assignment }))
 
 -- "The recording read from its channel variables [..], k bytes": "bits C and above are 0"
 pub record RecordingOf (C k : ℕ) (A r : List ℕ) : Type 0 where
@@ -78,13 +72,13 @@ abbrev pub Checks : ℕ → ℕ → List ℕ → List ℕ → List ℕ → Propo
 Checks C k t A recording =
     Obeys C k t
     (λ f. ask_assignment (variables_of C k (nodes_of f 0)) A ∷ ask_values A ∷ ask_clauses (value_in A) 0 (clause_table C k f) ∷ ask_places k (length recording) ∷ [])
-    (not_accepted recording) (λ f x. (r : List ℕ) × RecordingOf C k A r × (x ≡ record { answer = checked.Accepted; recording = over r recording }))
+    (not_accepted recording) (λ f x. (r : List ℕ) × RecordingOf C k A r × (x ≡ record { answer = ok; recording = over r recording }))
 
 -- the file's writer
 abbrev pub Writes : Sizes → List ℕ → List ℕ → List ℕ → FileAfter → Type 0
 Writes s variables marks file =
     Follows (array_questions s variables marks ++ ask_file_room s.literals (length file) ∷ []) (file_refused file)
-    (λ x. x ≡ record { answer = Done; file = over (file_of (five_of s) variables marks) file })
+    (λ x. x ≡ record { answer = ok; file = over (file_of (five_of s) variables marks) file })
 
 -- a table of 32-bit numbers that the writer takes, and of which this is the file
 pub record FileOf (file : List ℕ) (s : Sizes) (variables marks : List ℕ) : Type 0 where

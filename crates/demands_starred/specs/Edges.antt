@@ -1,17 +1,15 @@
 -- Document 01, "Edges": "Those marked * are shown of the definitions, gathered in a table with a common theorem". The table, in document
 -- 01's order, and what each edge says of the call that it speaks of. The theorem is `edges_hold` in proofs/Edges.antt.
-use Rattle.std.specs.Prelude.{◌≡◌, List, [], ◌∷◌, ℕ, ◌-◌, ◌^◌, length, replicate}
+use Rattle.std.specs.Prelude.{◌≡◌, List, [], ◌∷◌, ℕ, ◌-◌, ◌^◌, length, replicate, Ok, Bool, true, false}
 use Prim.Native.String.{String}
+use Rattle.refusal.specs.Asked.{ok}
 use Rattle.paper_grammar.specs.Ascii.{ascii}
 use Rattle.paper_grammar.specs.Nodes.{nodes_in}
 use Rattle.paper_circuit.specs.Circuit.{variables_of}
 use Rattle.paper_clauses.specs.Entries.{places_in}
 use Rattle.table_calls.specs.Table.{After, tabled}
-use Rattle.refusal.specs.declared.Written.TheVariants.{Done}
 use Rattle.file_numbers.specs.File.{file_of}
 use Rattle.truth_calls.specs.Evaluation.{evaluated}
-use Rattle.truth_calls.specs.declared.Verdict.{Verdict}
-use Rattle.truth_calls.specs.declared.Verdict.TheVariants.{No, Yes}
 use Rattle.paper_search.specs.Search.{searched}
 use Rattle.paper_search.specs.declared.Answer.{Answer}
 use Rattle.paper_search.specs.declared.Answer.TheVariants.{Found, None, Spent}
@@ -31,7 +29,7 @@ pub record File : Type 0 where
 
 pub data Edge : Type 0 where
   -- text, C, a recording of k bytes; the verdict on [0, k]
-  evaluation : String → ℕ → List ℕ → Verdict → Edge
+  evaluation : String → ℕ → List ℕ → Bool → Edge
   -- text, C, k; the sizes C, k, V, M, L
   table : String → ℕ → ℕ → List ℕ → Edge
   -- text, C, k, B; the answer, and the recording's bytes, all 255 before
@@ -72,18 +70,18 @@ edges =
     ∷ search "(#a>=1|#b>=1)" 2 1 most (Found 1) (2 ∷ [])
     ∷ search "(#a>=1|#b>=1)" 2 1 0 (Spent 0) (255 ∷ [])
     -- "*`(#a>=1;!#a>=1)` on 01: yes; on 00: no."
-    ∷ evaluation "(#a>=1;!#a>=1)" 1 (1 ∷ []) Yes
-    ∷ evaluation "(#a>=1;!#a>=1)" 1 (0 ∷ []) No
+    ∷ evaluation "(#a>=1;!#a>=1)" 1 (1 ∷ []) true
+    ∷ evaluation "(#a>=1;!#a>=1)" 1 (0 ∷ []) false
     -- "*`#T>=2`: no at k 1, yes at k 2."
-    ∷ evaluation "#T>=2" 1 (0 ∷ []) No
-    ∷ evaluation "#T>=2" 1 (1 ∷ []) No
-    ∷ evaluation "#T>=2" 1 (0 ∷ 0 ∷ []) Yes
-    ∷ evaluation "#T>=2" 1 (0 ∷ 1 ∷ []) Yes
-    ∷ evaluation "#T>=2" 1 (1 ∷ 0 ∷ []) Yes
-    ∷ evaluation "#T>=2" 1 (1 ∷ 1 ∷ []) Yes
+    ∷ evaluation "#T>=2" 1 (0 ∷ []) false
+    ∷ evaluation "#T>=2" 1 (1 ∷ []) false
+    ∷ evaluation "#T>=2" 1 (0 ∷ 0 ∷ []) true
+    ∷ evaluation "#T>=2" 1 (0 ∷ 1 ∷ []) true
+    ∷ evaluation "#T>=2" 1 (1 ∷ 0 ∷ []) true
+    ∷ evaluation "#T>=2" 1 (1 ∷ 1 ∷ []) true
     -- "*`[a]` and `#a>=0` at k 0: yes.", and of request C-12 "`[a]` at k 0 becomes no."
-    ∷ evaluation "[a]" 1 [] No
-    ∷ evaluation "#a>=0" 1 [] Yes
+    ∷ evaluation "[a]" 1 [] false
+    ∷ evaluation "#a>=0" 1 [] true
     -- "*The file above."
     ∷ file file_above
     ∷ []
@@ -105,11 +103,11 @@ lent C k t = record {
 -- what an edge states: that the call it speaks of answers and leaves what is printed. Of a file: the program writes its numbers as bytes,
 -- and "A table in memory is the same two arrays."
 abbrev pub Holds : Edge → Type 0
-Holds (evaluation text C recording verdict) = evaluated C (length recording) 0 (length recording) (ascii text) recording ≡ verdict
-Holds (table text C k sizes) = ((table_left C k (ascii text)).answer ≡ Done) × ((table_left C k (ascii text)).sizes ≡ sizes)
+Holds (evaluation text C recording verdict) = evaluated C (length recording) 0 (length recording) (ascii text) recording ≡ Ok verdict
+Holds (table text C k sizes) = ((table_left C k (ascii text)).answer ≡ ok) × ((table_left C k (ascii text)).sizes ≡ sizes)
 Holds (search text C k B answer recording) =
-    searched C k (ascii text) B (lent C k (ascii text)) (replicate k 255) ≡ record { answer = answer; recording = recording }
+    searched C k (ascii text) B (lent C k (ascii text)) (replicate k 255) ≡ record { answer = Ok answer; recording = recording }
 Holds (file f) =
-    (table_left f.channels f.steps (ascii f.text) ≡ record { answer = Done; sizes = f.sizes; variables = f.variables; marks = f.marks })
+    (table_left f.channels f.steps (ascii f.text) ≡ record { answer = ok; sizes = f.sizes; variables = f.variables; marks = f.marks })
     × (output_of (ascii f.line) ≡ file_of f.sizes f.variables f.marks)
     × (length (output_of (ascii f.line)) ≡ f.bytes)

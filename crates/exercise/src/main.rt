@@ -7,19 +7,15 @@
 mod clauses;
 mod drawing;
 mod first;
-mod print;
 mod words;
 
 use exercise_arguments::Fault;
-use exercise_arguments::search::Sought;
 use exercise_arguments::task::Task;
-use exercise_lines::number::Number;
+use exercise_lines::{after_line, line};
 use interval::Interval;
 use paper_grammar::MAX_CHANNELS;
-use refusal::Reply;
 use std::io;
 use std::io::Read;
-use truth_calls::Verdict;
 
 // So many bytes are read at most, and no good exercise has as many.
 const INPUT: usize = 1024;
@@ -33,98 +29,73 @@ fn main(rt: HostRuntime) -> io::Result<()> {
     exercise(&rt, exercise_lines::first(&input, n as usize))
 }
 
-// The lines in order: the number of channels, the others.
 fn exercise(rt: &impl Print, input: &[u8]) -> io::Result<()> {
+    match take_count(input) {
+        Ok((c, lines)) => answer(rt, lines, c),
+        Err(fault) => words::put_fault(rt, fault),
+    }
+}
+
+// The number of channels, and the lines after it.
+fn take_count(input: &[u8]) -> Result<(u32, &[u8]), Fault> {
     if input.len() == INPUT {
-        return words::put_fault(rt, Fault::Long);
+        return Err(Fault::Long);
     }
-    let rest = exercise_lines::after_line(input);
-    if rest.len() == 0 {
-        return words::put_fault(rt, Fault::Few);
+    let lines = after_line(input);
+    if lines.is_empty() {
+        return Err(Fault::Few);
     }
-    let count = exercise_lines::number::decimal(exercise_lines::line(input));
-    match count {
-        Number::Of(c) => answer(rt, rest, c),
-        Number::Zero => words::put_fault(rt, Fault::Zero),
-        Number::Not => words::put_fault(rt, Fault::Count),
-    }
+    let c = exercise_arguments::number(line(input), Fault::Count)?;
+    Ok((c, lines))
 }
 
 // Question 1 first, as the channels are read by C; then the other lines; then the search, the evaluator or the table asks its questions
 // in order.
 fn answer(rt: &impl Print, lines: &[u8], c: u32) -> io::Result<()> {
-    if let Reply::No(r) = refusal::ask_within(1, c as usize, 1, MAX_CHANNELS) {
+    if let Err(r) = refusal::ask_within(1, c as usize, 1, MAX_CHANNELS) {
         return words::put_refusal(rt, lines, c, r);
     }
     if exercise_lines::is_search(lines) {
         return search_for(rt, lines, c);
     }
-    work_on(
-        rt,
-        exercise_lines::line(lines),
-        c,
-        exercise_lines::after_line(lines),
-    )
+    work_on(rt, line(lines), c, after_line(lines))
 }
 
 // The steps, the formula, and perhaps a limit.
 fn search_for(rt: &impl Print, lines: &[u8], c: u32) -> io::Result<()> {
-    let text = exercise_lines::line(exercise_lines::after_line(lines));
-    let sought = exercise_arguments::search::take_search(lines);
-    match sought {
-        Sought::First { steps, limit } => first::put_first(rt, text, c, steps, limit),
-        Sought::Wrong(fault) => words::put_fault(rt, fault),
+    let text = line(after_line(lines));
+    match exercise_arguments::search::take_search(lines) {
+        Ok(sought) => first::put_first(rt, text, c, sought),
+        Err(fault) => words::put_fault(rt, fault),
     }
 }
 
 // The lines after the formula.
 fn work_on(rt: &impl Print, text: &[u8], c: u32, lines: &[u8]) -> io::Result<()> {
     let mut recording = [0u8; Interval::MAX_STEPS];
-    let task = exercise_arguments::task::take_task(&mut recording, lines, c);
-    match task {
-        Task::Judge(steps) => put_verdict(
-            rt,
-            text,
-            c,
-            narrow(steps),
-            exercise_lines::first(&recording, steps),
-        ),
-        Task::File(k) => clauses::put_table(rt, text, c, k),
-        Task::Wrong(fault) => words::put_fault(rt, fault),
+    match exercise_arguments::task::take_task(&mut recording, lines, c) {
+        Ok(Task::Judge(steps)) => {
+            let recording = exercise_lines::first(&recording, steps);
+            put_verdict(rt, text, c, narrow(steps), recording)
+        }
+        Ok(Task::File(k)) => clauses::put_table(rt, text, c, k),
+        Err(fault) => words::put_fault(rt, fault),
     }
 }
 
 // A number of steps: what is read has no more bytes.
 fn narrow(n: usize) -> u32 {
-    if n < INPUT { n as u32 } else { INPUT as u32 }
+    n.min(INPUT) as u32
 }
 
 fn put_verdict(rt: &impl Print, text: &[u8], c: u32, k: u32, recording: &[u8]) -> io::Result<()> {
-    let verdict = truth_calls::evaluate(text, c, k, 0, k, recording);
-    match verdict {
-        Verdict::Yes => put_answer(rt, text, c, k, recording, b"yes: this recording satisfies "),
-        Verdict::No => put_answer(
-            rt,
-            text,
-            c,
-            k,
-            recording,
-            b"no: this recording does not satisfy ",
-        ),
-        Verdict::Refused(r) => words::put_refusal(rt, text, c, r),
-    }
-}
-
-fn put_answer(
-    rt: &impl Print,
-    text: &[u8],
-    c: u32,
-    k: u32,
-    recording: &[u8],
-    answer: &[u8],
-) -> io::Result<()> {
+    let answer = match truth_calls::evaluate(text, c, k, 0, k, recording) {
+        Ok(true) => "yes: this recording satisfies ",
+        Ok(false) => "no: this recording does not satisfy ",
+        Err(r) => return words::put_refusal(rt, text, c, r),
+    };
     drawing::put_recording(rt, c, k, recording)?;
-    print::put(rt, answer)?;
-    print::put(rt, text)?;
-    print::put(rt, b"\n")
+    print!(rt; "{answer}")?;
+    rt.write_all(text)?;
+    println!(rt)
 }

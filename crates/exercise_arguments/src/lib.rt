@@ -6,36 +6,60 @@
 pub mod search;
 pub mod task;
 
-// What is wrong; of a channel, by its number.
-#[derive(Clone, Copy)]
+use exercise_lines::number::{MAX_TRIES, NumberError};
+use thiserror::Error;
+
+// What is wrong, in a student's words; of a channel, by its letter.
+#[derive(Clone, Copy, Debug, PartialEq, Eq, Error)]
 pub enum Fault {
+    #[error("they are too long")]
     Long,
+    #[error("the number of channels and the formula are needed, the formula in single quotes")]
     Few,
+    #[error("the number of channels comes first")]
     Count,
-    // A number with a zero before it.
+    #[error("a number is written without a zero before it: 8, not 08")]
     Zero,
+    #[error("a channel is given by its letter, = and its levels, as in a=0110")]
     Form,
-    // A channel, and the number of channels that it is not among.
-    Outside(usize, u32),
-    Twice(usize),
-    Level(usize),
-    Uneven(usize),
-    // No number after steps=.
+    #[error("the number of channels is {count}, so there is no channel {letter}")]
+    Outside { count: u32, letter: char },
+    #[error("channel {0} is given twice")]
+    Twice(char),
+    #[error("channel {0} has a level that is neither 0 nor 1")]
+    Level(char),
+    #[error("channel {0} has more or fewer levels than the channels before it")]
+    Uneven(char),
+    #[error("steps= is followed by the number of steps, as in steps=8")]
     Steps,
+    #[error("steps= is given twice")]
     StepsTwice,
-    // No path after file=.
+    #[error("file= is followed by a path, as in file=once.clauses")]
     Path,
+    #[error("file= is given twice")]
     FileTwice,
-    // What must not stand together, or alone.
+    #[error("the levels say how many steps there are, so steps= is left out")]
     StepsAndLevels,
+    #[error("steps= is for a clause file, which needs file= too, as in file=once.clauses")]
     StepsAlone,
+    #[error("a clause file is of the formula alone, so the levels are left out")]
     FileAndLevels,
+    #[error("a clause file is for a number of steps, which steps= gives, as in steps=8")]
     FileAlone,
-    // No number where a search has its steps.
+    #[error("the number of steps is written in digits alone, as in 8")]
     Second,
-    // No number after tries=, or one above all limits.
+    #[error("tries= is followed by the most tries to make, as in tries=1000")]
     Tries,
+    #[error("the most that tries= can allow is {}", MAX_TRIES)]
     Many,
-    // What no search has after its formula.
+    #[error("after steps and formula only tries= can follow, as in tries=1000")]
     Rest,
+}
+
+// The number that a text writes, or a fault of its own where it writes none.
+pub fn number(text: &[u8], missing: Fault) -> Result<u32, Fault> {
+    exercise_lines::number::decimal(text).map_err(|e| match e {
+        NumberError::Zero => Fault::Zero,
+        NumberError::Digits => missing,
+    })
 }

@@ -1,165 +1,116 @@
 // What the lines after a formula set as a task: a recording to be judged, or a clause file to be written.
 use crate::Fault;
-use exercise_lines::number::Number;
+use exercise_lines::levels;
+use exercise_lines::levels::Channel;
 
 // What the lines so far say: a bit for each channel that is given, and how many levels each has; the steps; whether there is a path.
-#[derive(Clone, Copy)]
+#[derive(Clone, Copy, Default)]
 struct Given {
     channels: u8,
     levels: usize,
-    steps: Number,
+    steps: Option<u32>,
     file: bool,
 }
 
-#[derive(Clone, Copy)]
-enum Taken {
-    Good(Given),
-    Bad(Fault),
-}
-
 // What is to be done: a recording of so many steps judged, or the clause file of so many written.
-#[derive(Clone, Copy)]
+#[derive(Clone, Copy, Debug, PartialEq, Eq)]
 pub enum Task {
     Judge(usize),
     File(u32),
-    Wrong(Fault),
 }
 
 // One channel more, of the first C.
-fn with_channel(given: Given, channel: usize, c: u32, levels: usize) -> Taken {
-    if channel >= c as usize {
-        return Taken::Bad(Fault::Outside(channel, c));
+fn with_channel(given: Given, channel: Channel<'_>, c: u32) -> Result<Given, Fault> {
+    let letter = channel.letter;
+    if channel.number >= c as usize {
+        return Err(Fault::Outside { count: c, letter });
     }
-    if given.channels & exercise_lines::levels::bit(channel) != 0 {
-        return Taken::Bad(Fault::Twice(channel));
+    let bit = levels::bit(channel.number);
+    if given.channels & bit != 0 {
+        return Err(Fault::Twice(letter));
     }
+    let levels = channel.levels.len();
     if given.channels != 0 && levels != given.levels {
-        return Taken::Bad(Fault::Uneven(channel));
+        return Err(Fault::Uneven(letter));
     }
-    let steps = given.steps;
-    Taken::Good(Given {
-        channels: given.channels | exercise_lines::levels::bit(channel),
+    Ok(Given {
+        channels: given.channels | bit,
         levels,
-        steps,
-        file: given.file,
+        ..given
     })
 }
 
 // Reads a line like `a=0110` into the recording, as many levels as it has instants; it is of no use after a fault.
-fn take_channel(recording: &mut [u8], line: &[u8], c: u32, given: Given) -> Taken {
-    let Number::Of(n) = exercise_lines::levels::named(line) else {
-        return Taken::Bad(Fault::Form);
-    };
-    let channel = n as usize;
-    let levels = exercise_lines::after(line, 2);
-    if !exercise_lines::levels::are_levels(levels) {
-        return Taken::Bad(Fault::Level(channel));
+fn take_channel(recording: &mut [u8], line: &[u8], c: u32, given: Given) -> Result<Given, Fault> {
+    let channel = levels::named(line).ok_or(Fault::Form)?;
+    if !levels::are_levels(channel.levels) {
+        return Err(Fault::Level(channel.letter));
     }
-    exercise_lines::levels::raise(
-        recording,
-        exercise_lines::first(levels, recording.len()),
-        exercise_lines::levels::bit(channel),
-    );
-    with_channel(given, channel, c, levels.len())
+    let read = exercise_lines::first(channel.levels, recording.len());
+    levels::raise(recording, read, levels::bit(channel.number));
+    with_channel(given, channel, c)
 }
 
 // The number after steps=.
-fn with_steps(given: Given, text: &[u8]) -> Taken {
-    let before = given.steps;
-    if let Number::Of(_) = before {
-        return Taken::Bad(Fault::StepsTwice);
+fn with_steps(given: Given, text: &[u8]) -> Result<Given, Fault> {
+    if given.steps.is_some() {
+        return Err(Fault::StepsTwice);
     }
-    let steps = exercise_lines::number::decimal(text);
-    match steps {
-        Number::Of(_) => Taken::Good(Given {
-            channels: given.channels,
-            levels: given.levels,
-            steps,
-            file: given.file,
-        }),
-        Number::Zero => Taken::Bad(Fault::Zero),
-        Number::Not => Taken::Bad(Fault::Steps),
-    }
-}
-
-// The path after file=.
-fn with_file(given: Given, path: &[u8]) -> Taken {
-    if given.file {
-        return Taken::Bad(Fault::FileTwice);
-    }
-    if path.len() == 0 {
-        return Taken::Bad(Fault::Path);
-    }
-    let steps = given.steps;
-    Taken::Good(Given {
-        channels: given.channels,
-        levels: given.levels,
-        steps,
-        file: true,
+    let steps = crate::number(text, Fault::Steps)?;
+    Ok(Given {
+        steps: Some(steps),
+        ..given
     })
 }
 
-fn take_line(recording: &mut [u8], line: &[u8], c: u32, given: Given) -> Taken {
-    if exercise_lines::begins(line, b"steps=") {
-        return with_steps(given, exercise_lines::after(line, 6));
+// The path after file=.
+fn with_file(given: Given, path: &[u8]) -> Result<Given, Fault> {
+    if given.file {
+        return Err(Fault::FileTwice);
     }
-    if exercise_lines::begins(line, b"file=") {
-        return with_file(given, exercise_lines::after(line, 5));
+    if path.is_empty() {
+        return Err(Fault::Path);
+    }
+    Ok(Given {
+        file: true,
+        ..given
+    })
+}
+
+fn take_line(recording: &mut [u8], line: &[u8], c: u32, given: Given) -> Result<Given, Fault> {
+    if let Some(text) = line.strip_prefix(b"steps=") {
+        return with_steps(given, text);
+    }
+    if let Some(path) = line.strip_prefix(b"file=") {
+        return with_file(given, path);
     }
     take_channel(recording, line, c, given)
 }
 
 // What all lines ask for. A recording has its steps by its levels; a file has its steps and no levels.
-fn task_of(given: Given) -> Task {
-    let steps = given.steps;
-    if given.channels != 0 {
-        if given.file {
-            return Task::Wrong(Fault::FileAndLevels);
-        }
-        if let Number::Of(_) = steps {
-            return Task::Wrong(Fault::StepsAndLevels);
-        }
-        return Task::Judge(given.levels);
+fn task_of(given: Given) -> Result<Task, Fault> {
+    let has_levels = given.channels != 0;
+    match (has_levels, given.steps, given.file) {
+        (true, _, true) => Err(Fault::FileAndLevels),
+        (true, Some(_), false) => Err(Fault::StepsAndLevels),
+        (true, None, false) => Ok(Task::Judge(given.levels)),
+        (false, Some(k), true) => Ok(Task::File(k)),
+        (false, Some(_), false) => Err(Fault::StepsAlone),
+        (false, None, true) => Err(Fault::FileAlone),
+        (false, None, false) => Ok(Task::Judge(0)),
     }
-    if let Number::Of(k) = steps {
-        return if given.file {
-            Task::File(k)
-        } else {
-            Task::Wrong(Fault::StepsAlone)
-        };
-    }
-    if given.file {
-        return Task::Wrong(Fault::FileAlone);
-    }
-    Task::Judge(0)
 }
 
 // Reads all lines so, the levels into the recording.
-fn take_lines(recording: &mut [u8], input: &[u8], c: u32) -> Taken {
-    let mut given = Given {
-        channels: 0,
-        levels: 0,
-        steps: Number::Not,
-        file: false,
-    };
-    let mut at = 0;
-    while at < input.len() {
-        let rest = &input[at..];
-        let taken = take_line(recording, exercise_lines::line(rest), c, given);
-        let Taken::Good(more) = taken else {
-            return taken;
-        };
-        given = more;
-        at = input.len() - exercise_lines::after_line(rest).len();
+fn take_lines(recording: &mut [u8], input: &[u8], c: u32) -> Result<Given, Fault> {
+    let mut given = Given::default();
+    for ended in input.split_inclusive(|b| *b == b'\n') {
+        given = take_line(recording, exercise_lines::line(ended), c, given)?;
     }
-    Taken::Good(given)
+    Ok(given)
 }
 
 // The task that the lines after the formula set, with the recording.
-pub fn take_task(recording: &mut [u8], input: &[u8], c: u32) -> Task {
-    let taken = take_lines(recording, input, c);
-    match taken {
-        Taken::Good(given) => task_of(given),
-        Taken::Bad(fault) => Task::Wrong(fault),
-    }
+pub fn take_task(recording: &mut [u8], input: &[u8], c: u32) -> Result<Task, Fault> {
+    task_of(take_lines(recording, input, c)?)
 }

@@ -2,21 +2,25 @@
 ghost use Rattle.std.specs.Prelude.{◌≡◌, ◌≤◌, length};
 ghost use Rattle.exercise_lines.specs.Levels.{raised_by, Raised};
 
-use crate::number::Number;
 use paper_grammar::MAX_CHANNELS;
 
-// The channel that a line like `a=0110` names.
-pub fn named(line: &[u8]) -> Number {
-    if line.len() < 2 {
-        return Number::Not;
-    }
-    if line[1] != b'=' {
-        return Number::Not;
-    }
-    let b = line[0];
-    match b {
-        b'a'..=b'z' => Number::Of((b - b'a') as u32),
-        _ => Number::Not,
+// A channel as a line like `a=0110` gives it: by its letter and by its number, with its levels.
+#[derive(Clone, Copy, Debug)]
+pub struct Channel<'a> {
+    pub letter: char,
+    pub number: usize,
+    pub levels: &'a [u8],
+}
+
+// The channel that such a line names.
+pub fn named(line: &[u8]) -> Option<Channel<'_>> {
+    match line {
+        [letter @ b'a'..=b'z', b'=', levels @ ..] => Some(Channel {
+            letter: char::from(*letter),
+            number: usize::from(*letter - b'a'),
+            levels,
+        }),
+        _ => None,
     }
 }
 
@@ -27,22 +31,15 @@ pub fn bit(channel: usize) -> u8 {
 
 // Whether each is 0 or 1.
 pub fn are_levels(levels: &[u8]) -> bool {
-    for t in 0..levels.len() {
-        if levels[t] != b'0' && levels[t] != b'1' {
-            return false;
-        }
-    }
-    true
+    levels.iter().all(|level| matches!(level, b'0' | b'1'))
 }
 
 // A byte of the recording, with a bit set where the level is 1.
+#[tactic(auto, unfolding(crate::specs::Levels::raised_by))]
 fn raised(byte: u8, level: u8, bit: u8) -> u8
     ensures { result ≡ raised_by bit level byte }
 {
-    if level == b'1' {
-        return byte | bit;
-    }
-    byte
+    if level == b'1' { byte | bit } else { byte }
 }
 
 // Sets a channel's bit at each instant that its levels have high.
@@ -50,7 +47,8 @@ pub fn raise(recording: &mut [u8], levels: &[u8], bit: u8)
     requires { length levels.now ≤ length recording.old }
     ensures { Raised bit levels.now recording.old recording.new }
 {
-    for t in 0..levels.len() {
-        recording[t] = raised(recording[t], levels[t], bit);
+    // By index: what is written through a zip of `iter_mut` no proof knows afterwards, so `Raised` would not follow.
+    for (t, level) in levels.iter().enumerate() {
+        recording[t] = raised(recording[t], *level, bit);
     }
 }

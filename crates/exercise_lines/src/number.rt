@@ -4,35 +4,28 @@ ghost use Rattle.formula_reader.specs.Parts.{value_from};
 ghost use Rattle.formula_scan.specs.Scans.{capped_at};
 ghost use Rattle.exercise_lines.specs.Number.{max_tries};
 
-use formula_reader::Got;
-
 // The most tries that a search's limit allows.
-pub const MAX_TRIES: u64 = 4294967295;
+pub const MAX_TRIES: u64 = u32::MAX as u64;
 
-#[derive(Clone, Copy)]
-pub enum Number {
-    Of(u32),
+// Why a text is no number.
+#[derive(Clone, Copy, Debug, PartialEq, Eq)]
+pub enum NumberError {
     // It has a zero before it.
     Zero,
-    Not,
+    // It is not written in digits alone.
+    Digits,
 }
 
 // A number, written like a formula's n. The engine's own reader reads it, as it does for the file program, so that both take the same:
 // all above n's limit are one above it here, too much for the channels and for the steps alike.
-pub fn decimal(text: &[u8]) -> Number {
-    let read = formula_reader::numbered_by(text, Got::Good(0));
-    let Got::Good(end) = read else {
-        return Number::Not;
-    };
-    if end < text.len() {
+pub fn decimal(text: &[u8]) -> Result<u32, NumberError> {
+    let end = formula_reader::numbered_by(text, 0).map_err(|_| NumberError::Digits)?;
+    match text.get(end) {
+        None => Ok(formula_scan::number_at(text, 0) as u32),
         // Of digits only a 0 ends before the last.
-        return if formula_bytes::is_digit(text[end]) {
-            Number::Zero
-        } else {
-            Number::Not
-        };
+        Some(b) if formula_bytes::is_digit(*b) => Err(NumberError::Zero),
+        Some(_) => Err(NumberError::Digits),
     }
-    Number::Of(formula_scan::number_at(text, 0) as u32)
 }
 
 // The number that digits write, one above the most tries for all beyond.

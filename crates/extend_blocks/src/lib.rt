@@ -24,8 +24,8 @@ fn put_instant(out: &mut [u8], byte: u8)
     requires { length out.old ≤ max_channels }
     ensures { out.new ≡ tab (length out.old) (λ c. bit (bit_at byte c)) }
 {
-    for c in 0..out.len() {
-        out[c] = truth_word::bit_of(byte, c);
+    for (c, value) in out.iter_mut().enumerate() {
+        *value = truth_word::bit_of(byte, c);
     }
 }
 
@@ -35,9 +35,9 @@ pub fn put_channels(out: &mut [u8], c: usize, recording: &[u8])
     ensures { out.new ≡ channel_values c (length recording.now) recording.now }
 {
     let mut at = 0;
-    for t in 0..recording.len() {
+    for byte in recording {
         let end = at + c;
-        put_instant(&mut out[at..end], recording[t]);
+        put_instant(&mut out[at..end], *byte);
         at = end;
     }
 }
@@ -49,6 +49,7 @@ fn put_levels(out: &mut [u8], n: u32, word: u32, k: usize)
 {
     let count = Interval::count(k);
     let mut at = 0;
+    // Over levels, which are no list's indices.
     for c in 0..n + 1 {
         let end = at + count;
         let level = c as u8;
@@ -90,10 +91,7 @@ pub fn put_values(
     ensures { out.new ≡ values_by k recording.now (length out.old) (high_at p.now) (high_at q.now) rule }
 {
     match rule {
-        Rule::Fixed(up) => extend_truths::put_table(
-            out,
-            &truth_table::all_of(truth_table::byte_of(up)),
-        ),
+        Rule::Fixed(up) => extend_truths::put_table(out, &truth_table::all_of(u8::from(up))),
         Rule::Letter(c) => extend_truths::put_channel(out, recording, c as usize % MAX_CHANNELS),
         Rule::Negation => extend_truths::put_inverse(out, p),
         Rule::And => extend_truths::put_joined(out, true, p, q),

@@ -1,7 +1,7 @@
 -- What the call does with an accepted formula's node table. Nothing here need be believed: no call open to others cites it.
 use Rattle.std.specs.Prelude.{◌≡◌, List, [], ◌∷◌, ℕ, ◌+◌, ◌*◌, ◌<◌, length, get_or}
 use Rattle.std.proofs.lemmas.List.Edits.{sets}
-use Rattle.refusal.specs.Asked.{asked, ask_places}
+use Rattle.refusal.specs.Asked.{asked, ask_places, ok}
 use Rattle.paper_grammar.specs.Limits.{max_channels}
 use Rattle.paper_grammar.specs.Trees.{Tree}
 use Rattle.paper_grammar.specs.declared.Sort.TheVariants.{Formula}
@@ -11,7 +11,6 @@ use Rattle.node_calls.specs.Rows.{TableFor}
 use Rattle.paper_circuit.specs.Circuit.{variables_of}
 use Rattle.table_sizes.specs.Weights.{variable_weight, weight_to}
 use Rattle.moments.specs.Moments.{over}
-use Rattle.refusal.specs.declared.Written.TheVariants.{Done}
 use Rattle.paper_assignments.specs.Extension.{node_values, extension_of}
 use Rattle.paper_assignments.specs.Calls.{Extended, not_extended}
 
@@ -29,7 +28,7 @@ NodesPut k recording T firsts last A A' =
 unfoldable pub extended_by : ℕ → ℕ → Tree Formula → List ℕ → List ℕ → Extended
 extended_by C k f recording assignment =
     asked (ask_places (variables_of C k (nodes_of f 0)) (length assignment) ∷ []) (not_extended assignment)
-    (record { answer = Done; assignment = over (extension_of C k recording (nodes_of f 0)) assignment })
+    (record { answer = ok; assignment = over (extension_of C k recording (nodes_of f 0)) assignment })
 
 -- the same by the formula's node table
 abbrev pub Extends : NodeTable → ℕ → ℕ → List ℕ → List ℕ → Extended → Type 0

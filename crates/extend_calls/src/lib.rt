@@ -13,7 +13,7 @@ ghost use Rattle.extend_calls.specs.Rows.{Seated, NodesPut, Extends};
 use interval::Interval;
 use node_rows::NodeTable;
 use paper_grammar::MAX_NODES;
-use refusal::{Reply, Written};
+use refusal::Refusal;
 
 // The blocks of all nodes, which end before `last`.
 fn put_nodes(
@@ -29,10 +29,8 @@ fn put_nodes(
     requires by_index { (C : ℕ) × Seated C k table firsts.now last }
     ensures { NodesPut k recording.now table firsts.now last assignment.old assignment.new }
 {
-    let mut x = table.count;
     let mut end = last;
-    while x > 0 {
-        x -= 1;
+    for x in (0..table.count).rev() {
         let block = table_layout::block_at(
             &table.kinds,
             &table.numbers,
@@ -53,15 +51,13 @@ fn write_extension(
     k: u32,
     recording: &[u8],
     assignment: &mut [u8],
-) -> Written
+) -> Result<(), Refusal>
     requires { (c ≤ max_channels) × (k ≤ max_steps) × (table.count ≤ max_nodes) × (length recording.now ≡ k) }
     ensures { Extends table c k recording.now assignment.old (record { answer = result; assignment = assignment.new }) }
 {
     let layout = table_layout::layout_of(table, c, k);
     let s = layout.sizes;
-    if let Reply::No(r) = refusal::ask(18, s.variables as usize <= assignment.len()) {
-        return Written::Refused(r);
-    }
+    refusal::ask(18, s.variables as usize <= assignment.len())?;
     let channels = (k * c) as usize;
     extend_blocks::put_channels(&mut assignment[..channels], c as usize, recording);
     let mut rows = [0; Interval::MAX_ROWS];
@@ -75,24 +71,22 @@ fn write_extension(
         s.variables as usize,
         recording,
     );
-    Written::Done
+    Ok(())
 }
 
 // The assignment that extends a recording of k steps of C channels and meets all clauses of a formula but the last: V bytes.
-pub fn extend(text: &[u8], c: u32, k: u32, recording: &[u8], assignment: &mut [u8]) -> Written
+#[tactic(auto, using(crate::proofs::Call::refused_first, crate::proofs::Call::refused_recording, crate::proofs::Call::refused_bytes))]
+pub fn extend(
+    text: &[u8],
+    c: u32,
+    k: u32,
+    recording: &[u8],
+    assignment: &mut [u8],
+) -> Result<(), Refusal>
     ensures { record { answer = result; assignment = assignment.new } ≡ extended c k text.now recording.now assignment.old }
 {
-    let tabled = node_calls::node_table(text, c, k);
-    let reply = tabled.reply;
-    if let Reply::No(r) = reply {
-        return Written::Refused(r);
-    }
-    if let Reply::No(r) = recording_questions::ask_recording(k, recording) {
-        return Written::Refused(r);
-    }
-    if let Reply::No(r) = recording_questions::ask_bytes(c, recording) {
-        return Written::Refused(r);
-    }
-    let table = tabled.table;
+    let table = node_calls::node_table(text, c, k)?;
+    recording_questions::ask_recording(k, recording)?;
+    recording_questions::ask_bytes(c, recording)?;
     write_extension(table, c, k, recording, assignment)
 }

@@ -16,15 +16,10 @@ fn part_points(rule: Rule, k: usize, n: usize, count: usize) -> usize
     ensures { result ≡ part_points k n rule }
 {
     match rule {
-        Rule::Fixed(_) => 0,
-        Rule::Letter(_) => 0,
-        Rule::Negation => n,
-        Rule::And => n,
-        Rule::Or => n,
+        Rule::Negation | Rule::And | Rule::Or => n,
         Rule::Chop => count,
-        Rule::Duration(_) => k,
-        Rule::Throughout => k,
-        Rule::Cut => 0,
+        Rule::Duration(_) | Rule::Throughout => k,
+        _ => 0,
     }
 }
 

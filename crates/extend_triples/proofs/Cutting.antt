@@ -23,9 +23,6 @@ use Rattle.extend_triples.specs.Cuts.{on_places}
 pub record Cutting (k i d e at : ℕ) : Type 0 where
   pub right : e ≤ d → at ≡ place_of k (record { i = i + e; j = i + d })
 
-pub first_cut : {k i d at : ℕ} → at ≡ place_of k (record { i = i; j = i + d }) → Cutting k i d 0 at
-first_cut {k} {i} {d} e = let z : i ≡ i + 0 = omega arith in record { right = λ l. e ∙ ap (λ (m : ℕ). place_of k (record { i = m; j = i + d })) z }
-
 module _ {k i d e at : ℕ} (s : i + d ≤ k) (w : Cutting k i d e at) where
   pub next_cut : {to : ℕ} → e < d → to ≡ at + (k - (i + e)) → Cutting k i d (e + 1) to
   next_cut h o = record {

@@ -26,8 +26,8 @@ fn put_cuts(
     let steps = out.len() - 1;
     let first = Interval::place(rows, k as u32, i as u32, 0) as usize;
     let mut at = Interval::place(rows, k as u32, i as u32, steps as u32) as usize;
-    for e in 0..out.len() {
-        out[e] = p[first + e] & q[at];
+    for (e, value) in out.iter_mut().enumerate() {
+        *value = p[first + e] & q[at];
         if e < steps {
             at += k - (i + e);
         }
@@ -47,6 +47,7 @@ fn put_starts(
     ensures { out.new ≡ triples_from k (high_at p.now) (high_at q.now) i }
 {
     let mut at = 0;
+    // Over numbers of steps, which are no list's indices: each part is longer than the one before.
     for d in 0..k + 1 - i {
         let end = at + (d + 1);
         put_cuts(&mut out[at..end], p, q, rows, k, i);
@@ -67,6 +68,7 @@ pub fn put_triples(
 {
     let all = Interval::all(rows, k as u32);
     let mut at = 0;
+    // Over starts, which are no list's indices: each part is shorter than the one before.
     for i in 0..k + 1 {
         let end = at + (all - Interval::place(rows, k as u32, i as u32, 0)) as usize;
         put_starts(&mut out[at..end], p, q, rows, k, i);

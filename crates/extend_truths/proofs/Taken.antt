@@ -4,14 +4,29 @@ use mathlib.Core.Path.{◌≡◌, sym, ap, ◌∙◌}
 use mathlib.Core.Bool.{Bool, false}
 use mathlib.Core.List.{List}
 use Prim.Native.Nat.{ℕ, ◌+◌, ◌-◌, ◌≤◌, ◌<◌, min}
+use native.Mathlib.Nat.{zero-add}
 use native.Mathlib.Decide.{dec_lt}
 use native.Mathlib.Omega.{arith}
 use lib.Dec.{eqb}
-use lib.ListN.{length, get_or, get_or-eq_default}
+use lib.ListN.{length, get_or, take, drop, length-take, get_or-eq_default}
+use lib.Seq.{get_or-take, get_or-drop}
+use Rattle.std.specs.List.{enumerate_from}
+use Rattle.std.proofs.lemmas.List.{get_or_read}
+use Rattle.std.proofs.lemmas.List.FromFn.{length-enumerate_from, get_or-enumerate_from}
 use Rattle.lists.proofs.Fill.{Upto}
 use Rattle.paper_meaning.specs.Meaning.{bit}
 use Rattle.paper_meaning.proofs.Words.{high_bit}
 use Rattle.truth_table.specs.Table.{high_at, Binary}
+
+-- the i-th of n bytes from `at` on, with its place among these
+pub item : (A : List ℕ) (n at i e x : ℕ) → i < length (enumerate_from 0 (take n (drop at A))) → (e, x) ≡ get_or (enumerate_from 0 (take n (drop at A))) i (e, x)
+    → (e ≡ i) × (i < n) × (x ≡ get_or A (at + i) 0)
+item A n at i e x h q =
+    let s : List ℕ = take n (drop at A) in
+    let l : i < length s = omega (arith, length-enumerate_from 0 s) in
+    let m : i < n = omega (arith, length-take n (drop at A)) in
+    let p : (e, x) ≡ (0 + i, get_or s i x) = q ∙ get_or-enumerate_from 0 s i (e, x) l in
+    (ap (λ (p : ℕ × ℕ). p.0) p ∙ zero-add i, m, get_or_read s i x l (ap (λ (p : ℕ × ℕ). p.1) p) 0 ∙ get_or-take n (drop at A) i 0 m ∙ get_or-drop at A i 0)
 
 is_bit : (x : ℕ) (b : Bool) → x ≡ bit b → x ≡ bit (eqb x 1)
 is_bit x b e = e ∙ ap bit (sym (high_bit b)) ∙ ap (λ (y : ℕ). bit (eqb y 1)) (sym e)

@@ -11,26 +11,15 @@ ghost use Rattle.truth_table.specs.Table.{high_at, Binary};
 
 use interval::Interval;
 
-// How many of n places from `at` on there are.
-fn places_from(length: usize, at: usize, n: usize) -> usize
-    ensures { result ≡ min n (length - at) }
-{
-    if at >= length {
-        return 0;
-    }
-    let left = length - at;
-    if n <= left { n } else { left }
-}
-
 // The truths of n variables from `first` on, and then zeros; a variable past the assignment's end has none.
 pub fn truth_from(assignment: &[u8], first: u32, n: usize) -> [u8; Interval::MAX_COUNT]
     requires { n ≤ max_count }
     ensures { Binary result × ((e : ℕ) → e < n → high_at result e ≡ high_at assignment.now (first - 1 + e)) }
 {
     let mut t = truth_table::all_of(0);
-    let at = if first == 0 { 0 } else { first as usize - 1 };
-    for e in 0..places_from(assignment.len(), at, n) {
-        t[e] = truth_table::byte_of(assignment[at + e] == 1);
+    let at = (first as usize).saturating_sub(1);
+    for (e, value) in assignment.iter().skip(at).take(n).enumerate() {
+        t[e] = u8::from(*value == 1);
     }
     t
 }
@@ -40,9 +29,7 @@ pub fn put_table(out: &mut [u8], t: &[u8; Interval::MAX_COUNT])
     requires { length out.old ≤ max_count }
     ensures { out.new ≡ tab (length out.old) (λ e. get_or t.now e 0) }
 {
-    for e in 0..out.len() {
-        out[e] = t[e];
-    }
+    out.copy_from_slice(&t[..out.len()]);
 }
 
 // A letter: channel c at each instant.
@@ -50,8 +37,8 @@ pub fn put_channel(out: &mut [u8], recording: &[u8], c: usize)
     requires { c < max_channels }
     ensures { out.new ≡ tab (length out.old) (λ t. bit (channel_at recording.now c t)) }
 {
-    for t in 0..out.len() {
-        out[t] = truth_word::bit_of(node_rows::byte_at(recording, t), c);
+    for (t, value) in out.iter_mut().enumerate() {
+        *value = truth_word::bit_of(node_rows::byte_at(recording, t), c);
     }
 }
 
@@ -60,8 +47,8 @@ pub fn put_inverse(out: &mut [u8], p: &[u8; Interval::MAX_COUNT])
     requires { (length out.old ≤ max_count) × Binary p.now }
     ensures { out.new ≡ tab (length out.old) (λ e. bit (not (high_at p.now e))) }
 {
-    for e in 0..out.len() {
-        out[e] = p[e] ^ 1;
+    for (e, value) in out.iter_mut().enumerate() {
+        *value = p[e] ^ 1;
     }
 }
 
@@ -75,7 +62,8 @@ pub fn put_joined(
     requires { (length out.old ≤ max_count) × Binary p.now × Binary q.now }
     ensures { out.new ≡ tab (length out.old) (λ e. bit (joined both (high_at p.now e) (high_at q.now e))) }
 {
-    for e in 0..out.len() {
-        out[e] = truth_table::joined_byte(both, p[e], q[e]);
+    // Of what a `zip` over `iter_mut` writes, the library tells nothing.
+    for (e, value) in out.iter_mut().enumerate() {
+        *value = truth_word::joined(both, p[e], q[e]);
     }
 }

@@ -7,15 +7,13 @@ use native.Mathlib.Omega.{arith}
 use lib.ListN.{length, get_or, take, drop, length-append, take-append-drop}
 use lib.Seq.{drop_at, take-add, ext_get_or}
 use borrow.Author.Tests.{le-leb, eq-eqb}
-use Rattle.refusal.specs.Asked.{asked}
-use Rattle.refusal.specs.declared.Reply.{Reply}
-use Rattle.refusal.specs.declared.Reply.TheVariants.{Yes, No}
+use Rattle.std.specs.Prelude.{Err}
+use Rattle.refusal.specs.Asked.{asked, Reply, ok}
 use Rattle.refusal.proofs.Laws.{asked_append, replied_yes}
 use Rattle.lists.specs.Listing.{rows}
 use Rattle.table_calls.specs.Table.{five_of, ask_room, refused, written}
 use Rattle.moments.specs.Moments.{over}
 use Rattle.table_layout.specs.declared.Sizes.{Sizes}
-use Rattle.refusal.specs.declared.Written.TheVariants.{Done}
 use Rattle.file_numbers.specs.File.{bytes_of, file_of, file_length, number_at, sizes_at, variables_at, marks_at, Words, Octets}
 use Rattle.file_numbers.specs.Held.{Held}
 use Rattle.file_questions.specs.Questions.{ask_file, ask_arrays, ask_file_room, entry_questions, array_questions, file_questions}
@@ -26,7 +24,7 @@ use Rattle.file_numbers.proofs.Bytes.{number_after, numbers_back, all_bytes_back
 
 -- ---- what was written is read
 
-module _ (s : Sizes) (variables marks : List ℕ) (w : Words (five_of s)) (v : Words variables) (e : asked (array_questions s variables marks) No Yes ≡ Yes) where
+module _ (s : Sizes) (variables marks : List ℕ) (w : Words (five_of s)) (v : Words variables) (e : asked (array_questions s variables marks) Err ok ≡ ok) where
   abbrev written_file : List ℕ
   written_file = file_of (five_of s) variables marks
 
@@ -73,7 +71,7 @@ module _ (s : Sizes) (variables marks : List ℕ) (w : Words (five_of s)) (v : W
       ap (λ (t : Sizes). drop (20 + 4 * t.literals) (A ++ B ++ marks)) sizes_back
       ∙ drop_at (A ++ B) marks (20 + 4 * s.literals) (omega (arith, length-append A B, length_bytes (five_of s), length_bytes variables, (arrays_long s variables marks e).0))
 
-  file_yes : ask_file written_file ≡ Yes
+  file_yes : ask_file written_file ≡ ok
   unfolding ask_file
   file_yes =
       let n = length_written s variables marks e in
@@ -82,10 +80,10 @@ module _ (s : Sizes) (variables marks : List ℕ) (w : Words (five_of s)) (v : W
         eq-eqb (length written_file) (file_length (sizes_at written_file).literals) (n ∙ ap (λ (t : Sizes). file_length t.literals) (sym sizes_back)),
       )
 
-  questions_back : asked (file_questions written_file) No Yes ≡ Yes
+  questions_back : asked (file_questions written_file) Err ok ≡ ok
   questions_back =
-      ap (λ (q : Reply). asked (q ∷ entry_questions (sizes_at written_file) (variables_at written_file) (marks_at written_file)) No Yes) file_yes
-      ∙ (λ i. asked (entry_questions (sizes_back i) (variables_back i) (marks_back i)) No Yes) ∙
+      ap (λ (q : Reply). asked (q ∷ entry_questions (sizes_at written_file) (variables_at written_file) (marks_at written_file)) Err ok) file_yes
+      ∙ (λ i. asked (entry_questions (sizes_back i) (variables_back i) (marks_back i)) Err ok) ∙
       rest_yes (ask_arrays s.literals (length variables) (length marks)) (entry_questions s variables marks) e
 
   -- reading what was written gives back the sizes and the arrays
@@ -103,7 +101,7 @@ module _ (s : Sizes) (variables marks : List ℕ) (w : Words (five_of s)) (v : W
 
 -- ---- what was read is written
 
-module _ (file : List ℕ) (o : Octets file) (e : asked (file_questions file) No Yes ≡ Yes) where
+module _ (file : List ℕ) (o : Octets file) (e : asked (file_questions file) Err ok ≡ ok) where
   abbrev s : Sizes
   s = sizes_at file
 
@@ -121,20 +119,20 @@ module _ (file : List ℕ) (o : Octets file) (e : asked (file_questions file) No
       ap₂ (λ (a b : List ℕ). a ++ b ++ drop (20 + 4 * L) file) sizes_there (all_bytes_back file o 20 L (omega (arith, read_held.long)))
       ∙ ap (λ (l : List ℕ). l ++ drop (20 + 4 * L) file) (sym (take-add 20 (4 * L) file)) ∙ take-append-drop (20 + 4 * L) file
 
-  arrays_yes : ask_arrays s.literals (length (variables_at file)) (length (marks_at file)) ≡ Yes
+  arrays_yes : ask_arrays s.literals (length (variables_at file)) (length (marks_at file)) ≡ ok
   unfolding ask_arrays
   arrays_yes = rw (eq-eqb (length (variables_at file)) s.literals (sym (variables_count read_held)), eq-eqb (length (marks_at file)) s.literals (marks_count read_held))
 
-  array_questions_lem : asked (array_questions s (variables_at file) (marks_at file)) No Yes ≡ Yes
+  array_questions_lem : asked (array_questions s (variables_at file) (marks_at file)) Err ok ≡ ok
   array_questions_lem =
-      let Q = entry_questions s (variables_at file) (marks_at file) in ap (λ (q : Reply). asked (q ∷ Q) No Yes) arrays_yes ∙ rest_yes (ask_file file) Q e
+      let Q = entry_questions s (variables_at file) (marks_at file) in ap (λ (q : Reply). asked (q ∷ Q) Err ok) arrays_yes ∙ rest_yes (ask_file file) Q e
 
   -- writing what was read gives back the bytes
   pub write_read : (file' : List ℕ)
       → file_written (sizes_at file) (variables_at file) (marks_at file) file'
-      ≡ asked (ask_file_room (sizes_at file).literals (length file') ∷ []) (file_refused file') (record { answer = Done; file = over file file' })
+      ≡ asked (ask_file_room (sizes_at file).literals (length file') ∷ []) (file_refused file') (record { answer = ok; file = over file file' })
   unfolding file_written
   write_read file' =
       asked_append (file_refused file') _ (array_questions s (variables_at file) (marks_at file)) (ask_file_room s.literals (length file') ∷ [])
       ∙ replied_yes (file_refused file') _ (array_questions s (variables_at file) (marks_at file)) array_questions_lem
-      ∙ ap (λ (f : List ℕ). asked (ask_file_room s.literals (length file') ∷ []) (file_refused file') (record { answer = Done; file = over f file' })) bytes_back
+      ∙ ap (λ (f : List ℕ). asked (ask_file_room s.literals (length file') ∷ []) (file_refused file') (record { answer = ok; file = over f file' })) bytes_back

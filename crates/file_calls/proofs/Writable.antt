@@ -10,8 +10,8 @@ use lib.Dec.{eqb}
 use lib.ListN.{length, get_or, length-map, length-append}
 use lib.Seq.{get_or_at}
 use borrow.Author.Tests.{le-leb, eq-eqb}
-use Rattle.refusal.specs.Asked.{asked}
-use Rattle.refusal.specs.declared.Reply.TheVariants.{Yes, No}
+use Rattle.std.specs.Prelude.{Err}
+use Rattle.refusal.specs.Asked.{asked, ok}
 use Rattle.refusal.proofs.Laws.{last_yes}
 use Rattle.interval.specs.Limits.{ask_steps}
 use Rattle.paper_grammar.specs.Trees.{Tree, Letters}
@@ -32,7 +32,6 @@ use Rattle.paper_clauses.proofs.Good.{Full, full_table}
 use Rattle.table_calls.specs.Table.{five_of, sizes_of, sizes_in}
 use Rattle.moments.specs.Moments.{over}
 use Rattle.table_layout.specs.declared.Sizes.{Sizes}
-use Rattle.refusal.specs.declared.Written.TheVariants.{Done}
 use Rattle.paper_clauses.proofs.Named.{table_all, places_named, last_mark}
 use Rattle.file_questions.specs.Questions.{all_pass, how_many, ask_arrays, in_limits, is_variable, is_mark, ask_entries, closes, ends_closed, ask_closed, ask_file_room, array_questions}
 use Rattle.file_numbers.specs.File.{file_of, sizes_by, file_length}
@@ -121,11 +120,11 @@ module _ (C k : ℕ) (f : Tree Formula) where
   ends : ends_closed (marks_in F) ≡ true
   ends = let w = last_mark C k f in ends_closed_lem (marks_in F) w.0 w.1
 
-  module _ (L : Letters C f) (c : ask_channels C ≡ Yes) (d : ask_steps k ≡ Yes) (s : Sizes) (e : five_of s ≡ sizes_of C k f) where
+  module _ (L : Letters C f) (c : ask_channels C ≡ ok) (d : ask_steps k ≡ ok) (s : Sizes) (e : five_of s ≡ sizes_of C k f) where
     at_size : (n : ℕ) → get_or (five_of s) n 0 ≡ get_or (sizes_of C k f) n 0
     at_size n = ap (λ (l : List ℕ). get_or l n 0) e
 
-    arrays_yes : ask_arrays s.literals (length (variables_in F)) (length (marks_in F)) ≡ Yes
+    arrays_yes : ask_arrays s.literals (length (variables_in F)) (length (marks_in F)) ≡ ok
     unfolding ask_arrays sizes_of
     arrays_yes =
         rw (
@@ -137,29 +136,29 @@ module _ (C k : ℕ) (f : Tree Formula) where
     unfolding in_limits sizes_of
     limits_pass = rw (at_size 0, at_size 1, c, d)
 
-    entries_yes : ask_entries s (variables_in F) (marks_in F) ≡ Yes
+    entries_yes : ask_entries s (variables_in F) (marks_in F) ≡ ok
     unfolding ask_entries sizes_of
     entries_yes = rw (limits_pass, at_size 2, variables_pass L, marks_pass)
 
-    closed_yes : ask_closed s.clauses (marks_in F) ≡ Yes
+    closed_yes : ask_closed s.clauses (marks_in F) ≡ ok
     unfolding ask_closed sizes_of
     closed_yes = rw (eq-eqb s.clauses (how_many closes (marks_in F)) (at_size 3 ∙ sym (table_closes (clause_table C k f) (full_table C k f))), ends)
 
-    tree_writable : asked (array_questions s (variables_in F) (marks_in F)) No Yes ≡ Yes
+    tree_writable : asked (array_questions s (variables_in F) (marks_in F)) Err ok ≡ ok
     tree_writable = rw (arrays_yes, entries_yes, closed_yes)
 
 -- the writer answers its 15, 16 and 17 with yes
-writable : (C k : ℕ) (t : List ℕ) (s : Sizes) → accept_of C k t ≡ Yes → five_of s ≡ sizes_in C k t →
-    asked (array_questions s (variables_in (places_in C k t)) (marks_in (places_in C k t))) No Yes ≡ Yes
+writable : (C k : ℕ) (t : List ℕ) (s : Sizes) → accept_of C k t ≡ ok → five_of s ≡ sizes_in C k t →
+    asked (array_questions s (variables_in (places_in C k t)) (marks_in (places_in C k t))) Err ok ≡ ok
 unfolding sizes_in places_in accept_of
 writable C k t s y e =
     let a = accepted C k t y in
     let q = all_yes (formula_questions C k t) y in
     let p : places_in C k t ≡ flat (clause_table C k a.root) = ap (on_tree (λ f. flat (clause_table C k f))) a.reads in
-    ap (λ (F : List Entry). asked (array_questions s (variables_in F) (marks_in F)) No Yes) p
+    ap (λ (F : List Entry). asked (array_questions s (variables_in F) (marks_in F)) Err ok) p
     ∙ tree_writable C k a.root a.letters q.0 q.1.0 s (e ∙ ap (on_tree (sizes_of C k)) a.reads)
 
-module _ (C k : ℕ) (t : List ℕ) (y : accept_of C k t ≡ Yes) where
+module _ (C k : ℕ) (t : List ℕ) (y : accept_of C k t ≡ ok) where
   abbrev places : List Entry
   places = places_in C k t
 
@@ -173,11 +172,11 @@ module _ (C k : ℕ) (t : List ℕ) (y : accept_of C k t ≡ Yes) where
   -- every table that the table's call writes is taken by the file's writer
   pub table_written : (file : List ℕ) → file_length (length (places_in C k t)) ≤ length file
       → file_written (sizes_by (sizes_in C k t)) (variables_in (places_in C k t)) (marks_in (places_in C k t)) file
-      ≡ record { answer = Done; file = over (file_of (sizes_in C k t) (variables_in (places_in C k t)) (marks_in (places_in C k t))) file }
+      ≡ record { answer = ok; file = over (file_of (sizes_in C k t) (variables_in (places_in C k t)) (marks_in (places_in C k t))) file }
   unfolding file_written ask_file_room
   table_written file h =
       let s = sizes_by (sizes_in C k t) in
-      let done : List ℕ → FileAfter = λ (five : List ℕ). record { answer = Done; file = over (file_of five (variables_in places) (marks_in places)) file } in
+      let done : List ℕ → FileAfter = λ (five : List ℕ). record { answer = ok; file = over (file_of five (variables_in places) (marks_in places)) file } in
       sym (last_yes (file_refused file) (done (five_of s)) (array_questions s (variables_in places) (marks_in places)) (ask_file_room s.literals (length file))
       (writable C k t s y five_sizes.1) (rw (le-leb (file_length s.literals) (length file) (omega (arith, five_sizes.2)))))
       ∙ ap done five_sizes.1

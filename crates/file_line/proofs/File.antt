@@ -9,17 +9,15 @@ use lib.Dec.{leb}
 use lib.ListN.{length, get_or, take, drop, length-append, length-take, length-map, replicate, drop_of_length-le}
 use lib.Seq.{take_at}
 use borrow.Author.Tests.{leb-true}
-use Rattle.refusal.specs.Asked.{question, asked}
+use Rattle.std.specs.Prelude.{Err, Ok}
+use Rattle.refusal.specs.Asked.{question, asked, Reply, ok}
 use Rattle.refusal.specs.declared.Refusal.{Refusal}
-use Rattle.refusal.specs.declared.Reply.{Reply}
-use Rattle.refusal.specs.declared.Reply.TheVariants.{Yes, No}
 use Rattle.refusal.proofs.Laws.{replied_yes, replied_no, test_yes}
 use Rattle.paper_grammar.specs.Questions.{formula_questions, accept_of}
 use Rattle.formula_text.proofs.Asked.{asked_one}
 use Rattle.paper_clauses.specs.Entries.{Entry, variables_in, marks_in, places_in}
 use Rattle.table_calls.specs.Table.{After, sizes_in, ask_room, refused, written_table, tabled}
 use Rattle.moments.specs.Moments.{over}
-use Rattle.refusal.specs.declared.Written.TheVariants.{Done, Refused}
 use Rattle.file_numbers.specs.File.{sizes_by, file_length}
 use Rattle.file_calls.specs.Calls.{FileAfter, file_written}
 use Rattle.file_numbers.proofs.Stored.{length_file}
@@ -53,10 +51,10 @@ pub within_file : {x y : List ℕ} (file : List ℕ) {r : ℕ} {new : List ℕ} 
 within_file {y = y} file e w = let v = same_output file e w in (v.0, v.1, omega (arith, v.0, ap length v.1, length-append y (drop (length y) file)))
 
 -- questions in two parts
-both_yes : (F G : List Reply) → asked (F ++ G) No Yes ≡ Yes → (asked F No Yes ≡ Yes) × (asked G No Yes ≡ Yes)
+both_yes : (F G : List Reply) → asked (F ++ G) Err ok ≡ ok → (asked F Err ok ≡ ok) × (asked G Err ok ≡ ok)
 both_yes [] G e = (refl, e)
-both_yes (Yes ∷ F) G e = both_yes F G e
-both_yes (No r ∷ F) G e = absurd (false≢true cc)
+both_yes (Ok _ ∷ F) G e = both_yes F G e
+both_yes (Err r ∷ F) G e = absurd (false≢true cc)
 
 module _ (C k : ℕ) (t : List ℕ) where
   abbrev L : ℕ
@@ -64,7 +62,7 @@ module _ (C k : ℕ) (t : List ℕ) where
 
   -- ---- the sizes and the file of an accepted text
 
-  module _ (y : accept_of C k t ≡ Yes) where
+  module _ (y : accept_of C k t ≡ ok) where
     file_bytes : length (file_in C k t) ≡ file_length L
     file_bytes =
         let F = places_in C k t in
@@ -87,27 +85,27 @@ module _ (C k : ℕ) (t : List ℕ) where
     asked_is = e ∙ ap (λ (q : Reply). asked (formula_questions C k t ++ q ∷ []) (refused five lent lent) answer) (room_is L)
 
     -- where it is refused, nothing is written
-    pub none_refused : (r : Refusal) → X.answer ≡ Refused r → output_for (line C k t) ≡ []
+    pub none_refused : (r : Refusal) → X.answer ≡ Err r → output_for (line C k t) ≡ []
     unfolding output_for
-    none_refused r f = by (asked (program_questions C k t) No Yes) refl
+    none_refused r f = by (asked (program_questions C k t) Err ok) refl
       where
-        by : (x : Reply) → asked (program_questions C k t) No Yes ≡ x → output_for (line C k t) ≡ []
-        by (No q) g = replied_no (λ r. []) (file_in C k t) (program_questions C k t) q g
-        by Yes g =
-            let z : Done ≡ Refused r = ap (λ (x : After). x.answer) (sym (asked_is ∙ replied_yes (refused five lent lent) answer (program_questions C k t) g)) ∙ f in
+        by : (x : Reply) → asked (program_questions C k t) Err ok ≡ x → output_for (line C k t) ≡ []
+        by (Err q) g = replied_no (λ r. []) (file_in C k t) (program_questions C k t) q g
+        by (Ok _) g =
+            let z : ok ≡ Err r = ap (λ (x : After). x.answer) (sym (asked_is ∙ replied_yes (refused five lent lent) answer (program_questions C k t) g)) ∙ f in
             absurd (false≢true cc)
 
-    module _ (f : X.answer ≡ Done) where
-      all_yes : asked (program_questions C k t) No Yes ≡ Yes
-      all_yes = by (asked (program_questions C k t) No Yes) refl
+    module _ (f : X.answer ≡ ok) where
+      all_yes : asked (program_questions C k t) Err ok ≡ ok
+      all_yes = by (asked (program_questions C k t) Err ok) refl
         where
-          by : (x : Reply) → asked (program_questions C k t) No Yes ≡ x → x ≡ Yes
-          by Yes g = refl
-          by (No q) g =
-              let z : Refused q ≡ Done = ap (λ (x : After). x.answer) (sym (asked_is ∙ replied_no (refused five lent lent) answer (program_questions C k t) q g)) ∙ f in
+          by : (x : Reply) → asked (program_questions C k t) Err ok ≡ x → x ≡ ok
+          by (Ok _) g = refl
+          by (Err q) g =
+              let z : Err q ≡ ok = ap (λ (x : After). x.answer) (sym (asked_is ∙ replied_no (refused five lent lent) answer (program_questions C k t) q g)) ∙ f in
               absurd (false≢true cc)
 
-      accepts : accept_of C k t ≡ Yes
+      accepts : accept_of C k t ≡ ok
       unfolding accept_of
       accepts = (both_yes (formula_questions C k t) (ask_literals L ∷ []) all_yes).0
 
@@ -149,7 +147,7 @@ module _ (C k : ℕ) (t : List ℕ) where
             length-map F (λ (w : Entry). w.mark),
           )
 
-      file_put_lem : (file : List ℕ) → length file ≡ max_file → file_put X.sizes X.variables X.marks file ≡ record { answer = Done; file = over (file_in C k t) file }
+      file_put_lem : (file : List ℕ) → length file ≡ max_file → file_put X.sizes X.variables X.marks file ≡ record { answer = ok; file = over (file_in C k t) file }
       file_put_lem file h =
           ap (λ (n : ℕ). file_written (sizes_by X.sizes) (take n X.variables) (take n X.marks) file) literals_are
           ∙ (λ i. file_written (sizes_by (sizes_are i)) (variables_are i) (marks_are i) file)

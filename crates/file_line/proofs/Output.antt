@@ -7,9 +7,8 @@ use native.Mathlib.Decide.{dec_lt}
 use native.Mathlib.Omega.{arith}
 use lib.ListN.{length, take, length-append}
 use lib.Seq.{take_all, length-take-le}
-use Rattle.refusal.specs.Asked.{asked}
-use Rattle.refusal.specs.declared.Reply.{Reply}
-use Rattle.refusal.specs.declared.Reply.TheVariants.{Yes, No}
+use Rattle.std.specs.Prelude.{Option, Ok, Err}
+use Rattle.refusal.specs.Asked.{asked, Reply}
 use Rattle.refusal.proofs.Laws.{asked_append, replied_no}
 use Rattle.interval.specs.Limits.{max_steps}
 use Rattle.paper_grammar.specs.Limits.{max_length, max_number, max_channels}
@@ -45,8 +44,8 @@ module _ (C k : ℕ) (t : List ℕ) where
   none_beyond h = by (accept_of C k t) refl
     where
       by : (r : Reply) → accept_of C k t ≡ r → output_for (line C k t) ≡ []
-      by Yes e = let a = accepted C k t e in absurd (h (a.channels.1, a.steps, a.bytes.1))
-      by (No r) e = output_asked ∙ replied_no (λ r. []) answer (formula_questions C k t) r e
+      by (Ok _) e = let a = accepted C k t e in absurd (h (a.channels.1, a.steps, a.bytes.1))
+      by (Err r) e = output_asked ∙ replied_no (λ r. []) answer (formula_questions C k t) r e
 
 -- ---- numbers beyond the limits
 
@@ -62,7 +61,7 @@ output_limited (line C k t) = by (dec_lt max_number C) (dec_lt max_number k)
     by (no h) (yes g) = none_beyond (capped C) (capped k) t (λ w. omega (arith, limited_out max_number k k refl g)) ∙ sym (none_beyond C k t (λ w. omega arith))
 
 -- what the parts that were read say has the input's output
-pub output_read : (l : List ℕ) {p q : Parts} → p ≡ q → line_by l p ≡ capped_line (read_line l) → output_for (line_by l q) ≡ output_of l
+pub output_read : (l : List ℕ) {p q : Option Parts} → p ≡ q → line_by l p ≡ capped_line (read_line l) → output_for (line_by l q) ≡ output_of l
 unfolding output_of
 output_read l e w = ap output_for (ap (line_by l) (sym e) ∙ w) ∙ output_limited (read_line l)
 

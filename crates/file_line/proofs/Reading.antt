@@ -10,11 +10,11 @@ use lib.Dec.{eqb}
 use lib.ListN.{length, get_or, take, drop, length-drop, drop_of_length-le}
 use lib.Seq.{drop-drop, get_or-drop}
 use borrow.Author.Tests.{eq-eqb, ne_eqb}
+use Rattle.std.specs.Prelude.{Some, Ok, Err}
+use Rattle.std.specs.Result.{result_ok}
 use Rattle.paper_grammar.specs.Reader.{is_digit}
 use Rattle.paper_grammar.proofs.Written.{drop_byte}
-use Rattle.formula_reader.specs.Parts.{test_at, is_sign, digit_count, number_at, on_good}
-use Rattle.formula_reader.specs.declared.Got.{Got}
-use Rattle.formula_reader.specs.declared.Got.TheVariants.{Good, Bad}
+use Rattle.formula_reader.specs.Parts.{Got, test_at, is_sign, digit_count, number_at, on_good}
 use Rattle.formula_scan.specs.Scans.{capped, number_from}
 use Rattle.formula_text.proofs.Standing.{read_number}
 use Rattle.file_line.specs.Line.{line, other, Taken, taken, none, digits, number, blank, text_last, steps_next, channels_first, read_line}
@@ -25,8 +25,13 @@ use Rattle.file_line.proofs.Items.{item_is}
 
 -- what a read by places leaves, after a number
 abbrev left_by : List ℕ → ℕ → Got → Taken
-left_by l n (Good m) = taken n (drop m l)
-left_by l n (Bad p) = none
+left_by l n (Ok m) = taken n (drop m l)
+left_by l n (Err p) = none
+
+-- a read that came to n
+pub came_to : (g : Got) {n : ℕ} → Some n ≡ result_ok g → Ok n ≡ g
+came_to (Ok m) {n} e = let z : n ≡ m = cc in ap (λ (n : ℕ). Ok n) z
+came_to (Err p) e = absurd (false≢true cc)
 
 digits_left : (q : List ℕ) (v : ℕ) → (n : ℕ) × (digits v q ≡ taken n (drop (digit_count q) q))
 unfolding digits digit_count
@@ -44,7 +49,7 @@ module _ (l : List ℕ) where
   number_left at = by (drop at l) refl
     where
       test : (c e : Bool) (b : ℕ) (q : List ℕ) → drop (at + 1) l ≡ q → (n : ℕ) ×
-          (cond c (taken 0 q) (cond e (digits (b - 48) q) none) ≡ left_by l n (cond c (Good (at + 1)) (cond e (Good (at + 1 + digit_count q)) (Bad at))))
+          (cond c (taken 0 q) (cond e (digits (b - 48) q) none) ≡ left_by l n (cond c (Ok (at + 1)) (cond e (Ok (at + 1 + digit_count q)) (Err at))))
       test true e b q w = (0, ap (taken 0) (sym w))
       test false true b q w =
           let (n, v) = digits_left q (b - 48) in
@@ -56,10 +61,10 @@ module _ (l : List ℕ) where
       by (b ∷ q) e = test (eqb b 48) (is_digit b) b q (rw (add-one at) (drop_byte l at b q e))
 
   blank_left : (n : ℕ) (g : Got) → blank (left_by l n g) ≡ left_by l n (on_good l (test_at (is_sign 32)) g)
-  blank_left n (Bad p) = refl
-  blank_left n (Good m) = by (drop m l) refl
+  blank_left n (Err p) = refl
+  blank_left n (Ok m) = by (drop m l) refl
     where
-      test : (c : Bool) (q : List ℕ) → drop (m + 1) l ≡ q → cond c (taken n q) none ≡ left_by l n (cond c (Good (m + 1)) (Bad m))
+      test : (c : Bool) (q : List ℕ) → drop (m + 1) l ≡ q → cond c (taken n q) none ≡ left_by l n (cond c (Ok (m + 1)) (Err m))
       test true q w = ap (taken n) (sym w)
       test false q w = refl
 
@@ -70,18 +75,27 @@ module _ (l : List ℕ) where
   item_left : (at : ℕ) → (n : ℕ) × (blank (number (drop at l)) ≡ left_by l n (on_good l (test_at (is_sign 32)) (number_at at (drop at l))))
   item_left at = let (n, e) = number_left at in (n, ap blank e ∙ blank_left n (number_at at (drop at l)))
 
-  module _ (at : ℕ) (g : Got) (w : g ≡ on_good l (test_at (is_sign 32)) (number_at at (drop at l))) where
-    -- the item's number is what is read from its place on
-    pub item_good : (next value : ℕ) → g ≡ Good next → value ≡ number_from 0 (drop at l) → taken value (drop next l) ≡ capped_taken (blank (number (drop at l)))
-    item_good next value e v =
-        let (n, f) = item_left at in
-        let b : blank (number (drop at l)) ≡ taken n (drop next l) = f ∙ ap (left_by l n) (sym w ∙ e) in
-        let d = item_is (drop at l) n (drop next l) b in
-        let u : value ≡ capped n = v ∙ ap (number_from 0) d ∙ read_number n (32 ∷ drop next l) refl in
-        ap (λ (m : ℕ). taken m (drop next l)) u ∙ sym (ap capped_taken b)
+  -- no number, or no blank after it
+  module _ (at : ℕ) where
+    none_left : {p : ℕ} → Err p ≡ on_good l (test_at (is_sign 32)) (number_at at (drop at l)) → none ≡ capped_taken (blank (number (drop at l)))
+    none_left w = let (n, f) = item_left at in sym (ap capped_taken (f ∙ ap (left_by l n) (sym w)))
 
-    pub item_bad : (p : ℕ) → g ≡ Bad p → none ≡ capped_taken (blank (number (drop at l)))
-    item_bad p e = let (n, f) = item_left at in sym (ap capped_taken (f ∙ ap (left_by l n) (sym w ∙ e)))
+    pub no_number : {p : ℕ} → Err p ≡ number_at at (drop at l) → none ≡ capped_taken (blank (number (drop at l)))
+    no_number e = none_left (ap (on_good l (test_at (is_sign 32))) e)
+
+    module _ {end : ℕ} (e : Ok end ≡ number_at at (drop at l)) where
+      pub no_blank : {p : ℕ} → Err p ≡ test_at (is_sign 32) end (drop end l) → none ≡ capped_taken (blank (number (drop at l)))
+      no_blank f = none_left (f ∙ ap (on_good l (test_at (is_sign 32))) e)
+
+      -- the item's number is what is read from its place on
+      pub item_good : {next value : ℕ} → Ok next ≡ test_at (is_sign 32) end (drop end l) → value ≡ number_from 0 (drop at l)
+          → taken value (drop next l) ≡ capped_taken (blank (number (drop at l)))
+      item_good {next} {value} g v =
+          let (n, f) = item_left at in
+          let b : blank (number (drop at l)) ≡ taken n (drop next l) = f ∙ ap (left_by l n) (sym (g ∙ ap (on_good l (test_at (is_sign 32))) e)) in
+          let d = item_is (drop at l) n (drop next l) b in
+          let u : value ≡ capped n = v ∙ ap (number_from 0) d ∙ read_number n (32 ∷ drop next l) refl in
+          ap (λ (m : ℕ). taken m (drop next l)) u ∙ sym (ap capped_taken b)
 
 -- ---- the text
 

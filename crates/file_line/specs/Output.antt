@@ -1,7 +1,6 @@
 -- Document 01, "Clause file": what the file program writes, given an input.
 use Rattle.std.specs.Prelude.{List, [], ◌∷◌, ◌++◌, ℕ, leb, length}
-use Rattle.refusal.specs.Asked.{question, asked}
-use Rattle.refusal.specs.declared.Reply.{Reply}
+use Rattle.refusal.specs.Asked.{question, asked, Reply}
 use Rattle.paper_grammar.specs.Questions.{formula_questions}
 use Rattle.paper_clauses.specs.Entries.{variables_in, marks_in, places_in}
 use Rattle.table_calls.specs.Table.{sizes_in}

@@ -10,9 +10,7 @@ ghost use Rattle.file_line.specs.Line.{line};
 ghost use Rattle.file_line.specs.Output.{output_for, output_of, max_input};
 ghost use Rattle.file_line.specs.Parts.{file_put};
 
-use crate::parts::Parts;
 use file_numbers::SIZES_BYTES;
-use refusal::Written;
 use table_layout::Sizes;
 
 // The arrays hold so many literals, and the file of so many.
@@ -43,7 +41,7 @@ fn put_file(five: [u32; 5], variables: &[u32], marks: &[u8], file: &mut [u8]) ->
         clauses: five[3],
         literals: five[4],
     };
-    file_calls::write(s, &variables[..n], &marks[..n], file);
+    let _ = file_calls::write(s, &variables[..n], &marks[..n], file);
     file_numbers::file_length(five[4])
 }
 
@@ -54,10 +52,9 @@ fn file_of_text(text: &[u8], c: u32, k: u32, file: &mut [u8; FILE_BYTES]) -> usi
     let mut five = [0u32; 5];
     let mut variables = [0u32; MAX_LITERALS];
     let mut marks = [0u8; MAX_LITERALS];
-    let w = table_calls::table(text, c, k, &mut five, &mut variables, &mut marks);
-    match w {
-        Written::Done => put_file(five, &variables, &marks, file),
-        Written::Refused(_) => 0,
+    match table_calls::table(text, c, k, &mut five, &mut variables, &mut marks) {
+        Ok(()) => put_file(five, &variables, &marks, file),
+        Err(_) => 0,
     }
 }
 
@@ -65,9 +62,8 @@ fn file_of_text(text: &[u8], c: u32, k: u32, file: &mut [u8; FILE_BYTES]) -> usi
 pub fn file_of_input(input: &[u8], file: &mut [u8; FILE_BYTES]) -> usize
     ensures { (result ≡ length (output_of input.now)) × (file.new ≡ over (output_of input.now) file.old) × (result ≤ length file.new) }
 {
-    let p = parts::read_line(input);
-    match p {
-        Parts::Of { c, k, first, end } => file_of_text(&input[first..end], c, k, file),
-        Parts::Other => 0,
-    }
+    let Some(p) = parts::read_line(input) else {
+        return 0;
+    };
+    file_of_text(&input[p.first..p.end], p.c, p.k, file)
 }

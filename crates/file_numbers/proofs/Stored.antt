@@ -1,28 +1,42 @@
 -- The three parts of a file are stored one after another, each from where the last ends; and the number that stands at 20 + 4e is the
 -- file's variable e, since its variables are listed by their places.
 use mathlib.Core.Path.{◌≡◌, refl, sym, ap, ◌∙◌}
-use mathlib.Core.List.{List, [], ◌∷◌, ◌++◌, flat_map}
-use Prim.Native.Nat.{ℕ, ◌+◌, ◌*◌, ◌-◌, ◌<◌}
+use mathlib.Core.List.{List, [], ◌∷◌, ◌++◌, flat_map, append-nil}
+use Prim.Native.Nat.{ℕ, ◌+◌, ◌*◌, ◌-◌, ◌≤◌, ◌<◌}
+use native.Mathlib.Numerals.{add-one}
 use native.Mathlib.Omega.{arith}
-use lib.ListN.{length, get_or, take, drop, length-append, length-drop}
-use lib.Seq.{sets, length-sets, take_all}
+use lib.ListN.{length, get_or, take, drop, set, length-append, length-drop}
+use lib.Seq.{sets, length-sets, take_all, take-suc, take-suc-set, length-take-le}
 use Rattle.lists.proofs.Listing.{length_tab, get_or_tab}
-use Rattle.lists.proofs.Stored.{sets_append}
-use Rattle.table_literals.proofs.Written.{flat_length}
+use Rattle.lists.proofs.Lists.{flat_append}
+use Rattle.lists.proofs.Stored.{sets_append, stored_over}
 use Rattle.table_layout.specs.declared.Sizes.{Sizes}
 use Rattle.file_numbers.specs.Held.{Held}
-use Rattle.file_numbers.specs.File.{byte_of, bytes_of, file_of, number_at, sizes_at, variables_at, marks_at}
-
-pub bytes_are : (n : ℕ) {a b c d : ℕ} → a ≡ byte_of n 1 → b ≡ byte_of n 256 → c ≡ byte_of n 65536 → d ≡ byte_of n 16777216 → a ∷ b ∷ c ∷ d ∷ [] ≡ bytes_of n
-unfolding bytes_of
-bytes_are n p q r s = λ i. p i ∷ q i ∷ r i ∷ s i ∷ []
+use Rattle.file_numbers.specs.File.{bytes_of, file_of, number_at, sizes_at, variables_at, marks_at}
 
 pub four : (n : ℕ) → length (bytes_of n) ≡ 4
 unfolding bytes_of
 four n = refl
 
 pub length_bytes : (l : List ℕ) → length (flat_map bytes_of l) ≡ 4 * length l
-length_bytes l = omega (arith, flat_length bytes_of 4 four l)
+unfolding flat_map
+length_bytes [] = refl
+length_bytes (n ∷ l) = length-append (bytes_of n) (flat_map bytes_of l) ∙ omega (arith, four n, length_bytes l)
+
+-- one number more
+pub numbers_turn : (f : List ℕ) (at i : ℕ) (l : List ℕ) → i < length l → {b : ℕ} {g h : List ℕ} → g ≡ sets f at (flat_map bytes_of (take i l)) → b ≡ at + 4 * i →
+    h ≡ sets g b (bytes_of (get_or l i 0)) → h ≡ sets f at (flat_map bytes_of (take (i + 1) l))
+unfolding flat_map
+numbers_turn f at i l m p q r =
+    let e : at + length (flat_map bytes_of (take i l)) ≡ at + 4 * i = omega (arith, length_bytes (take i l), length-take-le i l (omega arith)) in
+    r ∙ rw (p, q, ← e, ← sets_append f at (flat_map bytes_of (take i l)) (bytes_of (get_or l i 0)), add-one, take-suc l i 0 m, flat_append, append-nil) refl
+
+-- one byte more
+pub bytes_turn : (f : List ℕ) (at i : ℕ) (l : List ℕ) → i < length l → {g : List ℕ} → g ≡ sets f at (take i l) →
+    set g (at + i) (get_or l i 0) ≡ sets f at (take (i + 1) l)
+bytes_turn f at i l m p =
+    let e : at + length (take i l) ≡ at + i = omega (arith, length-take-le i l (omega arith)) in
+    rw (add-one, take-suc l i 0 m, sets_append f at (take i l) (get_or l i 0 ∷ []), e, ← p) refl
 
 pub kept_long : (f : List ℕ) (i : ℕ) (new : List ℕ) {g : List ℕ} → g ≡ sets f i new → length g ≡ length f
 kept_long f i new e = ap length e ∙ length-sets f i new
@@ -43,11 +57,6 @@ module _ (s v m : List ℕ) where
       let x : 0 + length A ≡ a = omega (arith, q, length_bytes s) in
       let y : 0 + length (A ++ B) ≡ b = omega (arith, q, t, length-append A B, length_bytes s, length_bytes v) in
       sym (rw (sets_append f 0 (A ++ B) m, sets_append f 0 A B, x, y, ← p, ← r, ← u) refl)
-
-pub sizes_are : (file : List ℕ) {c k v m l : ℕ} → c ≡ number_at file 0 → k ≡ number_at file 4 → v ≡ number_at file 8 → m ≡ number_at file 12 → l ≡ number_at file 16
-    → record { channels = c; steps = k; variables = v; clauses = m; literals = l } ≡ sizes_at file
-unfolding sizes_at
-sizes_are file c k v m l = λ i. record { channels = c i; steps = k i; variables = v i; clauses = m i; literals = l i }
 
 module _ {file : List ℕ} {s : Sizes} (h : Held file s) where
   literals_at : (sizes_at file).literals ≡ s.literals
@@ -72,3 +81,16 @@ module _ {file : List ℕ} {s : Sizes} (h : Held file s) where
   pub variable_at : (e : ℕ) → e < s.literals → {v : ℕ} → v ≡ number_at file (20 + 4 * e) → v ≡ get_or (variables_at file) e 0
   unfolding variables_at
   variable_at e l p = p ∙ sym (get_or_tab (sizes_at file).literals (λ e. number_at file (20 + 4 * e)) e 0 (omega (arith, literals_at)))
+
+  -- one variable more
+  pub read_turn : (v : List ℕ) (e : ℕ) → e < length v → e < s.literals → {n : ℕ} → n ≡ number_at file (20 + 4 * e) →
+      take e v ≡ take e (variables_at file) → take (e + 1) (set v e n) ≡ take (e + 1) (variables_at file)
+  read_turn v e h l p q = rw (add-one, take-suc-set v e _ h, take-suc (variables_at file) e 0 (omega (arith, variables_count)), q, variable_at e l p) refl
+
+  -- all of them
+  pub read_done : (v w : List ℕ) {e : ℕ} → s.literals ≤ length w → length v ≡ s.literals → s.literals ≤ e → take e v ≡ take e (variables_at file) →
+      v ++ drop s.literals w ≡ sets w 0 (variables_at file)
+  read_done v w {e} h l m p =
+      let V = variables_at file in
+      let c : v ≡ V = sym (take_all e v (omega arith)) ∙ p ∙ take_all e V (omega (arith, variables_count)) in
+      rw c (ap (λ (n : ℕ). V ++ drop n w) variables_count) ∙ sym (stored_over V w refl (omega (arith, variables_count)))

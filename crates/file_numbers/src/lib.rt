@@ -4,7 +4,7 @@
 ghost use Rattle.std.specs.Prelude.{◌≡◌, ◌+◌, ◌*◌, ◌≤◌, length};
 ghost use mathlib.Core.List.{flat_map};
 ghost use Rattle.std.proofs.lemmas.List.Edits.{sets};
-ghost use Rattle.file_numbers.specs.File.{byte_of, bytes_of, file_length, number_of, number_at, sizes_at, variables_at, marks_at};
+ghost use Rattle.file_numbers.specs.File.{bytes_of, file_length, number_at, sizes_at, variables_at, marks_at};
 ghost use Rattle.file_numbers.specs.Held.{Held};
 
 use table_layout::Sizes;
@@ -19,26 +19,12 @@ pub fn file_length(literals: u32) -> usize
     SIZES_BYTES + 5 * (literals as usize)
 }
 
-// A number's byte of a weight.
-fn byte_of(n: u32, weight: u32) -> u8
-    requires { 1 ≤ weight }
-    ensures { result ≡ byte_of n weight }
-{
-    (n / weight % 256) as u8
-}
-
 // Stores a number's four bytes.
 fn put_number(file: &mut [u8], at: usize, n: u32)
     requires { at + 4 ≤ length file.old }
     ensures { file.new ≡ sets file.old at (bytes_of n) }
 {
-    let bytes = [
-        byte_of(n, 1),
-        byte_of(n, 256),
-        byte_of(n, 65536),
-        byte_of(n, 16777216),
-    ];
-    table_literals::put_bytes(file, at, &bytes);
+    table_literals::store(file, at, &n.to_le_bytes());
 }
 
 // Stores numbers one after another; the place after them.
@@ -47,18 +33,21 @@ pub fn put_numbers(file: &mut [u8], at: usize, more: &[u32]) -> usize
     ensures { (file.new ≡ sets file.old at (flat_map bytes_of more.now)) × (result ≡ at + 4 * length more.now) }
 {
     let mut b = at;
-    for e in 0..more.len() {
-        put_number(file, b, more[e]);
+    for &n in more {
+        put_number(file, b, n);
         b += 4;
     }
     b
 }
 
-// The number of four bytes.
-fn number_of(a: u8, b: u8, c: u8, d: u8) -> u32
-    ensures { result ≡ number_of a b c d }
+// Stores bytes from a place on. One by one: the library copies a slice of any length by memmove, which firmware need not have.
+pub fn put_bytes(out: &mut [u8], at: usize, more: &[u8])
+    requires { at + length more.now ≤ length out.old }
+    ensures { out.new ≡ sets out.old at more.now }
 {
-    a as u32 + 256 * (b as u32) + 65536 * (c as u32) + 16777216 * (d as u32)
+    for e in 0..more.len() {
+        out[at + e] = more[e];
+    }
 }
 
 // The number at a place.
@@ -66,7 +55,7 @@ pub fn number_at(file: &[u8], at: usize) -> u32
     requires { at + 4 ≤ length file.now }
     ensures { result ≡ number_at file.now at }
 {
-    number_of(file[at], file[at + 1], file[at + 2], file[at + 3])
+    u32::from_le_bytes([file[at], file[at + 1], file[at + 2], file[at + 3]])
 }
 
 // The five sizes.
@@ -97,7 +86,7 @@ pub fn read_numbers(variables: &mut [u32], file: &[u8], s: Sizes)
     requires { Held file.now s × (s.literals ≤ length variables.old) }
     ensures { variables.new ≡ sets variables.old 0 (variables_at file.now) }
 {
-    for e in 0..s.literals as usize {
-        variables[e] = number_at(file, SIZES_BYTES + 4 * e);
+    for (e, v) in variables[..s.literals as usize].iter_mut().enumerate() {
+        *v = number_at(file, SIZES_BYTES + 4 * e);
     }
 }

@@ -8,9 +8,8 @@ use native.Mathlib.Omega.{arith}
 use lib.Dec.{eqb, leb}
 use lib.ListN.{length}
 use borrow.Author.Tests.{leb-true, eqb-true}
-use Rattle.refusal.specs.Asked.{question, asked}
-use Rattle.refusal.specs.declared.Reply.{Reply}
-use Rattle.refusal.specs.declared.Reply.TheVariants.{Yes, No}
+use Rattle.std.specs.Prelude.{Err, Ok}
+use Rattle.refusal.specs.Asked.{question, asked, Reply, ok}
 use Rattle.lists.proofs.Tests.{both}
 use Rattle.refusal.proofs.Laws.{test_yes}
 use Rattle.table_calls.specs.Table.{five_of}
@@ -27,16 +26,16 @@ unfolding ask_entries
 entries_asked s variables marks p q u e = e ∙ ap (question 16 0) (ap₂ ◌&&◌ (ap₂ ◌&&◌ p q) u)
 
 -- the first of the questions that were all answered with yes
-pub first_yes : (q : Reply) (Q : List Reply) → asked (q ∷ Q) No Yes ≡ Yes → q ≡ Yes
-first_yes Yes Q e = refl
-first_yes (No r) Q e = absurd (false≢true cc)
+pub first_yes : (q : Reply) (Q : List Reply) → asked (q ∷ Q) Err ok ≡ ok → q ≡ ok
+first_yes (Ok _) Q e = refl
+first_yes (Err r) Q e = absurd (false≢true cc)
 
-pub rest_yes : (q : Reply) (Q : List Reply) → asked (q ∷ Q) No Yes ≡ Yes → asked Q No Yes ≡ Yes
-rest_yes Yes Q e = e
-rest_yes (No r) Q e = absurd (false≢true cc)
+pub rest_yes : (q : Reply) (Q : List Reply) → asked (q ∷ Q) Err ok ≡ ok → asked Q Err ok ≡ ok
+rest_yes (Ok _) Q e = e
+rest_yes (Err r) Q e = absurd (false≢true cc)
 
 -- question 15 of the reader
-module _ (file : List ℕ) (e : ask_file file ≡ Yes) where
+module _ (file : List ℕ) (e : ask_file file ≡ ok) where
   file_tests : (leb 20 (length file) ≡ true) × (eqb (length file) (file_length (sizes_at file).literals) ≡ true)
   unfolding ask_file
   file_tests = both (leb 20 (length file)) (eqb (length file) (file_length (sizes_at file).literals)) (test_yes 15 0 _ e)
@@ -48,10 +47,10 @@ module _ (file : List ℕ) (e : ask_file file ≡ Yes) where
   file_held {s} p = record { sizes = p; long = eqb-true (length file) (file_length (sizes_at file).literals) file_tests.1 ∙ ap (λ (s : Sizes). file_length s.literals) (sym p) }
 
 -- the first of the reader's questions, once 15 to 17 are answered with yes
-pub asked_file : (file : List ℕ) → asked (file_questions file) No Yes ≡ Yes → ask_file file ≡ Yes
+pub asked_file : (file : List ℕ) → asked (file_questions file) Err ok ≡ ok → ask_file file ≡ ok
 asked_file file = first_yes (ask_file file) (entry_questions (sizes_at file) (variables_at file) (marks_at file))
 
-module _ (s : Sizes) (variables marks : List ℕ) (e : asked (array_questions s variables marks) No Yes ≡ Yes) where
+module _ (s : Sizes) (variables marks : List ℕ) (e : asked (array_questions s variables marks) Err ok ≡ ok) where
   pub arrays_long : (length variables ≡ s.literals) × (length marks ≡ s.literals)
   unfolding ask_arrays
   arrays_long =
@@ -63,6 +62,6 @@ module _ (s : Sizes) (variables marks : List ℕ) (e : asked (array_questions s 
   pub length_written : length (file_of (five_of s) variables marks) ≡ file_length s.literals
   length_written = omega (arith, length_file (five_of s) variables marks, arrays_long)
 
-  pub room_written : (file : List ℕ) → ask_file_room s.literals (length file) ≡ Yes → length (file_of (five_of s) variables marks) ≤ length file
+  pub room_written : (file : List ℕ) → ask_file_room s.literals (length file) ≡ ok → length (file_of (five_of s) variables marks) ≤ length file
   unfolding ask_file_room
   room_written file f = omega (arith, length_written, leb-true (file_length s.literals) (length file) (test_yes 18 0 _ f))

@@ -1,7 +1,6 @@
 -- Document 01, "Questions in order", 15 to 18: what a file's reader and its writer ask, each on the sizes and arrays it is given.
 use Rattle.std.specs.Prelude.{Bool, true, false, ◌&&◌, ◌||◌, List, [], ◌∷◌, ℕ, ◌-◌, eqb, leb, length, get_or}
-use Rattle.refusal.specs.Asked.{question, asked}
-use Rattle.refusal.specs.declared.Reply.{Reply}
+use Rattle.refusal.specs.Asked.{question, asked, Reply}
 use Rattle.interval.specs.Limits.{ask_steps}
 use Rattle.paper_grammar.specs.Questions.{ask_channels}
 use Rattle.paper_meaning.specs.Meaning.{every, highs}

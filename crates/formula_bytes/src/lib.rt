@@ -9,13 +9,13 @@ use paper_grammar::{Joint, Lead, Sort};
 pub fn is_digit(b: u8) -> bool
     ensures { result ≡ is_digit b }
 {
-    b >= b'0' && b <= b'9'
+    matches!(b, b'0'..=b'9')
 }
 
 pub fn is_letter(b: u8) -> bool
     ensures { result ≡ is_letter b }
 {
-    b >= b'a' && b <= b'h'
+    matches!(b, b'a'..=b'h')
 }
 
 // What a byte begins in one sort alone.
@@ -43,8 +43,7 @@ pub fn lead_of(s: Sort, b: u8) -> Lead
     ensures { result ≡ lead_of s b }
 {
     match b {
-        b'T' => Lead::Leaf,
-        b'F' => Lead::Leaf,
+        b'T' | b'F' => Lead::Leaf,
         b'!' => Lead::Not,
         b'(' => Lead::Open,
         _ => own_lead(s, b),
@@ -55,14 +54,7 @@ pub fn lead_of(s: Sort, b: u8) -> Lead
 fn begins(l: Lead) -> bool
     ensures { result ≡ begins l }
 {
-    match l {
-        Lead::Leaf => true,
-        Lead::Not => true,
-        Lead::Open => true,
-        Lead::Measure => true,
-        Lead::Enter => true,
-        Lead::Other => false,
-    }
+    !matches!(l, Lead::Other)
 }
 
 // Whether a byte is the first of a part of either sort.
@@ -102,11 +94,5 @@ fn joint_of(s: Sort, b: u8) -> Joint
 pub fn is_joint(s: Sort, b: u8) -> bool
     ensures { result ≡ is_joint s b }
 {
-    let j = joint_of(s, b);
-    match j {
-        Joint::And => true,
-        Joint::Or => true,
-        Joint::Chop => true,
-        Joint::Nothing => false,
-    }
+    !matches!(joint_of(s, b), Joint::Nothing)
 }

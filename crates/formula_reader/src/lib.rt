@@ -3,52 +3,30 @@
 
 ghost use Rattle.std.specs.Prelude.{◌≡◌, ◌+◌, ◌≤◌, length, drop};
 ghost use Rattle.paper_grammar.specs.Reader.{is_joint};
-ghost use Rattle.formula_reader.specs.Parts.{test_at, is_sign, number_at, digit_count, on_good, PartAt, end_of, parse_text};
+ghost use Rattle.formula_reader.specs.Parts.{test_at, is_sign, number_at, digit_count, PartAt, end_of, parse_text};
 
 use paper_grammar::{Lead, Sort};
 
-// How far a read came: the place after it, or where it stops.
-#[derive(Drop)]
-pub enum Got {
-    Good(usize),
-    Bad(usize),
-}
-
-// Whether a text reads, or where it stops.
-#[derive(Drop)]
-pub enum Parse {
-    Reads,
-    Stops(usize),
-}
-
-// A good read with the byte v after it.
-pub fn signed_by(text: &[u8], v: u8, g: Got) -> Got
-    ensures { result ≡ on_good text.now (test_at (is_sign v)) g }
+// The byte v at a place: the place after it, or that place, where the read stops.
+pub fn signed_by(text: &[u8], v: u8, at: usize) -> Result<usize, usize>
+    ensures { result ≡ test_at (is_sign v) at (drop at text.now) }
 {
-    let Got::Good(n) = g else {
-        return g;
-    };
-    if n < text.len() {
-        if text[n] == v {
-            return Got::Good(n + 1);
-        }
+    if at < text.len() && text[at] == v {
+        Ok(at + 1)
+    } else {
+        Err(at)
     }
-    Got::Bad(n)
 }
 
-// A good read with a joint of the sort after it.
-fn joined_by(text: &[u8], s: Sort, g: Got) -> Got
-    ensures { result ≡ on_good text.now (test_at (is_joint s)) g }
+// A joint of the sort, likewise.
+fn joined_by(text: &[u8], s: Sort, at: usize) -> Result<usize, usize>
+    ensures { result ≡ test_at (is_joint s) at (drop at text.now) }
 {
-    let Got::Good(n) = g else {
-        return g;
-    };
-    if n < text.len() {
-        if formula_bytes::is_joint(s, text[n]) {
-            return Got::Good(n + 1);
-        }
+    if at < text.len() && formula_bytes::is_joint(s, text[at]) {
+        Ok(at + 1)
+    } else {
+        Err(at)
     }
-    Got::Bad(n)
 }
 
 // The place after the digits from a place on.
@@ -56,61 +34,60 @@ fn digits_end(text: &[u8], at: usize) -> usize
     requires { at ≤ length text.now }
     ensures { result ≡ at + digit_count (drop at text.now) }
 {
-    let mut i = at;
-    while i < text.len() {
-        if !formula_bytes::is_digit(text[i]) {
-            return i;
+    for (n, &b) in text[at..].iter().enumerate() {
+        if !formula_bytes::is_digit(b) {
+            return at + n;
         }
-        i += 1;
     }
-    i
+    text.len()
 }
 
-// A good read with a number after it.
-pub fn numbered_by(text: &[u8], g: Got) -> Got
-    ensures { result ≡ on_good text.now number_at g }
+// A number, likewise.
+pub fn numbered_by(text: &[u8], at: usize) -> Result<usize, usize>
+    ensures { result ≡ number_at at (drop at text.now) }
 {
-    let Got::Good(n) = g else {
-        return g;
-    };
-    if n < text.len() {
-        let b = text[n];
-        if b == b'0' {
-            return Got::Good(n + 1);
-        }
-        if formula_bytes::is_digit(b) {
-            return Got::Good(digits_end(text, n + 1));
-        }
+    if at >= text.len() {
+        return Err(at);
     }
-    Got::Bad(n)
+    let b = text[at];
+    if b == b'0' {
+        return Ok(at + 1);
+    }
+    if formula_bytes::is_digit(b) {
+        return Ok(digits_end(text, at + 1));
+    }
+    Err(at)
 }
 
 // A part of the sort from a place on. It calls itself on its parts; the bytes that remain fall.
-fn read_part(text: &[u8], s: Sort, at: usize) -> Got
+fn read_part(text: &[u8], s: Sort, at: usize) -> Result<usize, usize>
     requires { at ≤ length text.now }
     ensures { PartAt text.now s at result }
 {
     if at >= text.len() {
-        return Got::Bad(at);
+        return Err(at);
     }
     let next = at + 1;
-    let l = formula_bytes::lead_of(s, text[at]);
-    match l {
-        Lead::Leaf => Got::Good(next),
+    match formula_bytes::lead_of(s, text[at]) {
+        Lead::Leaf => Ok(next),
         Lead::Not => read_part(text, s, next),
         Lead::Open => {
-            let first = joined_by(text, s, read_part(text, s, next));
-            match first {
-                Got::Good(n) => signed_by(text, b')', read_part(text, s, n)),
-                Got::Bad(p) => Got::Bad(p),
-            }
+            let first = read_part(text, s, next)?;
+            let joint = joined_by(text, s, first)?;
+            let second = read_part(text, s, joint)?;
+            signed_by(text, b')', second)
         }
         Lead::Measure => {
-            let above = signed_by(text, b'>', read_part(text, Sort::State, next));
-            numbered_by(text, signed_by(text, b'=', above))
+            let state = read_part(text, Sort::State, next)?;
+            let above = signed_by(text, b'>', state)?;
+            let equals = signed_by(text, b'=', above)?;
+            numbered_by(text, equals)
         }
-        Lead::Enter => signed_by(text, b']', read_part(text, Sort::State, next)),
-        Lead::Other => Got::Bad(at),
+        Lead::Enter => {
+            let state = read_part(text, Sort::State, next)?;
+            signed_by(text, b']', state)
+        }
+        Lead::Other => Err(at),
     }
 }
 
@@ -121,26 +98,19 @@ pub fn part_end(text: &[u8], s: Sort, at: usize) -> usize
     if at > text.len() {
         return text.len();
     }
-    let g = read_part(text, s, at);
-    match g {
-        Got::Good(n) => n,
-        Got::Bad(p) => p,
+    match read_part(text, s, at) {
+        Ok(n) => n,
+        Err(p) => p,
     }
 }
 
-// Whether the whole text reads.
-pub fn check_text(text: &[u8]) -> Parse
+// Whether the whole text reads, or where it stops.
+pub fn check_text(text: &[u8]) -> Result<(), usize>
     ensures { result ≡ parse_text text.now }
 {
-    let g = read_part(text, Sort::Formula, 0);
-    match g {
-        Got::Good(n) => {
-            if n < text.len() {
-                Parse::Stops(n)
-            } else {
-                Parse::Reads
-            }
-        }
-        Got::Bad(p) => Parse::Stops(p),
+    let end = read_part(text, Sort::Formula, 0)?;
+    if end < text.len() {
+        return Err(end);
     }
+    Ok(())
 }

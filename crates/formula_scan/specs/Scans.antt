@@ -1,13 +1,12 @@
 -- Questions 5 to 7 as the code asks them, going through the bytes. Nothing here need be believed: the law `found_in` of crate formula_text says
 -- that this finds what the tree has.
-use Rattle.std.specs.Prelude.{Bool, cond, ◌&&◌, List, [], ◌∷◌, ◌++◌, ℕ, suc, ◌+◌, ◌-◌, eqb, leb, ltb, drop, replicate}
+use Rattle.std.specs.Prelude.{Bool, cond, ◌&&◌, List, [], ◌∷◌, ◌++◌, ℕ, suc, ◌+◌, ◌-◌, eqb, leb, ltb, drop}
 use Rattle.paper_grammar.specs.Reader.{is_letter, is_start}
 use Rattle.paper_grammar.specs.declared.Sort.TheVariants.{State}
 use Rattle.formula_reader.specs.Parts.{value_from, end_of}
 use Rattle.paper_grammar.specs.Limits.{max_number}
 use Rattle.formula_scan.specs.declared.Ask.{Ask}
 use Rattle.formula_scan.specs.declared.Ask.TheVariants.{Letters, Numbers, Nodes}
-use Rattle.formula_scan.specs.declared.Find.{Find}
 
 -- what h answers at each byte and its place, joined
 unfoldable pub scan : (ℕ → ℕ → List ℕ) → List ℕ → ℕ → List ℕ
@@ -56,6 +55,3 @@ answers_at Nodes t = start_at
 
 unfoldable pub found_in : Ask → List ℕ → List ℕ
 found_in a t = scan (answers_at a t) t 0
-
-abbrev pub list_of : Find → List ℕ
-list_of h = replicate h.count h.place

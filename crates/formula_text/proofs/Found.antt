@@ -9,7 +9,7 @@ use native.Mathlib.Omega.{arith}
 use lib.Dec.{eqb, ltb}
 use lib.ListN.{length, get_or, drop}
 use borrow.Author.Tests.{ne_eqb, lt-leb, le-leb, lt-ltb}
-use Rattle.refusal.specs.declared.Reply.TheVariants.{Yes}
+use Rattle.refusal.specs.Asked.{ok}
 use Rattle.paper_grammar.specs.Limits.{max_number, max_nodes}
 use Rattle.paper_grammar.specs.Trees.{Link, and, or, chop, Tree, constant, letter, negation, pair, duration, throughout, text_of, link_byte}
 use Rattle.paper_grammar.specs.Reader.{is_letter, is_start, Read, parsed, stopped, read}
@@ -119,32 +119,32 @@ module _ (t : List ℕ) where
       ∙ flat_same _ _ (nodes_of x at) (each_all (StandsNode t) _ (λ v s. answered a v.part v.first s) (nodes_of x at) (each_node (StandsNode t) (stands_pass t) x at w))
 
   -- a text that reads has a tree
-  pub read_tree : ask_grammar t ≡ Yes → (f : Tree Formula) × (read t ≡ parsed f)
+  pub read_tree : ask_grammar t ≡ ok → (f : Tree Formula) × (read t ≡ parsed f)
   unfolding ask_grammar
   read_tree = go (read t)
     where
-      go : (o : Read Formula) → on_read o ≡ Yes → (f : Tree Formula) × (o ≡ parsed f)
+      go : (o : Read Formula) → on_read o ≡ ok → (f : Tree Formula) × (o ≡ parsed f)
       go (parsed f) e = (f, refl)
       go (stopped p) e = absurd (false≢true cc)
 
   pub root_stands : (f : Tree Formula) → read t ≡ parsed f → Stands t f 0
   root_stands f r = let w = prints_as_text t f r in record { rest = []; here = sym w.1; clear = tt; letters = w.0 }
 
-  pub found_in_lem : (a : Ask) → ask_grammar t ≡ Yes → found_in a t ≡ flat_map (λ (w : Node). answer a w.part w.first) (nodes_in t)
+  pub found_in_lem : (a : Ask) → ask_grammar t ≡ ok → found_in a t ≡ flat_map (λ (w : Node). answer a w.part w.first) (nodes_in t)
   unfolding nodes_in found_in
   found_in_lem a e =
       let (f, r) = read_tree e in
       ap (λ (q : List ℕ). scan (answers_at a t) q 0) (sym (prints_as_text t f r).1) ∙ found_part a f 0 (root_stands f r) ∙
       ap (λ (o : Read Formula). flat_map (λ (w : Node). answer a w.part w.first) (nodes_read o)) (sym r)
 
-  pub letters_asked : (C : ℕ) → ask_grammar t ≡ Yes → ask_letters C (nodes_in t) ≡ at_first 5 (drop 0 (found_in (AskLetters C) t))
+  pub letters_asked : (C : ℕ) → ask_grammar t ≡ ok → ask_letters C (nodes_in t) ≡ at_first 5 (drop 0 (found_in (AskLetters C) t))
   unfolding ask_letters
   letters_asked C e = ap (at_first 5) (sym (found_in_lem (AskLetters C) e))
 
-  pub numbers_asked : ask_grammar t ≡ Yes → ask_numbers (nodes_in t) ≡ at_first 6 (drop 0 (found_in Numbers t))
+  pub numbers_asked : ask_grammar t ≡ ok → ask_numbers (nodes_in t) ≡ at_first 6 (drop 0 (found_in Numbers t))
   unfolding ask_numbers
   numbers_asked e = ap (at_first 6) (sym (found_in_lem Numbers e))
 
-  pub nodes_asked : ask_grammar t ≡ Yes → ask_nodes (nodes_in t) ≡ at_first 7 (drop max_nodes (found_in Nodes t))
+  pub nodes_asked : ask_grammar t ≡ ok → ask_nodes (nodes_in t) ≡ at_first 7 (drop max_nodes (found_in Nodes t))
   unfolding ask_nodes
   nodes_asked e = ap (λ (l : List ℕ). at_first 7 (drop max_nodes l)) (sym (found_in_lem Nodes e ∙ flat_map_lem (λ (w : Node). w.first) (nodes_in t)))

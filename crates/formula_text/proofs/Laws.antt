@@ -8,9 +8,8 @@ use native.Mathlib.Omega.{arith}
 use lib.Dec.{leb, ltb}
 use lib.ListN.{length, drop, length-drop, length-map}
 use borrow.Author.Tests.{leb-false, ltb-false}
-use Rattle.refusal.specs.Asked.{asked}
-use Rattle.refusal.specs.declared.Reply.{Reply}
-use Rattle.refusal.specs.declared.Reply.TheVariants.{Yes, No}
+use Rattle.std.specs.Prelude.{Err, Ok}
+use Rattle.refusal.specs.Asked.{asked, Reply, ok}
 use Rattle.interval.specs.Limits.{max_steps}
 use Rattle.interval.proofs.Gives.{steps_yes}
 use Rattle.paper_grammar.specs.Limits.{max_length, max_nodes, max_number, max_channels}
@@ -35,7 +34,7 @@ pub record Accepted (C k : ℕ) (t : List ℕ) : Type 0 where
   pub channels : (1 ≤ C) × (C ≤ max_channels)
   pub steps : k ≤ max_steps
   pub bytes : (1 ≤ length t) × (length t ≤ max_length)
-  pub grammar : ask_grammar t ≡ Yes
+  pub grammar : ask_grammar t ≡ ok
   pub root : Tree Formula
   pub reads : read t ≡ parsed root
   pub letters : Letters C root
@@ -43,12 +42,12 @@ pub record Accepted (C k : ℕ) (t : List ℕ) : Type 0 where
   pub nodes : length (nodes_of root 0) ≤ max_nodes
 
 -- each was answered with yes
-pub all_yes : (q : List Reply) → asked q No Yes ≡ Yes → All (λ r. r ≡ Yes) q
+pub all_yes : (q : List Reply) → asked q Err ok ≡ ok → All (λ r. r ≡ ok) q
 all_yes [] e = tt
-all_yes (Yes ∷ q) e = (refl, all_yes q e)
-all_yes (No p ∷ q) e = absurd (false≢true cc)
+all_yes (Ok _ ∷ q) e = (refl, all_yes q e)
+all_yes (Err p ∷ q) e = absurd (false≢true cc)
 
-none_first : (n : ℕ) (l : List ℕ) → at_first n l ≡ Yes → l ≡ []
+none_first : (n : ℕ) (l : List ℕ) → at_first n l ≡ ok → l ≡ []
 none_first n [] e = refl
 none_first n (p ∷ l) e = absurd (false≢true cc)
 
@@ -105,7 +104,7 @@ unfolding nodes_in
 nodes_read_lem t f e = ap nodes_read e
 
 -- what acceptance says
-pub accepted : (C k : ℕ) (t : List ℕ) → accept_of C k t ≡ Yes → Accepted C k t
+pub accepted : (C k : ℕ) (t : List ℕ) → accept_of C k t ≡ ok → Accepted C k t
 unfolding accept_of ask_length ask_letters ask_numbers ask_nodes
 accepted C k t e =
     let q = all_yes (formula_questions C k t) e in
@@ -145,6 +144,6 @@ rising_scan (b ∷ t) at = go (is_start b) (rising_scan t (suc at))
     go false w = rising_later at (scan start_at t (suc at)) w
 
 -- the nodes stand in the order of their first bytes
-pub nodes_in_order : (t : List ℕ) → ask_grammar t ≡ Yes → Rising 0 (map (λ (w : Node). w.first) (nodes_in t))
+pub nodes_in_order : (t : List ℕ) → ask_grammar t ≡ ok → Rising 0 (map (λ (w : Node). w.first) (nodes_in t))
 unfolding found_in
 nodes_in_order t e = subst (Rising 0) (found_in_lem t Nodes e ∙ flat_map_lem (λ (w : Node). w.first) (nodes_in t)) (rising_scan t 0)

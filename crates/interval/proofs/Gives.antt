@@ -5,8 +5,7 @@ use mathlib.Core.Bool.{◌&&◌}
 use Prim.Native.Nat.{ℕ, ◌≤◌}
 use lib.Dec.{leb}
 use borrow.Author.Tests.{leb-true}
-use Rattle.refusal.specs.Asked.{Gives}
-use Rattle.refusal.specs.declared.Reply.TheVariants.{Yes}
+use Rattle.refusal.specs.Asked.{Gives, ok}
 use Rattle.refusal.proofs.Laws.{test_yes}
 use Rattle.refusal.proofs.Numbers.{question_gives}
 use Rattle.interval.specs.Limits.{max_steps, ask_steps, ask_interval}
@@ -15,7 +14,7 @@ pub steps_gives : (k : ℕ) → Gives 2 (ask_steps k)
 unfolding ask_steps
 steps_gives k = question_gives 2 0 (leb k max_steps)
 
-pub steps_yes : (k : ℕ) → ask_steps k ≡ Yes → k ≤ max_steps
+pub steps_yes : (k : ℕ) → ask_steps k ≡ ok → k ≤ max_steps
 unfolding ask_steps
 steps_yes k e = leb-true k max_steps (test_yes 2 0 _ e)
 

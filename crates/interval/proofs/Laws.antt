@@ -8,6 +8,7 @@ use native.Mathlib.Nat.{zero-add, sub-zero}
 use native.Mathlib.Omega.{arith}
 use borrow.Author.Tests.{leb-true, eqb-true, le-leb, eq-eqb}
 use lib.Dec.{eqb, leb}
+use Rattle.std.specs.Prelude.{Ok, Err}
 use Rattle.refusal.specs.Asked.{question, asked}
 use Rattle.refusal.specs.declared.Refusal.{Refusal}
 use Rattle.lists.specs.Listing.{place_in}
@@ -15,7 +16,6 @@ use Rattle.interval.specs.Places.{count_of, place_of, intervals_of, triple_count
 use Rattle.interval.specs.Limits.{max_steps, ask_steps, ask_interval, made_of, IntervalOf, TripleOf}
 use Rattle.interval.specs.declared.Interval.{Interval}
 use Rattle.interval.specs.declared.Triple.{Triple}
-use Rattle.interval.specs.declared.Made.TheVariants.{Good, Refused}
 use Rattle.interval.proofs.Shape.{Entry, Inside, place, per, intervals, triples, place_in_per, Numbered, entries_numbered}
 use Rattle.interval.proofs.Counts.{intervals_count, triples_count, interval_place, count_le, triple_count_le}
 
@@ -108,16 +108,16 @@ pub counts_at_64 : (k : ℕ) → k ≤ 64 → (count_of k ≤ 2145) × (triple_c
 unfolding count_of triple_count_of
 counts_at_64 k h = (count_le 64 k h, triple_count_le 64 k h)
 
-refused_not_good : (r : Refusal) (v : Interval) → Refused r ≡ Good v → ⊥
+refused_not_good : (r : Refusal) (v : Interval) → Err r ≡ Ok v → ⊥
 refused_not_good r v e = let z : ◌≡◌ {A = ℕ} 0 1 = cc in omega arith
 
 -- the constructor makes the intervals of k steps within the limit, and nothing else
-pub made_good : (i j k : ℕ) (v : Interval) → made_of i j k ≡ Good v → (k ≤ max_steps) × IntervalOf k v
+pub made_good : (i j k : ℕ) (v : Interval) → made_of i j k ≡ Ok v → (k ≤ max_steps) × IntervalOf k v
 unfolding made_of ask_steps ask_interval
 made_good i j k v = go (leb k max_steps) refl (leb i j) refl (leb j k) refl
   where
     go : (a : Bool) → leb k max_steps ≡ a → (b : Bool) → leb i j ≡ b → (c : Bool) → leb j k ≡ c
-        → asked (question 2 0 a ∷ question 9 0 (b && c) ∷ []) Refused (Good (record { i = i; j = j })) ≡ Good v → (k ≤ max_steps) × IntervalOf k v
+        → asked (question 2 0 a ∷ question 9 0 (b && c) ∷ []) Err (Ok (record { i = i; j = j })) ≡ Ok v → (k ≤ max_steps) × IntervalOf k v
     go true d true e true f m =
         let p : record { i = i; j = j } ≡ v = cc in
         (leb-true k max_steps d, subst (IntervalOf k) p (record { starts = leb-true i j e; ends = leb-true j k f }))
@@ -125,6 +125,6 @@ made_good i j k v = go (leb k max_steps) refl (leb i j) refl (leb j k) refl
     go true d false e c f m = absurd (refused_not_good _ v m)
     go false d b e c f m = absurd (refused_not_good _ v m)
 
-pub good_made : (k : ℕ) (v : Interval) → k ≤ max_steps → IntervalOf k v → made_of v.i v.j k ≡ Good v
+pub good_made : (k : ℕ) (v : Interval) → k ≤ max_steps → IntervalOf k v → made_of v.i v.j k ≡ Ok v
 unfolding made_of ask_steps ask_interval
 good_made k v h o = simp (le-leb k max_steps h, le-leb v.i v.j o.starts, le-leb v.j k o.ends)

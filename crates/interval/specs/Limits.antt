@@ -1,11 +1,9 @@
 -- Document 01, "Formula text": "The limits belong to the interval: at most 32 steps". Which intervals there are, and the constructor.
-use Rattle.std.specs.Prelude.{◌&&◌, [], ◌∷◌, ℕ, ◌+◌, ◌*◌, ◌/◌, ◌≤◌, leb}
-use Rattle.refusal.specs.Asked.{question, asked}
-use Rattle.refusal.specs.declared.Reply.{Reply}
+use Rattle.std.specs.Prelude.{◌&&◌, [], ◌∷◌, ℕ, ◌+◌, ◌*◌, ◌/◌, ◌≤◌, leb, Result, Ok, Err}
+use Rattle.refusal.specs.Asked.{Reply, question, asked}
+use Rattle.refusal.specs.declared.Refusal.{Refusal}
 use Rattle.interval.specs.declared.Interval.{Interval}
 use Rattle.interval.specs.declared.Triple.{Triple}
-use Rattle.interval.specs.declared.Made.{Made}
-use Rattle.interval.specs.declared.Made.TheVariants.{Good, Refused}
 
 -- "at most 32 steps"
 abbrev pub max_steps : ℕ
@@ -24,8 +22,8 @@ unfoldable pub ask_interval : ℕ → ℕ → ℕ → Reply
 ask_interval i j k = question 9 0 (leb i j && leb j k)
 
 -- the constructor asks 2 and 9
-unfoldable pub made_of : ℕ → ℕ → ℕ → Made
-made_of i j k = asked (ask_steps k ∷ ask_interval i j k ∷ []) Refused (Good (record { i = i; j = j }))
+unfoldable pub made_of : ℕ → ℕ → ℕ → Result Interval Refusal
+made_of i j k = asked (ask_steps k ∷ ask_interval i j k ∷ []) Err (Ok (record { i = i; j = j }))
 
 -- v is an interval of k steps: "0 ≤ i ≤ j ≤ k"
 pub record IntervalOf (k : ℕ) (v : Interval) : Type 0 where

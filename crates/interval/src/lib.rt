@@ -6,20 +6,13 @@ ghost use Rattle.interval.specs.Places.{count_of, place_of, triple_count_of, tri
 ghost use Rattle.interval.specs.Limits.{max_steps, max_count, ask_steps, ask_interval, made_of};
 ghost use Rattle.interval.specs.Rows.{RowsOf, StartsOf};
 
-use refusal::{Refusal, Reply};
+use refusal::Refusal;
 
 // [i, j]: it holds the instants i to j - 1.
 #[derive(Clone, Copy)]
 pub struct Interval {
     pub i: usize,
     pub j: usize,
-}
-
-// What the constructor answers.
-#[derive(Drop)]
-pub enum Made {
-    Good(Interval),
-    Refused(Refusal),
 }
 
 impl Interval {
@@ -36,30 +29,27 @@ impl Interval {
     pub const MAX_COUNT: usize = (Self::MAX_STEPS + 1) * (Self::MAX_STEPS + 2) / 2;
 
     // Question 2.
-    pub fn ask_steps(k: usize) -> Reply
+    pub fn ask_steps(k: usize) -> Result<(), Refusal>
         ensures { result ≡ ask_steps k }
     {
         refusal::ask(2, k <= Self::MAX_STEPS)
     }
 
     // Question 9.
-    pub fn ask_interval(i: usize, j: usize, k: usize) -> Reply
+    pub fn ask_interval(i: usize, j: usize, k: usize) -> Result<(), Refusal>
         ensures { result ≡ ask_interval i j k }
     {
         refusal::ask_within(9, j, i, k)
     }
 
     // The constructor asks both.
-    pub fn new(i: usize, j: usize, k: usize) -> Made
+    #[tactic(auto, unfolding(crate::specs::Limits::made_of))]
+    pub fn new(i: usize, j: usize, k: usize) -> Result<Interval, Refusal>
         ensures { result ≡ made_of i j k }
     {
-        if let Reply::No(r) = Self::ask_steps(k) {
-            return Made::Refused(r);
-        }
-        if let Reply::No(r) = Self::ask_interval(i, j, k) {
-            return Made::Refused(r);
-        }
-        Made::Good(Interval { i, j })
+        Self::ask_steps(k)?;
+        Self::ask_interval(i, j, k)?;
+        Ok(Interval { i, j })
     }
 
     // How many intervals k steps have: I. The constant is I of the most steps, neither less nor more.
@@ -78,6 +68,7 @@ impl Interval {
     {
         rows[0] = 0;
         let mut start = 0;
+        // Over starts and not over `rows`, which has one place more: a start is the sum of the rows before it, so that the sum comes first.
         for i in 0..k + 1 {
             start += k + 1 - i;
             rows[i as usize + 1] = start;
@@ -132,6 +123,7 @@ impl Triple {
         let all = Interval::all(rows, k);
         starts[0] = 0;
         let mut start = 0;
+        // Over starts and not over `starts`, whose last place has no start after it to be summed.
         for i in 0..k {
             start += all - Interval::place(rows, k, i, 0);
             starts[i as usize + 1] = start;

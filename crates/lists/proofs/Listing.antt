@@ -11,6 +11,7 @@ use native.Mathlib.Decide.{dec_lt}
 use native.Mathlib.Omega.{arith}
 use lib.ListN.{length, get_or, length-append, get_or-append}
 use lib.Seq.{get_or-append-add}
+use Rattle.std.proofs.lemmas.Grind.{same_number_lists}
 use Rattle.lists.specs.Listing.{rows, tab, place_in, sum}
 
 -- to show a fact at i < n + 1: at i < n, or at n
@@ -134,6 +135,11 @@ module _ {A : Type 0} (n : ℕ) (g : ℕ → A) where
   get_or_tab x d h =
       let e : x ≡ sum (λ i. 1) x + 0 = omega (arith, sum_ones x) in
       ap (λ y. get_or (tab n g) y d) e ∙ get_or_rows (λ i. g i ∷ []) (λ i. 1) (λ i. refl) n x 0 d h (omega arith)
+
+-- a list that has g's numbers, place by place
+pub listed : (g : ℕ → ℕ) {n : ℕ} {l : List ℕ} → length l ≡ n → ((y : ℕ) → y < n → get_or l y 0 ≡ g y) → l ≡ tab n g
+listed g {n} {l} w e =
+    same_number_lists l (tab n g) (w ∙ sym (length_tab n g)) (λ y h. let m : y < n = omega arith in e y m ∙ sym (get_or_tab n g y 0 m))
 
 -- the first one that is so stands at p, if the one at p is and none before it
 pub place_in_lem : {A : Type 0} (is : A → Bool) (l : List A) (p : ℕ) (d : A) → p < length l → is (get_or l p d) ≡ true

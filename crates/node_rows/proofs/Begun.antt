@@ -7,7 +7,7 @@ use Prim.Native.Nat.{ℕ, suc, ◌+◌, ◌≤◌, ◌<◌}
 use native.Mathlib.Omega.{arith}
 use native.Mathlib.Numerals.{add-one}
 use lib.ListN.{length, get_or, drop, set, drop_of_length-le, length-append, length-map}
-use Rattle.refusal.specs.declared.Reply.TheVariants.{Yes}
+use Rattle.refusal.specs.Asked.{ok}
 use Rattle.paper_grammar.specs.Limits.{max_length, max_nodes}
 use Rattle.paper_grammar.specs.Trees.{Link, and, or, chop, Tree, constant, letter, negation, pair, duration, throughout, Letters, decimal, link_byte, write, text_of}
 use Rattle.paper_grammar.specs.Reader.{is_start}
@@ -85,7 +85,7 @@ begun_tree (throughout x) at q w =
     ∙ ap (λ (n : ℕ). map begun (nodes_of x (suc at)) ++ begun_in 16 q n) (omega (arith, length_write x (93 ∷ []))))
 
 -- an accepted text
-module _ (C k : ℕ) (t : List ℕ) (e : accept_of C k t ≡ Yes) where
+module _ (C k : ℕ) (t : List ℕ) (e : accept_of C k t ≡ ok) where
   begun_text : begun_in 16 t 0 ≡ map begun (nodes_in t)
   unfolding begun_in
   begun_text =
@@ -129,10 +129,7 @@ pub record Begun (t : List ℕ) (table : NodeTable) (code i : ℕ) : Type 0 wher
   pub is : table ≡ table_of done
   pub same : done ++ begun_in code (drop i t) i ≡ begun_in 16 t 0
 
-pub begun_none : (t : List ℕ) (table : NodeTable) → table ≡ table_of [] → Begun t table 16 0
-begun_none t table e = record { done = []; is = e; same = refl }
-
-module _ (C k : ℕ) (t : List ℕ) (a : accept_of C k t ≡ Yes) (table : NodeTable) (code i : ℕ) (w : Begun t table code i) where
+module _ (C k : ℕ) (t : List ℕ) (a : accept_of C k t ≡ ok) (table : NodeTable) (code i : ℕ) (w : Begun t table code i) where
   pub begun_done : length t ≤ i → table ≡ table_of (map begun (nodes_in t))
   unfolding begun_in
   begun_done h = w.is ∙ ap table_of (sym (append-nil w.done) ∙ ap (λ (l : List ℕ). w.done ++ begun_in code l i) (sym (drop_of_length-le t h)) ∙ w.same ∙ begun_text C k t a)

@@ -2,11 +2,11 @@
 -- of the first part's. They are found before it, the last row first; so each row is found from theirs, until all are.
 use mathlib.Core.Path.{◌≡◌, refl, sym, ap, ap₂, ◌∙◌, subst}
 use mathlib.Core.List.{List, [], ◌∷◌, ◌++◌, append_assoc, append-nil, map, map-append}
-use Prim.Native.Nat.{ℕ, zero, suc, ◌+◌, ◌-◌, ◌≤◌, ◌<◌}
+use Prim.Native.Nat.{ℕ, suc, ◌+◌, ◌-◌, ◌≤◌, ◌<◌}
 use native.Mathlib.Omega.{arith}
 use lib.ListN.{length, get_or, take, drop, set, drop_of_length-le, length-append, length-map, length-drop}
 use lib.Seq.{take_all, drop_at, drop-drop, drop-append-add, length-take-le}
-use Rattle.refusal.specs.declared.Reply.TheVariants.{Yes}
+use Rattle.refusal.specs.Asked.{ok}
 use Rattle.paper_grammar.specs.Limits.{max_nodes, max_number}
 use Rattle.paper_grammar.specs.Trees.{text_of}
 use Rattle.paper_grammar.specs.declared.Sort.{Sort}
@@ -29,7 +29,7 @@ use Rattle.node_rows.proofs.Rows.{PartIs, PartsAre, row_found}
 abbrev pub Known : List ℕ → Node → Type 0
 Known t w = StandsNode t w × NumbersNode max_number w
 
-pub node_chosen : (t : List ℕ) (C k y : ℕ) → accept_of C k t ≡ Yes → y < length (nodes_in t) → Chosen (Known t) (nodes_in t) y
+pub node_chosen : (t : List ℕ) (C k y : ℕ) → accept_of C k t ≡ ok → y < length (nodes_in t) → Chosen (Known t) (nodes_in t) y
 node_chosen t C k y e h =
     let a = accepted C k t e in
     let r = each_node (Known t) (both_pass (StandsNode t) (NumbersNode max_number) (stands_pass t) (numbers_pass max_number)) a.root 0 (root_stands t a.root a.reads, a.numbers) in
@@ -114,10 +114,6 @@ found_none t table e =
           (sym (drop_of_length-le l {i = table.count} (omega arith))));
     }
 
-pub found_all : (t : List ℕ) (table : NodeTable) (x : ℕ) → Found t table x → x ≤ 0 → table ≡ table_of (map row_of (nodes_in t))
-found_all t table zero w h = w.is
-found_all t table (suc x) w h = absurd (omega arith)
-
 -- a table with another row found at y
 abbrev pub with_row : NodeTable → ℕ → Row → NodeTable
 with_row n y r = record {
@@ -145,7 +141,7 @@ stored a b w y e =
       length-append a (r' ∷ b),
     )
 
-module _ (C k : ℕ) (t : List ℕ) (a : accept_of C k t ≡ Yes) (table : NodeTable) (x : ℕ) (w : Found t table x) (h : 0 < x) where
+module _ (C k : ℕ) (t : List ℕ) (a : accept_of C k t ≡ ok) (table : NodeTable) (x : ℕ) (w : Found t table x) (h : 0 < x) where
   abbrev y : ℕ
   y = x - 1
 

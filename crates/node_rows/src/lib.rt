@@ -2,7 +2,7 @@
 #![tactic(auto)]
 
 ghost use Rattle.std.specs.Prelude.{◌≡◌, [], map, ℕ, ◌+◌, ◌-◌, ◌≤◌, ◌<◌, eqb, length, get_or};
-ghost use Rattle.refusal.specs.declared.Reply.TheVariants.{Yes};
+ghost use Rattle.refusal.specs.Asked.{ok};
 ghost use Rattle.paper_grammar.specs.Limits.{max_nodes};
 ghost use Rattle.paper_grammar.specs.Nodes.{nodes_in};
 ghost use Rattle.paper_grammar.specs.Questions.{accept_of};
@@ -77,7 +77,7 @@ pub struct NodeTable {
 pub fn byte_at(text: &[u8], at: usize) -> u8
     ensures { result ≡ get_or text.now at 0 }
 {
-    if at < text.len() { text[at] } else { 0 }
+    text.get(at).copied().unwrap_or(0)
 }
 
 // No rows.
@@ -100,35 +100,28 @@ fn code_after(code: u8, b: u8) -> u8
     ensures { result ≡ code_after code b }
 {
     match b {
-        b'#' => STATE,
-        b'[' => STATE,
-        b'>' => FORMULA,
-        b']' => FORMULA,
+        b'#' | b'[' => STATE,
+        b'>' | b']' => FORMULA,
         _ => code,
     }
 }
 
 // The rows of an accepted text before their parts are known: a loop over its bytes, a row at each first byte.
 fn begun_rows(text: &[u8]) -> NodeTable
-    requires { (C : ℕ) × (k : ℕ) × (accept_of C k text.now ≡ Yes) }
+    requires { (C : ℕ) × (k : ℕ) × (accept_of C k text.now ≡ ok) }
     ensures { result ≡ table_of (map begun (nodes_in text.now)) }
 {
     let mut table = empty_table();
     let mut code = FORMULA;
-    let mut i = 0;
-    while i < text.len() {
-        let b = text[i];
+    for (i, &b) in text.iter().enumerate() {
         let own = code;
         code = code_after(own, b);
-        if !formula_bytes::is_start(b) {
-            i += 1;
-            continue;
+        if formula_bytes::is_start(b) {
+            let x = table.count;
+            table.kinds[x] = own;
+            table.firsts[x] = i as u8;
+            table.count = x + 1;
         }
-        let x = table.count;
-        table.kinds[x] = own;
-        table.firsts[x] = i as u8;
-        table.count = x + 1;
-        i += 1;
     }
     table
 }
@@ -156,7 +149,7 @@ fn link_of(b: u8) -> u8
 fn channel_of(b: u8) -> u8
     ensures { result ≡ b - 97 }
 {
-    if b > b'a' { b - b'a' } else { 0 }
+    b.saturating_sub(b'a')
 }
 
 // How many digits a number within the limit has.
@@ -171,8 +164,8 @@ fn part_at<'a>(sizes: &'a [u8; MAX_NODES], lengths: &'a [u8; MAX_NODES], x: usiz
     ensures { (result ≡ part_at sizes.now lengths.now x) × (result.size ≤ 255) × (result.length ≤ 255) }
 {
     Part {
-        size: formula_scan::wide(byte_at(sizes, x)),
-        length: formula_scan::wide(byte_at(lengths, x)),
+        size: usize::from(byte_at(sizes, x)),
+        length: usize::from(byte_at(lengths, x)),
     }
 }
 
@@ -231,7 +224,7 @@ fn row_at<'a>(
     requires { (x < max_nodes) × (get_or kinds.now x 0 ≤ 16) }
     ensures { result ≡ row_at text.now kinds.now sizes.now firsts.now lengths.now x }
 {
-    let at = formula_scan::wide(byte_at(firsts, x));
+    let at = usize::from(byte_at(firsts, x));
     let p = part_at(sizes, lengths, x + 1);
     let q = part_at(sizes, lengths, x + 1 + p.size);
     row_from(text, byte_at(text, at), byte_at(kinds, x), at, p, q)
@@ -239,13 +232,11 @@ fn row_at<'a>(
 
 // The rows of an accepted text: a loop over its nodes, the last first, so that each comes after its parts.
 pub fn rows_of(text: &[u8]) -> NodeTable
-    requires { (C : ℕ) × (k : ℕ) × (accept_of C k text.now ≡ Yes) }
+    requires { (C : ℕ) × (k : ℕ) × (accept_of C k text.now ≡ ok) }
     ensures { result ≡ table_of (map row_of (nodes_in text.now)) }
 {
     let mut table = begun_rows(text);
-    let mut x = table.count;
-    while x > 0 {
-        x -= 1;
+    for x in (0..table.count).rev() {
         let row = row_at(
             text,
             &table.kinds,

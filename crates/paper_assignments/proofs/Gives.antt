@@ -5,8 +5,8 @@ use mathlib.Core.List.{List, [], ◌∷◌}
 use Prim.Native.Nat.{ℕ, suc}
 use lib.Dec.{eqb}
 use lib.ListN.{length}
+use Rattle.std.specs.Prelude.{Err}
 use Rattle.refusal.specs.Asked.{Gives}
-use Rattle.refusal.specs.declared.Reply.TheVariants.{No}
 use Rattle.refusal.proofs.Numbers.{question_gives}
 use Rattle.lists.proofs.Tests.{cond_elim}
 use Rattle.paper_circuit.specs.Gates.{Assignment}
@@ -21,5 +21,5 @@ pub clauses_gives : (a : Assignment) (n : ℕ) (T : List Clause) → Gives 14 (a
 unfolding ask_clauses
 clauses_gives a n [] = tt
 clauses_gives a n (c ∷ T) =
-    cond_elim (Gives 14) (meets_clause a c) {a = ask_clauses a (suc n) T} {b = No (record { number = 14; place = n })}
+    cond_elim (Gives 14) (meets_clause a c) {a = ask_clauses a (suc n) T} {b = Err (record { number = 14; place = n })}
     (λ e. clauses_gives a (suc n) T) (λ e. refl)

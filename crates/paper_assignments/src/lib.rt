@@ -1,10 +1,2 @@
-// What is answered to a proposed assignment.
+// What is answered to a recording that is to be extended and to a proposed assignment: definitions and laws, and no code of its own.
 #![tactic(auto)]
-
-use refusal::Refusal;
-
-#[derive(Drop)]
-pub enum Checked {
-    Accepted,
-    Refused(Refusal),
-}

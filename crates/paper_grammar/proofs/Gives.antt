@@ -7,8 +7,7 @@ use Prim.Native.Nat.{ℕ, ◌≤◌}
 use lib.Dec.{leb}
 use lib.ListN.{length, drop}
 use Rattle.lists.proofs.Tests.{ranged}
-use Rattle.refusal.specs.Asked.{Gives, Asks}
-use Rattle.refusal.specs.declared.Reply.TheVariants.{Yes}
+use Rattle.refusal.specs.Asked.{Gives, Asks, ok}
 use Rattle.refusal.proofs.Laws.{test_yes}
 use Rattle.refusal.proofs.Numbers.{question_gives}
 use Rattle.interval.proofs.Gives.{steps_gives}
@@ -26,7 +25,7 @@ pub channels_gives : (C : ℕ) → Gives 1 (ask_channels C)
 unfolding ask_channels
 channels_gives C = question_gives 1 0 (leb 1 C && leb C max_channels)
 
-pub channels_yes : (C : ℕ) → ask_channels C ≡ Yes → (1 ≤ C) × (C ≤ max_channels)
+pub channels_yes : (C : ℕ) → ask_channels C ≡ ok → (1 ≤ C) × (C ≤ max_channels)
 unfolding ask_channels
 channels_yes C e = ranged 1 max_channels C (test_yes 1 0 _ e)
 

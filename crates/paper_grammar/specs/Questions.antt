@@ -1,9 +1,7 @@
 -- Document 01, "Questions in order", 1 to 7: when a formula is accepted for C and k.
-use Rattle.std.specs.Prelude.{cond, ◌&&◌, ℕ, ◌+◌, leb, ltb, length, drop}
+use Rattle.std.specs.Prelude.{cond, ◌&&◌, ℕ, ◌+◌, leb, ltb, length, drop, Err}
 use mathlib.Core.List.{List, [], ◌∷◌, map, flat_map}
-use Rattle.refusal.specs.Asked.{question, asked}
-use Rattle.refusal.specs.declared.Reply.{Reply}
-use Rattle.refusal.specs.declared.Reply.TheVariants.{Yes, No}
+use Rattle.refusal.specs.Asked.{question, asked, Reply, ok}
 use Rattle.interval.specs.Limits.{ask_steps}
 use Rattle.paper_grammar.specs.Limits.{max_length, max_nodes, max_number, max_channels}
 use Rattle.paper_grammar.specs.Trees.{Tree, text_of}
@@ -14,8 +12,8 @@ use Rattle.paper_grammar.specs.Nodes.{Node, a_letter, a_duration, a_chop, anothe
 
 -- a question that names a place: no at the first of the places that fail it
 abbrev pub at_first : ℕ → List ℕ → Reply
-at_first number [] = Yes
-at_first number (p ∷ r) = No (record { number = number; place = p })
+at_first number [] = ok
+at_first number (p ∷ r) = Err (record { number = number; place = p })
 
 -- question 1: is C from 1 to 8?
 unfoldable pub ask_channels : ℕ → Reply
@@ -28,8 +26,8 @@ ask_length t = question 3 0 (leb 1 (length t) && leb (length t) max_length)
 -- question 4: does it read by the grammar? Its place is where reading stops: the law `stops_at_place`
 -- says that this is the least p such that no grammatical text begins with the first p + 1 bytes, or the length if it only ends early.
 abbrev pub on_read : Read Formula → Reply
-on_read (parsed f) = Yes
-on_read (stopped p) = No (record { number = 4; place = p })
+on_read (parsed f) = ok
+on_read (stopped p) = Err (record { number = 4; place = p })
 
 unfoldable pub ask_grammar : List ℕ → Reply
 ask_grammar t = on_read (read t)
@@ -61,4 +59,4 @@ abbrev pub formula_questions : ℕ → ℕ → List ℕ → List Reply
 formula_questions C k t = ask_channels C ∷ ask_steps k ∷ ask_length t ∷ text_questions C t
 
 unfoldable pub accept_of : ℕ → ℕ → List ℕ → Reply
-accept_of C k t = asked (formula_questions C k t) No Yes
+accept_of C k t = asked (formula_questions C k t) Err ok

@@ -12,8 +12,7 @@ use lib.ListN.{length, get_or}
 use lib.Seq.{ext_get_or}
 use borrow.Author.Tests.{eqb-true, lt-ltb, ltb-true}
 use Rattle.lists.proofs.Lists.{all_at}
-use Rattle.refusal.specs.Asked.{Gives}
-use Rattle.refusal.specs.declared.Reply.TheVariants.{Yes}
+use Rattle.refusal.specs.Asked.{Gives, ok}
 use Rattle.refusal.proofs.Laws.{test_yes}
 use Rattle.refusal.proofs.Numbers.{question_gives}
 use Rattle.paper_grammar.specs.Questions.{at_first}
@@ -31,7 +30,7 @@ unfolding ask_below
 below_gives n most bytes = first_gives n (not_below most 0 bytes)
 
 -- question 10, answered with yes
-pub recording_length : (k : ℕ) (recording : List ℕ) → ask_recording k recording ≡ Yes → length recording ≡ k
+pub recording_length : (k : ℕ) (recording : List ℕ) → ask_recording k recording ≡ ok → length recording ≡ k
 unfolding ask_recording
 recording_length k recording e = eqb-true (length recording) k (test_yes 10 0 _ e)
 
@@ -42,17 +41,17 @@ module _ (number n : ℕ) where
   none_not_below t [] h = refl
   none_not_below t (b ∷ A) h = rw (lt-ltb b n h.0) (none_not_below (suc t) A h.1)
 
-  each_below : (t : ℕ) (A : List ℕ) → at_first number (not_below n t A) ≡ Yes → EachBelow n A
+  each_below : (t : ℕ) (A : List ℕ) → at_first number (not_below n t A) ≡ ok → EachBelow n A
   unfolding not_below
   each_below t [] e = tt
   each_below t (b ∷ A) e = go (ltb b n) refl e (each_below (suc t) A)
     where
-      go : (u : Bool) → ltb b n ≡ u → at_first number (cond u [] (t ∷ []) ++ not_below n (suc t) A) ≡ Yes →
-          (at_first number (not_below n (suc t) A) ≡ Yes → EachBelow n A) → EachBelow n (b ∷ A)
+      go : (u : Bool) → ltb b n ≡ u → at_first number (cond u [] (t ∷ []) ++ not_below n (suc t) A) ≡ ok →
+          (at_first number (not_below n (suc t) A) ≡ ok → EachBelow n A) → EachBelow n (b ∷ A)
       go true u e ih = (ltb-true b n u, ih e)
       go false u e ih = absurd (false≢true cc)
 
-  pub below_yes : (A : List ℕ) → (ask_below number n A ≡ Yes) ↔ EachBelow n A
+  pub below_yes : (A : List ℕ) → (ask_below number n A ≡ ok) ↔ EachBelow n A
   unfolding ask_below
   below_yes A = (each_below 0 A, λ h. ap (at_first number) (none_not_below 0 A h))
 

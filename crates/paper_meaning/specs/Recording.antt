@@ -1,8 +1,7 @@
 -- Document 01, "Questions in order", 10 and 11: whether bytes are a recording of k steps and C channels.
 use Rattle.std.specs.Prelude.{cond, List, [], ◌∷◌, ◌++◌, ℕ, suc, ◌^◌, ◌<◌, eqb, ltb, length}
 use Rattle.lists.specs.Listing.{All}
-use Rattle.refusal.specs.Asked.{question}
-use Rattle.refusal.specs.declared.Reply.{Reply}
+use Rattle.refusal.specs.Asked.{question, Reply}
 use Rattle.paper_grammar.specs.Questions.{at_first}
 
 -- question 10: has the recording k bytes?

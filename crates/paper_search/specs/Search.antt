@@ -1,9 +1,8 @@
 -- Document 01, "First recording" and "Questions in order", 18: the order of recordings, the tree of a formula, and what the search answers
 -- and leaves in the recording's array.
-use Rattle.std.specs.Prelude.{◌≡◌, ◌≢◌, Bool, true, false, cond, ◌&&◌, List, [], ◌∷◌, ◌++◌, ℕ, ◌*◌, ◌^◌, eqb, leb, ltb, length}
-use Rattle.refusal.specs.Asked.{question, asked}
+use Rattle.std.specs.Prelude.{◌≡◌, ◌≢◌, Bool, true, false, cond, ◌&&◌, List, [], ◌∷◌, ◌++◌, ℕ, ◌*◌, ◌^◌, eqb, leb, ltb, length, Result, Ok, Err}
+use Rattle.refusal.specs.Asked.{Reply, question, asked}
 use Rattle.refusal.specs.declared.Refusal.{Refusal}
-use Rattle.refusal.specs.declared.Reply.{Reply}
 use Rattle.paper_grammar.specs.Trees.{Tree}
 use Rattle.paper_grammar.specs.Reader.{parsed, stopped, read}
 use Rattle.paper_grammar.specs.declared.Sort.TheVariants.{Formula}
@@ -20,7 +19,7 @@ use Rattle.paper_closure.specs.Tree as tries
 use Rattle.paper_closure.specs.Runs.{dead, found, high_in}
 use Rattle.paper_closure.specs.Tree.{Trial, trial}
 use Rattle.paper_search.specs.declared.Answer.{Answer}
-use Rattle.paper_search.specs.declared.Answer.TheVariants.{Found, None, Spent, Refused}
+use Rattle.paper_search.specs.declared.Answer.TheVariants.{Found, None, Spent}
 use Rattle.paper_search.specs.declared.Lent.{Lent}
 
 -- "Of two different recordings of equal C and k, the one that is low at the lowest-numbered channel variable where they differ comes
@@ -45,11 +44,11 @@ pub record Earliest (C k : ℕ) (f : Tree Formula) (r : List ℕ) : Type 0 where
   pub others_later : (s : List ℕ) → Satisfies C k f s → s ≢ r → earlier C k r s ≡ true
 
 -- "found, none, spent, each with its count"
-abbrev pub count_in : Answer → ℕ
-count_in (Found n) = n
-count_in (None n) = n
-count_in (Spent n) = n
-count_in (Refused r) = 0
+abbrev pub count_in : Result Answer Refusal → ℕ
+count_in (Ok (Found n)) = n
+count_in (Ok (None n)) = n
+count_in (Ok (Spent n)) = n
+count_in (Err r) = 0
 
 -- the tree of a formula: k·C channel variables. Its number of tries (decisions) is N: "the limit plays no part in it".
 unfoldable pub tree_of : ℕ → ℕ → Tree Formula → Trial
@@ -61,23 +60,23 @@ tree_in C k t = elim (read t) [ parsed f ↦ tree_of C k f | stopped p ↦ trial
 
 -- the answer, and the recording's array after it
 pub record Searched : Type 0 where
-  pub answer : Answer
+  pub answer : Result Answer Refusal
   pub recording : List ℕ
 
-abbrev pub unwritten : List ℕ → Answer → Searched
+abbrev pub unwritten : List ℕ → Result Answer Refusal → Searched
 unwritten recording a = record { answer = a; recording = recording }
 
 -- "Answers: found, none, spent, each with its count. The recording array is written only on found."
 abbrev pub ended : ℕ → ℕ → List ℕ → Trial → Searched
 ended C k recording t =
     elim t.outcome [
-      | found S ↦ record { answer = Found t.tries; recording = over (recording_by C k (high_in S)) recording }
-      | dead ↦ unwritten recording (None t.tries)
+      | found S ↦ record { answer = Ok (Found t.tries); recording = over (recording_by C k (high_in S)) recording }
+      | dead ↦ unwritten recording (Ok (None t.tries))
     ]
 
 -- "Limit B": where it allows fewer than N tries, it is spent
 unfoldable pub limited : ℕ → ℕ → ℕ → List ℕ → Trial → Searched
-limited C k B recording t = cond (leb t.tries B) (ended C k recording t) (unwritten recording (Spent B))
+limited C k B recording t = cond (leb t.tries B) (ended C k recording t) (unwritten recording (Ok (Spent B)))
 
 -- the five lent arrays
 pub record Arrays : Type 0 where
@@ -109,8 +108,8 @@ search_questions C k t n = formula_questions C k t ++ ask_lent (length (places_i
 -- the call: "the first no gives number and place"; where there is none, the first recording is drawn
 unfoldable pub searched : ℕ → ℕ → List ℕ → ℕ → Lent → List ℕ → Searched
 searched C k t B n recording =
-    asked (search_questions C k t n) (λ r. unwritten recording (Refused r)) (limited C k B recording (tree_in C k t))
+    asked (search_questions C k t n) (λ r. unwritten recording (Err r)) (limited C k B recording (tree_in C k t))
 
 -- a work array: "What the first four hold after a search is free"; a call that is refused is no search, and leaves it as it was
-abbrev pub Unchanged : Answer → List ℕ → List ℕ → Type 0
-Unchanged a before after = (r : Refusal) → a ≡ Refused r → after ≡ before
+abbrev pub Unchanged : Result Answer Refusal → List ℕ → List ℕ → Type 0
+Unchanged a before after = (r : Refusal) → a ≡ Err r → after ≡ before

@@ -1,15 +1,12 @@
 // What the search answers: definitions and laws, and their two types.
 #![tactic(auto)]
 
-use refusal::Refusal;
-
-// What the search answers: found, none, spent, each with its count.
-#[derive(Drop)]
+// What a search that is made answers: found, none, spent, each with its count.
+#[derive(Clone, Copy)]
 pub enum Answer {
     Found(u32),
     None(u32),
     Spent(u32),
-    Refused(Refusal),
 }
 
 // How many places are lent, of each array.

@@ -3,22 +3,16 @@
 use mathlib.Core.Path.{◌≡◌, refl, sym, ap, ◌∙◌}
 use mathlib.Core.Bool.{Bool, true, false, cond}
 use mathlib.Core.List.{List, [], ◌∷◌, ◌++◌}
-use Prim.Native.Nat.{ℕ, suc, ◌+◌, ◌*◌, ◌%◌, ◌^◌, ◌≤◌, ◌<◌}
-use native.Mathlib.Nat.{one-mul}
+use Prim.Native.Nat.{ℕ, suc, ◌+◌, ◌≤◌, ◌<◌}
 use native.Mathlib.Numerals.{add-one}
-use native.Mathlib.Omega.{arith}
 use lib.Dec.{ltb}
 use lib.ListN.{length, get_or, drop, drop_of_length-le}
-use lib.Pow.{shl_exact}
 use lib.Seq.{drop-cons}
 use borrow.Author.Tests.{lt-ltb, le-ltb}
-use Rattle.refusal.specs.declared.Reply.TheVariants.{Yes, No}
+use Rattle.std.specs.Prelude.{Err}
+use Rattle.refusal.specs.Asked.{ok}
 use Rattle.paper_grammar.specs.Questions.{at_first}
 use Rattle.paper_meaning.specs.Recording.{not_below, ask_below}
-
--- 2^C as the code shifts it
-pub shifted : (w c : ℕ) → 1 + c ≤ w → 1 * 2 ^ c % 2 ^ w ≡ 2 ^ c
-shifted w c h = shl_exact 1 c w (omega arith) h ∙ one-mul (2 ^ c)
 
 module _ (number most : ℕ) (bytes : List ℕ) where
   pub record AskedFrom (t : ℕ) : Type 0 where
@@ -35,12 +29,12 @@ module _ (number most : ℕ) (bytes : List ℕ) where
   own_byte t h b e =
       ap (λ (l : List ℕ). at_first number (not_below most t l)) (drop-cons bytes t 0 h) ∙ ap (λ (b : Bool). at_first number (cond b [] (t ∷ []) ++ not_below most (suc t) (drop (suc t) bytes))) e
 
-  pub asked_no : (t : ℕ) → t < length bytes → most ≤ get_or bytes t 0 → AskedFrom t → No (record { number = number; place = t }) ≡ ask_below number most bytes
+  pub asked_no : (t : ℕ) → t < length bytes → most ≤ get_or bytes t 0 → AskedFrom t → Err (record { number = number; place = t }) ≡ ask_below number most bytes
   asked_no t h g a = sym (own_byte t h false (le-ltb (get_or bytes t 0) most g)) ∙ a.same
 
   pub asked_next : (t : ℕ) → t < length bytes → get_or bytes t 0 < most → AskedFrom t → AskedFrom (t + 1)
   asked_next t h g a = rw add-one (record { same = sym (own_byte t h true (lt-ltb (get_or bytes t 0) most g)) ∙ a.same })
 
-  pub asked_all : (t : ℕ) → length bytes ≤ t → AskedFrom t → Yes ≡ ask_below number most bytes
+  pub asked_all : (t : ℕ) → length bytes ≤ t → AskedFrom t → ok ≡ ask_below number most bytes
   unfolding not_below
   asked_all t h a = sym (ap (λ (l : List ℕ). at_first number (not_below most t l)) (drop_of_length-le bytes h)) ∙ a.same

@@ -5,16 +5,15 @@ use mathlib.Core.Bool.{Bool, true, false, false≢true}
 use mathlib.Core.List.{List, [], ◌∷◌, ◌++◌}
 use Prim.Native.Nat.{ℕ}
 use mathlib.Core.Logic.{◌⊎◌, inl, inr, ⊎_elim}
-use Rattle.refusal.specs.Asked.{question, asked, AllYes, none_left, yes_then, FirstNo, here, later}
+use Rattle.refusal.specs.Asked.{Reply, ok, question, asked, AllYes, none_left, yes_then, FirstNo, here, later}
 use Rattle.refusal.specs.declared.Refusal.{Refusal}
-use Rattle.refusal.specs.declared.Reply.{Reply}
-use Rattle.refusal.specs.declared.Reply.TheVariants.{Yes, No}
+use Rattle.std.specs.Prelude.{Ok, Err}
 
 -- either all say yes, or there is a first no
 pub all_yes_or_first_no : (questions : List Reply) → AllYes questions ⊎ ((r : Refusal) × FirstNo questions r)
 all_yes_or_first_no [] = inl none_left
-all_yes_or_first_no (Yes ∷ questions) = ⊎_elim (λ h. inl (yes_then h)) (λ f. inr (f.0, later f.1)) (all_yes_or_first_no questions)
-all_yes_or_first_no (No r ∷ questions) = inr (r, here)
+all_yes_or_first_no (Ok _ ∷ questions) = ⊎_elim (λ h. inl (yes_then h)) (λ f. inr (f.0, later f.1)) (all_yes_or_first_no questions)
+all_yes_or_first_no (Err r ∷ questions) = inr (r, here)
 
 module _ {A : Type 0} (refused : Refusal → A) (answer : A) where
   pub all_yes_answers : {questions : List Reply} → AllYes questions → asked questions refused answer ≡ answer
@@ -28,51 +27,51 @@ module _ {A : Type 0} (refused : Refusal → A) (answer : A) where
   -- a call that begins with another call's questions
   pub asked_append : (first then : List Reply) → asked (first ++ then) refused answer ≡ asked first refused (asked then refused answer)
   asked_append [] then = refl
-  asked_append (Yes ∷ first) then = asked_append first then
-  asked_append (No r ∷ first) then = refl
+  asked_append (Ok _ ∷ first) then = asked_append first then
+  asked_append (Err r ∷ first) then = refl
 
   -- the reply to the questions alone tells how every call that asks them ends
-  pub replied_yes : (questions : List Reply) → asked questions No Yes ≡ Yes → asked questions refused answer ≡ answer
+  pub replied_yes : (questions : List Reply) → asked questions Err ok ≡ ok → asked questions refused answer ≡ answer
   replied_yes [] e = refl
-  replied_yes (Yes ∷ q) e = replied_yes q e
-  replied_yes (No r ∷ q) e = absurd (false≢true cc)
+  replied_yes (Ok _ ∷ q) e = replied_yes q e
+  replied_yes (Err r ∷ q) e = absurd (false≢true cc)
 
-  pub replied_no : (questions : List Reply) (r : Refusal) → asked questions No Yes ≡ No r → asked questions refused answer ≡ refused r
+  pub replied_no : (questions : List Reply) (r : Refusal) → asked questions Err ok ≡ Err r → asked questions refused answer ≡ refused r
   replied_no [] r e = absurd (false≢true cc)
-  replied_no (Yes ∷ q) r e = replied_no q r e
-  replied_no (No p ∷ q) r e = let h : p ≡ r = cc in ap refused h
+  replied_no (Ok _ ∷ q) r e = replied_no q r e
+  replied_no (Err p ∷ q) r e = let h : p ≡ r = cc in ap refused h
 
 -- and where it is yes, each was
-pub all_replied : (questions : List Reply) → asked questions No Yes ≡ Yes → AllYes questions
+pub all_replied : (questions : List Reply) → asked questions Err ok ≡ ok → AllYes questions
 all_replied [] e = none_left
-all_replied (Yes ∷ q) e = yes_then (all_replied q e)
-all_replied (No r ∷ q) e = absurd (false≢true cc)
+all_replied (Ok _ ∷ q) e = yes_then (all_replied q e)
+all_replied (Err r ∷ q) e = absurd (false≢true cc)
 
-pub one_yes : {q : Reply} {Q : List Reply} → AllYes (q ∷ Q) → (q ≡ Yes) × AllYes Q
+pub one_yes : {q : Reply} {Q : List Reply} → AllYes (q ∷ Q) → (q ≡ ok) × AllYes Q
 one_yes (yes_then h) = (refl, h)
 
 -- what is made of a call's answer is made of each way that it ends
 pub asked_map : {A B : Type 0} (f : A → B) (refused : Refusal → A) (answer : A) (questions : List Reply)
     → f (asked questions refused answer) ≡ asked questions (λ r. f (refused r)) (f answer)
 asked_map f refused answer [] = refl
-asked_map f refused answer (Yes ∷ q) = asked_map f refused answer q
-asked_map f refused answer (No r ∷ q) = refl
+asked_map f refused answer (Ok _ ∷ q) = asked_map f refused answer q
+asked_map f refused answer (Err r ∷ q) = refl
 
 -- a call's last question, asked once the others are answered with yes
 module _ {A : Type 0} (refused : Refusal → A) (answer : A) (questions : List Reply) (last : Reply) where
-  pub earlier_no : {r : Refusal} → asked questions No Yes ≡ No r → refused r ≡ asked (questions ++ last ∷ []) refused answer
+  pub earlier_no : {r : Refusal} → asked questions Err ok ≡ Err r → refused r ≡ asked (questions ++ last ∷ []) refused answer
   earlier_no {r} e = sym (asked_append refused answer questions (last ∷ []) ∙ replied_no refused _ questions r e)
 
-  last_asked : asked questions No Yes ≡ Yes → asked (questions ++ last ∷ []) refused answer ≡ asked (last ∷ []) refused answer
+  last_asked : asked questions Err ok ≡ ok → asked (questions ++ last ∷ []) refused answer ≡ asked (last ∷ []) refused answer
   last_asked e = asked_append refused answer questions (last ∷ []) ∙ replied_yes refused _ questions e
 
-  pub last_no : asked questions No Yes ≡ Yes → {r : Refusal} → last ≡ No r → refused r ≡ asked (questions ++ last ∷ []) refused answer
+  pub last_no : asked questions Err ok ≡ ok → {r : Refusal} → last ≡ Err r → refused r ≡ asked (questions ++ last ∷ []) refused answer
   last_no e f = sym (last_asked e ∙ ap (λ (q : Reply). asked (q ∷ []) refused answer) f)
 
-  pub last_yes : asked questions No Yes ≡ Yes → last ≡ Yes → answer ≡ asked (questions ++ last ∷ []) refused answer
+  pub last_yes : asked questions Err ok ≡ ok → last ≡ ok → answer ≡ asked (questions ++ last ∷ []) refused answer
   last_yes e f = sym (last_asked e ∙ ap (λ (q : Reply). asked (q ∷ []) refused answer) f)
 
 -- a question that its test answers with yes
-pub test_yes : (n p : ℕ) (c : Bool) → question n p c ≡ Yes → c ≡ true
+pub test_yes : (n p : ℕ) (c : Bool) → question n p c ≡ ok → c ≡ true
 test_yes n p true e = refl
 test_yes n p false e = absurd (false≢true cc)

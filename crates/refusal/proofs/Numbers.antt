@@ -6,10 +6,9 @@ use mathlib.Core.Logic.{⊎_elim}
 use mathlib.Core.List.{List, [], ◌∷◌, ◌++◌, Memᴰ}
 use Prim.Native.Nat.{ℕ}
 use lib.Dec.{leb}
-use Rattle.refusal.specs.Asked.{question, ask_places, asked, AllYes, FirstNo, here, later, Gives, Asks}
+use Rattle.refusal.specs.Asked.{Reply, ok, question, ask_places, asked, AllYes, FirstNo, here, later, Gives, Asks}
 use Rattle.refusal.specs.declared.Refusal.{Refusal}
-use Rattle.refusal.specs.declared.Reply.{Reply}
-use Rattle.refusal.specs.declared.Reply.TheVariants.{Yes, No}
+use Rattle.std.specs.Prelude.{Ok, Err}
 use Rattle.refusal.proofs.Laws.{all_yes_or_first_no, all_yes_answers, first_no_answers}
 
 pub question_gives : (n p : ℕ) (test : Bool) → Gives n (question n p test)
@@ -33,8 +32,8 @@ pub first_no_number : (numbers : List ℕ) (questions : List Reply) → Asks num
 first_no_number [] [] a {r = r} f = elim f [ ]
 first_no_number [] (q ∷ questions) a f = absurd a
 first_no_number (n ∷ numbers) [] a {r = r} f = elim a [ ]
-first_no_number (n ∷ numbers) (No r ∷ questions) a here = Memᴰ.head a.0
-first_no_number (n ∷ numbers) (Yes ∷ questions) a (later f) = Memᴰ.tail (first_no_number numbers questions a.1 f)
+first_no_number (n ∷ numbers) (Err r ∷ questions) a here = Memᴰ.head a.0
+first_no_number (n ∷ numbers) (Ok _ ∷ questions) a (later f) = Memᴰ.tail (first_no_number numbers questions a.1 f)
 
 -- so what holds of each refusal by one of these numbers, and of the answer once every question is answered with yes, holds of the call
 pub asked_meets : {A : Type 0} (P : A → Type 0) {refused : Refusal → A} {answer : A} (numbers : List ℕ) (questions : List Reply) → Asks numbers questions

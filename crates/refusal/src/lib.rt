@@ -12,45 +12,24 @@ pub struct Refusal {
     pub place: u32,
 }
 
-// The reply to one question.
-#[derive(Drop)]
-pub enum Reply {
-    Yes,
-    No(Refusal),
-}
-
-// What a call answers that writes arrays.
-#[derive(Drop)]
-pub enum Written {
-    Done,
-    Refused(Refusal),
-}
-
-// What a call answers that writes text: how many bytes it has.
-#[derive(Drop)]
-pub enum Printed {
-    Bytes(u32),
-    Refused(Refusal),
-}
-
 // The reply to a question that names no place, by its test.
-pub fn ask(number: u32, test: bool) -> Reply
+pub fn ask(number: u32, test: bool) -> Result<(), Refusal>
     ensures { result ≡ question number 0 test }
 {
     if test {
-        return Reply::Yes;
+        return Ok(());
     }
-    Reply::No(Refusal { number, place: 0 })
+    Err(Refusal { number, place: 0 })
 }
 
 // The same: is x from low to high?
-pub fn ask_within(number: u32, x: usize, low: usize, high: usize) -> Reply
+pub fn ask_within(number: u32, x: usize, low: usize, high: usize) -> Result<(), Refusal>
     ensures { result ≡ question number 0 (leb low x && leb x high) }
 {
     if x >= low {
         if x <= high {
-            return Reply::Yes;
+            return Ok(());
         }
     }
-    Reply::No(Refusal { number, place: 0 })
+    Err(Refusal { number, place: 0 })
 }

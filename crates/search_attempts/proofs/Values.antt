@@ -1,15 +1,13 @@
 -- A variable is open where its value is 0: one byte cannot be both values, so values never clash, and the first byte that is 0 is the lowest
 -- open variable's. Values that are all 0 are the set of nothing.
-use mathlib.Core.Path.{◌≡◌, refl, ◌∙◌, subst, fun_ext}
+use mathlib.Core.Path.{◌≡◌, refl, subst, fun_ext}
 use mathlib.Core.Bool.{Bool, true, false, not, ◌||◌, false≢true}
 use mathlib.Core.List.{List, [], ◌∷◌}
 use Prim.Native.Nat.{ℕ, zero, suc, ◌+◌, ◌-◌, ◌^◌, ◌≤◌, ◌<◌}
-use native.Mathlib.Decide.{ℕ_discrete, dec_lt}
 use native.Mathlib.Numerals.{add-one}
 use native.Mathlib.Omega.{arith}
 use lib.Dec.{eqb}
-use lib.ListN.{length, get_or, set, get_or-eq_default}
-use lib.Seq.{get_or-set_same, get_or-set_other}
+use lib.ListN.{length, get_or}
 use borrow.Author.Tests.{eqb-true}
 use Rattle.paper_clauses.specs.Clauses.{plain, negated}
 use Rattle.paper_closure.specs.Closure.{nothing}
@@ -21,20 +19,6 @@ use Rattle.search_closing.proofs.Held.{nothing_there}
 use Rattle.search_attempts.specs.Attempts.{Openness}
 
 -- ---- places that are 0
-
-pub zero_more : (values : List ℕ) (x : ℕ) → x < length values → ((y : ℕ) → y < x → get_or values y 0 ≡ 0) → (y : ℕ) → y < x + 1 → get_or (set values x 0) y 0 ≡ 0
-zero_more values x h f y l = go (ℕ_discrete y x)
-  where
-    go : Dec (y ≡ x) → get_or (set values x 0) y 0 ≡ 0
-    go (yes e) = rw e (get_or-set_same values x 0 0 h)
-    go (no n) = get_or-set_other values x y 0 0 n ∙ f y (omega arith)
-
-pub zero_all : (values : List ℕ) (x : ℕ) → length values ≤ x → ((y : ℕ) → y < x → get_or values y 0 ≡ 0) → (y : ℕ) → get_or values y 0 ≡ 0
-zero_all values x h f y = go (dec_lt y x)
-  where
-    go : Dec (y < x) → get_or values y 0 ≡ 0
-    go (yes l) = f y l
-    go (no n) = get_or-eq_default values 0 (omega arith)
 
 pub zero_nothing : (values : List ℕ) → ((y : ℕ) → get_or values y 0 ≡ 0) → held_in values ≡ nothing
 unfolding held_in

@@ -6,10 +6,9 @@ use Prim.Native.Nat.{ℕ, ◌≤◌}
 use lib.ListN.{length}
 use lib.Dec.{leb}
 use borrow.Author.Tests.{leb-true}
+use Rattle.std.specs.Prelude.{Ok, Err}
 use Rattle.refusal.specs.declared.Refusal.{Refusal}
-use Rattle.refusal.specs.declared.Reply.{Reply}
-use Rattle.refusal.specs.declared.Reply.TheVariants.{Yes, No}
-use Rattle.refusal.specs.Asked.{asked}
+use Rattle.refusal.specs.Asked.{asked, Reply, ok}
 use Rattle.paper_grammar.specs.Trees.{Tree}
 use Rattle.paper_grammar.specs.Reader.{Read, parsed, stopped, read, on_tree}
 use Rattle.paper_grammar.specs.declared.Sort.TheVariants.{Formula}
@@ -19,7 +18,6 @@ use Rattle.refusal.proofs.Laws.{test_yes}
 use Rattle.node_rows.specs.declared.NodeTable.{NodeTable}
 use Rattle.node_calls.specs.Calls.{tabled_of}
 use Rattle.node_calls.specs.Rows.{node_table_of}
-use Rattle.node_calls.specs.declared.Tabled.{Tabled}
 use Rattle.node_calls.proofs.Called as first
 use Rattle.paper_circuit.specs.Circuit.{variables_of}
 use Rattle.paper_clauses.specs.Clauses.{clause_table}
@@ -30,7 +28,6 @@ use Rattle.table_layout.proofs.Known.{variables_known, literals_known}
 use Rattle.paper_closure.specs.Runs.{dead}
 use Rattle.paper_closure.specs.Tree.{trial}
 use Rattle.paper_search.specs.Search.{tree_of, tree_in, Searched, unwritten, limited, ask_lent, searched}
-use Rattle.paper_search.specs.declared.Answer.TheVariants.{Refused}
 use Rattle.paper_search.specs.declared.Lent.{Lent}
 use Rattle.search_calls.specs.Rows.{searched_by}
 
@@ -43,7 +40,7 @@ pub record Enough (l v k : ℕ) (n : Lent) : Type 0 where
   pub trail : v ≤ n.trail
   pub recording : k ≤ n.recording
 
-pub lent_enough : (l v k : ℕ) (n : Lent) → ask_lent l v k n ≡ Yes → Enough l v k n
+pub lent_enough : (l v k : ℕ) (n : Lent) → ask_lent l v k n ≡ ok → Enough l v k n
 unfolding ask_lent
 lent_enough l v k n e =
     let a = both _ (leb k n.recording) (test_yes 18 0 _ e) in
@@ -63,23 +60,23 @@ lent_enough l v k n e =
 module _ (C k : ℕ) (f : Tree Formula) {T : NodeTable} (e : T ≡ node_table_of f) {G : List ℕ} {s : Sizes}
     (w : Measured C k T.kinds T.numbers T.count G s) (B : ℕ) (n : Lent) (recording : List ℕ) where
   abbrev ending : Reply → Searched
-  ending a = asked (a ∷ []) (λ r. unwritten recording (Refused r)) (limited C k B recording (tree_of C k f))
+  ending a = asked (a ∷ []) (λ r. unwritten recording (Err r)) (limited C k B recording (tree_of C k f))
 
   lent_known : ending (ask_lent s.literals s.variables k n) ≡ searched_by C k f B n recording
   unfolding searched_by
   lent_known = ap₂ (λ (l v : ℕ). ending (ask_lent l v k n)) (literals_known C k f e w) (variables_known C k f e w)
 
-  pub lent_refused : {r : Refusal} → ask_lent s.literals s.variables k n ≡ No r → unwritten recording (Refused r) ≡ searched_by C k f B n recording
-  lent_refused q = sym (ap ending q) ∙ lent_known
+  pub lent_refused : {r : Refusal} → Err r ≡ ask_lent s.literals s.variables k n → unwritten recording (Err r) ≡ searched_by C k f B n recording
+  lent_refused q = ap ending q ∙ lent_known
 
-  pub lent_searched : ask_lent s.literals s.variables k n ≡ Yes → limited C k B recording (tree_of C k f) ≡ searched_by C k f B n recording
-  lent_searched q = sym (ap ending q) ∙ lent_known
+  pub lent_searched : ok ≡ ask_lent s.literals s.variables k n → limited C k B recording (tree_of C k f) ≡ searched_by C k f B n recording
+  lent_searched q = ap ending q ∙ lent_known
 
 -- ---- the whole call
 
-module _ (C k : ℕ) (t : List ℕ) (B : ℕ) (n : Lent) (recording : List ℕ) (T : Tabled) (e : T ≡ tabled_of C k t) where
+module _ (C k : ℕ) (t : List ℕ) (B : ℕ) (n : Lent) (recording : List ℕ) where
   abbrev refused : Refusal → Searched
-  refused r = unwritten recording (Refused r)
+  refused r = unwritten recording (Err r)
 
   abbrev answer : Read Formula → Searched
   answer r = limited C k B recording (elim r [ parsed f ↦ tree_of C k f | stopped p ↦ trial dead 0 ])
@@ -87,10 +84,10 @@ module _ (C k : ℕ) (t : List ℕ) (B : ℕ) (n : Lent) (recording : List ℕ) 
   abbrev later : Read Formula → List Reply
   later f = ask_lent (length (on_tree (λ f. flat (clause_table C k f)) f)) (variables_of C k (nodes_read f)) k n ∷ []
 
-  pub first_refused : {r : Refusal} → T.reply ≡ No r → refused r ≡ searched C k t B n recording
+  pub first_refused : {r : Refusal} → Err r ≡ tabled_of C k t → refused r ≡ searched C k t B n recording
   unfolding searched tree_in places_in nodes_in
-  first_refused w = first.refused_first C k t T e refused (answer (read t)) (later (read t)) w
+  first_refused e = first.refused_first C k t e refused (answer (read t)) (later (read t))
 
-  pub called : T.reply ≡ Yes → {x : Searched} → ((f : Tree Formula) → T.table ≡ node_table_of f → x ≡ searched_by C k f B n recording) → x ≡ searched C k t B n recording
+  pub called : {T : NodeTable} → Ok T ≡ tabled_of C k t → {x : Searched} → ((f : Tree Formula) → T ≡ node_table_of f → x ≡ searched_by C k f B n recording) → x ≡ searched C k t B n recording
   unfolding searched searched_by tree_in places_in nodes_in
-  called y g = first.called C k t T e y refused answer later (λ f w. g f w.is)
+  called e g = first.called C k t e refused answer later (λ f w. g f w.is)

@@ -1,5 +1,5 @@
 -- What the code does with the node table of an accepted formula. Nothing here need be believed: no call open to others cites it.
-use Rattle.std.specs.Prelude.{List, [], ◌∷◌, ℕ, length}
+use Rattle.std.specs.Prelude.{List, [], ◌∷◌, ℕ, length, Err}
 use Rattle.refusal.specs.Asked.{asked}
 use Rattle.paper_grammar.specs.Trees.{Tree}
 use Rattle.paper_grammar.specs.declared.Sort.TheVariants.{Formula}
@@ -8,7 +8,6 @@ use Rattle.paper_circuit.specs.Circuit.{variables_of}
 use Rattle.paper_clauses.specs.Clauses.{clause_table}
 use Rattle.paper_clauses.specs.Entries.{flat}
 use Rattle.paper_search.specs.Search.{tree_of, Searched, unwritten, limited, ask_lent}
-use Rattle.paper_search.specs.declared.Answer.TheVariants.{Refused}
 use Rattle.paper_search.specs.declared.Lent.{Lent}
 
 -- the lengths of the lent arrays, those of the first two as numbers
@@ -24,4 +23,4 @@ lent_by variables marks values trail recording = record {
 -- question 18, and then the search
 unfoldable pub searched_by : ℕ → ℕ → Tree Formula → ℕ → Lent → List ℕ → Searched
 searched_by C k f B n recording =
-    asked (ask_lent (length (flat (clause_table C k f))) (variables_of C k (nodes_of f 0)) k n ∷ []) (λ r. unwritten recording (Refused r)) (limited C k B recording (tree_of C k f))
+    asked (ask_lent (length (flat (clause_table C k f))) (variables_of C k (nodes_of f 0)) k n ∷ []) (λ r. unwritten recording (Err r)) (limited C k B recording (tree_of C k f))

@@ -13,10 +13,10 @@ ghost use Rattle.search_calls.specs.Rows.{lent_by, searched_by};
 
 use node_rows::NodeTable;
 use paper_search::{Answer, Lent};
-use refusal::Reply;
+use refusal::Refusal;
 
 // Question 18, by the arrays' lengths.
-fn ask_lent(literals: u32, variables: u32, k: u32, lent: Lent) -> Reply
+fn ask_lent(literals: u32, variables: u32, k: u32, lent: Lent) -> Result<(), Refusal>
     ensures { result ≡ ask_lent literals variables k lent }
 {
     let l = literals as usize;
@@ -37,7 +37,7 @@ fn search_table(
     values: &mut [u8],
     trail: &mut [u32],
     recording: &mut [u8],
-) -> Answer
+) -> Result<Answer, Refusal>
     requires { (c ≤ max_channels) × (k ≤ max_steps) × (table.count ≤ max_nodes) × ((f : Tree Formula) × TableFor c f table) }
     ensures recording_value { (f : Tree Formula) → table ≡ node_table_of f
         → left result recording
@@ -53,13 +53,12 @@ fn search_table(
         trail: trail.len(),
         recording: recording.len(),
     };
-    if let Reply::No(r) = ask_lent(s.literals, s.variables, k, lent) {
-        return Answer::Refused(r);
-    }
-    search_lent::search_lent(table, layout, c, k, limit, values, trail, recording)
+    ask_lent(s.literals, s.variables, k, lent)?;
+    Ok(search_lent::search_lent(table, layout, c, k, limit, values, trail, recording))
 }
 
 // The first recording that satisfies a formula of C channels over k steps, within a limit of tries: found, none or spent.
+#[tactic(auto, using(crate::proofs::Call::first_refused))]
 pub fn search(
     text: &[u8],
     c: u32,
@@ -70,17 +69,12 @@ pub fn search(
     values: &mut [u8],
     trail: &mut [u32],
     recording: &mut [u8],
-) -> Answer
+) -> Result<Answer, Refusal>
     ensures recording_value { left result recording ≡ searched c k text.now limit (lent variables marks values trail recording) recording.old }
     ensures unchanged { Unchanged result variables.old variables.new × Unchanged result marks.old marks.new }
     ensures unchanged_2 { Unchanged result values.old values.new × Unchanged result trail.old trail.new }
 {
-    let tabled = node_calls::node_table(text, c, k);
-    let reply = tabled.reply;
-    if let Reply::No(r) = reply {
-        return Answer::Refused(r);
-    }
-    let table = tabled.table;
+    let table = node_calls::node_table(text, c, k)?;
     search_table(
         table,
         c,

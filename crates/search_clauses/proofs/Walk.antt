@@ -77,7 +77,3 @@ module _ (C k : ℕ) (kinds numbers sizes firsts : List ℕ) (x : ℕ) (b : Bloc
 
   pub row_clauses_lem : clauses_by (node_by C k b (is_chop b.rule)) ≡ row_clauses C k kinds numbers sizes firsts x
   row_clauses_lem = sym (ap clauses_by same_row)
-
--- a variable by another name
-pub seated : (k : ℕ) {m s n : ℕ} → m ≡ s → Variable n (s + k) → Variable n (m + k)
-seated k e w = omega (arith, w)

@@ -2,14 +2,15 @@
 -- no value and got one is taken back to none, which is what it was.
 use mathlib.Core.Path.{◌≡◌, refl, sym, ap, ◌∙◌}
 use mathlib.Core.Bool.{false}
-use mathlib.Core.List.{List, [], ◌∷◌}
+use mathlib.Core.List.{List, [], ◌∷◌, ◌++◌}
 use Prim.Native.Nat.{ℕ, zero, suc, ◌+◌, ◌-◌, ◌≤◌, ◌<◌}
 use native.Mathlib.Decide.{dec_lt}
 use native.Mathlib.Omega.{arith}
 use lib.Dec.{eqb}
-use lib.ListN.{length, get_or, set, take, length-set}
+use lib.ListN.{length, get_or, set, take, length-set, length-append}
 use lib.Seq.{get_or-set_same, set-get_or, set-set, take-set-le, get_or-take, take-take}
 use borrow.Author.Tests.{ne_eqb}
+use Rattle.std.proofs.lemmas.List.{get_or_append_left, get_or_at}
 use Rattle.paper_closure.proofs.Sets.{either_way}
 use Rattle.search_closing.specs.Values.{held_count, Trailing, undone, Grown}
 
@@ -27,18 +28,24 @@ module _ (trail : List ℕ) where
   undone_none at n values e = rw e
 
   -- the last is taken back first
-  pub undone_last : (from j x : ℕ) (values : List ℕ) → from < j → x + 1 ≡ get_or trail (j - 1) 0
-      → undone trail from (j - 1 - from) (set values x 0) ≡ undone trail from (j - from) values
+  pub undone_last : (from n x : ℕ) (values : List ℕ) → x + 1 ≡ get_or trail (from + n) 0 → undone trail from n (set values x 0) ≡ undone trail from (n + 1) values
   unfolding undone
-  undone_last from j x values h e =
-      let f : j - from ≡ j - 1 - from + 1 = omega arith in let g : from + (j - 1 - from) ≡ j - 1 = omega arith in
-      let y : x ≡ get_or trail (j - 1) 0 - 1 = omega arith in
-      rw (f, undone_split from (j - 1 - from) 1 values, g, y)
+  undone_last from n x values e = let y : x ≡ get_or trail (from + n) 0 - 1 = omega arith in rw (undone_split from n 1 values, y)
 
   length_undone : (at n : ℕ) (values : List ℕ) → length (undone trail at n values) ≡ length values
   unfolding undone
   length_undone at zero values = refl
   length_undone at (suc n) values = length-set (undone trail (suc at) n values) (get_or trail at 0 - 1) 0 ∙ length_undone (suc at) n values
+
+-- what is left without its last
+pub but_last : (trail s : List ℕ) (from : ℕ) {rest : List ℕ} {x : ℕ} → rest ≡ s ++ x ∷ [] → ((j : ℕ) → j < length rest → get_or rest j 0 ≡ get_or trail (from + j) 0)
+    → (length rest ≡ length s + 1) × ((j : ℕ) → j < length s → get_or s j 0 ≡ get_or trail (from + j) 0) × (x ≡ get_or trail (from + length s) 0)
+but_last trail s from {rest} {x} e h =
+    let n : length rest ≡ length s + 1 = ap length e ∙ length-append s (x ∷ []) in (
+      n,
+      (λ j l. sym (get_or_append_left s (x ∷ []) 0 j l) ∙ ap (λ (l : List ℕ). get_or l j 0) (sym e) ∙ h j (omega arith)),
+      sym (get_or_at s x [] 0 (length s) refl) ∙ ap (λ (l : List ℕ). get_or l (length s) 0) (sym e) ∙ h (length s) (omega arith),
+    )
 
 -- only those places of the trail matter
 undone_agree : (t u : List ℕ) (at n : ℕ) (values : List ℕ) → ((j : ℕ) → j < at + n → get_or t j 0 ≡ get_or u j 0) → undone t at n values ≡ undone u at n values

@@ -37,11 +37,8 @@ pub fn undo(values: &mut [u8], trail: &[u32], from: usize, to: usize)
     requires { (from ≤ to) × (to ≤ length trail.now) × Ranged values.old trail.now from to }
     ensures { values.new ≡ undone trail.now from (to - from) values.old }
 {
-    let mut j = to;
-    while from < j {
-        j -= 1;
-        let x = place(trail[j]);
-        values[x] = OPEN;
+    for &v in trail[from..to].iter().rev() {
+        values[place(v)] = OPEN;
     }
 }
 

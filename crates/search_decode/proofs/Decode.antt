@@ -1,17 +1,15 @@
--- The table of intervals: the next interval has the next place, and what is stored is read back. A triple: its start is the last whose
+-- The table of intervals: the next interval has the next place. A triple: its start is the last whose
 -- triples begin at its place or before, and length and cut stand after that as the intervals do from the last to the first.
-use mathlib.Core.Path.{◌≡◌, sym, ap, subst}
+use mathlib.Core.Path.{◌≡◌, ap}
 use mathlib.Core.Logic.{by_cases}
 use mathlib.Core.List.{List}
-use Prim.Native.Nat.{ℕ, suc, ◌+◌, ◌-◌, ◌*◌, ◌/◌, ◌%◌, ◌≤◌, ◌<◌}
+use Prim.Native.Nat.{ℕ, suc, ◌+◌, ◌-◌, ◌≤◌, ◌<◌}
 use native.Mathlib.Decide.{dec_lt}
 use native.Mathlib.Nat.{zero-mul}
 use native.Mathlib.Omega.{arith}
-use lib.ListN.{length, get_or, set}
-use lib.Seq.{get_or-set_same, get_or-set_other}
+use lib.ListN.{get_or}
 use Rattle.lists.specs.Listing.{sum}
 use Rattle.interval.specs.Places.{count_of, triple_count_of, place_of}
-use Rattle.interval.proofs.Shape.{intervals}
 use Rattle.interval.specs.Limits.{IntervalOf, TripleOf}
 use Rattle.interval.specs.Rows.{triple_start}
 use Rattle.interval.specs.declared.Interval.{Interval}
@@ -19,7 +17,7 @@ use Rattle.interval.proofs.Counts.{triangle_count, intervals_count, triples_coun
 use Rattle.interval.proofs.Laws.{triple_place}
 use Rattle.interval.proofs.Rows.{row, starts_are, split_count}
 use Rattle.lists.proofs.Listing.{sum_le}
-use Rattle.search_decode.specs.Decode.{InPlace, TripleIn, unpacked, IntervalsTo, Tables, LastFrom}
+use Rattle.search_decode.specs.Decode.{InPlace, TripleIn, Tables, LastFrom}
 
 module _ (k : ℕ) where
   pub longer_next : (v : Interval) → IntervalOf k v → v.j < k → InPlace k (place_of k v + 1) (record { i = v.i; j = v.j + 1 })
@@ -37,35 +35,12 @@ module _ (k : ℕ) where
       let i : IntervalOf k (record { i = v.i + 1; j = v.i + 1 }) = record { starts = omega arith; ends = omega arith } in
       (i, omega (arith, interval_place k (record { i = v.i + 1; j = v.i + 1 }) i, e, s, o, h))
 
-  pub none_yet : (table : List ℕ) → IntervalsTo k table 0
-  none_yet table = record { each = λ p h. absurd (omega arith) }
-
-  pub one_more : {table : List ℕ} {x : ℕ} (v : Interval) → k ≤ 127 → IntervalsTo k table x → x < length table → InPlace k x v → IntervalsTo k (set table x (v.i * 128 + v.j)) (x + 1)
-  one_more {table} {x} v s t h o = record {
-    each = λ p l. by_cases (dec_lt p x)
-        (λ m. subst (λ z. InPlace k p (unpacked z)) (sym (get_or-set_other table x p (v.i * 128 + v.j) 0 (λ e. omega arith))) (t.each p m))
-        (λ m. let e : p ≡ x = omega arith in subst (λ p. InPlace k p (unpacked (get_or (set table x (v.i * 128 + v.j)) p 0))) (sym e)
-        (subst (λ z. InPlace k x (unpacked z)) (sym (get_or-set_same table x (v.i * 128 + v.j) 0 h)) back));
-  }
-    where
-      small : v.j < 128
-      small = omega (arith, o.0.ends)
-
-      back : InPlace k x (unpacked (v.i * 128 + v.j))
-      back = let a : v.i ≡ (v.i * 128 + v.j) / 128 = omega (arith, small) in let b : v.j ≡ (v.i * 128 + v.j) % 128 = omega (arith, small) in
-          subst (InPlace k x) (λ q. record { i = a q; j = b q }) o
-
   pub first_in : InPlace k 0 (record { i = 0; j = 0 })
   unfolding place_of
   first_in = (record { starts = omega arith; ends = omega arith }, omega (arith, zero-mul (k + 1), zero-mul (0 - 1)))
 
-  pub next_in : {x : ℕ} (v r : Interval) → place_of k v ≡ x → (place_of k v + 1 < count_of k → InPlace k (place_of k v + 1) r) → x + 1 < count_of k → InPlace k (x + 1) r
-  next_in {x} v r e f h = subst (λ x. x + 1 < count_of k → InPlace k (x + 1) r) e f h
-
   -- ---- a triple by its place: i by where the triples of each start begin, then its length and cut, which stand as the intervals do from
   -- the last to the first
-
-  -- ---- the triple
 
   module _ (x i : ℕ) (h : i ≤ k) (l : x < triple_count_of k) (a : triple_start k i ≤ x) (b : i < k → x < triple_start k (i + 1)) where
     below_next : x < sum (row k) (suc i)

@@ -8,7 +8,7 @@ ghost use Rattle.search_decode.specs.Decode.{InPlace, TripleIn, IntervalsTo, Tab
 
 use interval::{Interval, Triple};
 
-// Of numbers that grow the last that is not beyond u.
+// Of numbers that grow the last that is not beyond u. By hand: `partition_point` promises nothing of a table that is not known to grow.
 pub fn last_from(table: &[u32], count: usize, u: u32) -> usize
     requires { (0 < count) × (count ≤ length table.now) × (get_or table.now 0 0 ≤ u) }
     ensures { LastFrom table.now count u result }
@@ -33,7 +33,7 @@ pub struct Cell {
     pub cell: u32,
 }
 
-// A whole line less, until what is left is within one: there are few lines.
+// A whole line less, until what is left is within one: there are few lines, and the search divides nothing (tests/divisions).
 pub fn cell_at(x: u32, width: u32) -> Cell
     requires { 0 < width }
     ensures { CellOf width x result }
@@ -68,8 +68,8 @@ fn put_intervals(table: &mut [u16], k: usize)
 {
     let count = Interval::count(k);
     let mut v = Interval { i: 0, j: 0 };
-    for x in 0..count {
-        table[x] = (v.i * 128 + v.j) as u16;
+    for t in &mut table[..count] {
+        *t = (v.i * 128 + v.j) as u16;
         v = next(v, k);
     }
 }
@@ -84,18 +84,12 @@ pub fn put_tables(intervals: &mut [u16], starts: &mut [u32], rows: &mut [u32], k
     Triple::put_starts(starts, rows, k);
 }
 
-fn wide(x: u16) -> usize
-    ensures { result ≡ x }
-{
-    x as usize
-}
-
 // The interval in a place.
 pub fn interval_at(intervals: &[u16], k: usize, p: usize) -> Interval
     requires { (p < count_of k) × (count_of k ≤ length intervals.now) × IntervalsTo k intervals.now (count_of k) }
     ensures { InPlace k p result }
 {
-    let t = wide(intervals[p]);
+    let t = usize::from(intervals[p]);
     Interval {
         i: t / 128,
         j: t % 128,

@@ -14,6 +14,7 @@ use Rattle.paper_assignments.specs.Extension.{value_in, recording_by, recording_
 use Rattle.paper_assignments.proofs.Recordings.{recording_length, recording_below, recording_channels, recording_only}
 use Rattle.paper_closure.specs.Runs.{dead, found, high_in}
 use Rattle.paper_closure.specs.Tree.{Trial, trial, tree}
+use Rattle.std.specs.Prelude.{Ok}
 use Rattle.search_closing.specs.Values.{held_in}
 use Rattle.search_tree.specs.Tries.{Result, Started}
 use Rattle.search_tree.specs.Below.{Below}
@@ -43,7 +44,7 @@ module _ (C k B : ℕ) (recording : List ℕ) (t : Trial) where
   unfolding limited
   within x e h = rw (e, le-leb x.tries B h)
 
-  pub beyond : B < t.tries → unwritten recording (answer.Spent B) ≡ limited C k B recording t
+  pub beyond : B < t.tries → unwritten recording (Ok (answer.Spent B)) ≡ limited C k B recording t
   unfolding limited
   beyond h = rw (lt-leb t.tries B h)
 
@@ -52,15 +53,15 @@ module _ {T : List Clause} {variables channels B : ℕ} {values : List ℕ} {r :
   result e = subst (Result T variables channels B values) e s.result
 
   module _ (C k : ℕ) (recording : List ℕ) where
-    pub drawn_none : {n : ℕ} → r ≡ Dead n → unwritten recording (answer.None n) ≡ limited C k B recording (tree T variables channels)
+    pub drawn_none : {n : ℕ} → r ≡ Dead n → unwritten recording (Ok (answer.None n)) ≡ limited C k B recording (tree T variables channels)
     drawn_none {n} e = within C k B recording _ (trial dead n) (result e).0 (result e).1
 
     pub drawn_found : {n : ℕ} → r ≡ Found n → length recording ≡ k → {out : List ℕ} → out ≡ recording_of C (length recording) values
-        → record { answer = answer.Found n; recording = out } ≡ limited C k B recording (tree T variables channels)
+        → record { answer = Ok (answer.Found n); recording = out } ≡ limited C k B recording (tree T variables channels)
     drawn_found {n} e h {out} o =
         let w : out ≡ over (recording_by C k (high_in (held_in values))) recording =
         o ∙ ap (λ (k : ℕ). recording_of C k values) h ∙ sym (held_recording C k values) ∙ sym (over_whole _ recording (omega (arith, recording_length C k (high_in (held_in values))))) in
-        ap (λ (l : List ℕ). record { answer = answer.Found n; recording = l }) w ∙ within C k B recording _ (trial (found (held_in values)) n) (result e).0 (result e).1
+        ap (λ (l : List ℕ). record { answer = Ok (answer.Found n); recording = l }) w ∙ within C k B recording _ (trial (found (held_in values)) n) (result e).0 (result e).1
 
-    pub drawn_spent : r ≡ Spent → unwritten recording (answer.Spent B) ≡ limited C k B recording (tree T variables channels)
+    pub drawn_spent : r ≡ Spent → unwritten recording (Ok (answer.Spent B)) ≡ limited C k B recording (tree T variables channels)
     drawn_spent e = beyond C k B recording _ (result e)

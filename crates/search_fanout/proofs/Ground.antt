@@ -8,11 +8,8 @@ use native.Mathlib.Decide.{dec_lt}
 use native.Mathlib.Numerals.{add-one}
 use native.Mathlib.Omega.{arith}
 use lib.ListN.{get_or}
-use mir.Val.{Fits}
-use mir.Syntax.{w32}
 use Rattle.lists.specs.Listing.{sum}
 use Rattle.table_sizes.specs.Weights.{variable_weight, row_weight, weight_to}
-use Rattle.table_sizes.proofs.Weights.{product_fits}
 use Rattle.search_fanout.specs.Fanout.{InRow, Ground}
 
 pub ground_still : {C k : ℕ} {kinds numbers sizes firsts seats parents : List ℕ} {n all more : ℕ} → more ≡ all → Ground C k kinds numbers sizes firsts seats parents n all
@@ -20,9 +17,6 @@ pub ground_still : {C k : ℕ} {kinds numbers sizes firsts seats parents : List 
 ground_still {C} {k} {kinds} {numbers} {sizes} {firsts} {seats} {parents} {n} e g = subst (λ (all : ℕ). Ground C k kinds numbers sizes firsts seats parents n all) (sym e) g
 
 module _ {C k : ℕ} {kinds numbers sizes firsts seats parents : List ℕ} {n all : ℕ} (g : Ground C k kinds numbers sizes firsts seats parents n all) where
-  pub few_channels : Fits w32 (k * C)
-  few_channels = product_fits k C (omega (arith, g.steps)) (omega (arith, g.channels))
-
   pub first_le : {u : ℕ} → k * C < u → get_or firsts 0 0 ≤ u
   unfolding weight_to sum
   first_le h = omega (arith, g.grid.first 0 g.some)

@@ -24,4 +24,5 @@ pub mod Named
 pub mod Near
 pub mod Pending
 pub mod Rows
+pub mod Seats
 pub mod Stands

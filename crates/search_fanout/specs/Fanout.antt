@@ -1,7 +1,6 @@
 -- The clauses that name a variable, what it is to have visited all of them, and where a node's variables lie. Nothing here need be
 -- believed: no call open to others cites it.
 use Rattle.std.specs.Prelude.{◌≡◌, Bool, true, false, cond, ◌⊎◌, List, [], ◌∷◌, ◌++◌, ℕ, suc, ◌+◌, ◌-◌, ◌*◌, ◌≤◌, ◌<◌, eqb, length, get_or}
-use Rattle.std.specs.Borrow.{Bor, MutBor}
 use Rattle.moments.specs.Moments.{old, new, Slice}
 use Rattle.lists.specs.Listing.{All}
 use Rattle.interval.specs.Places.{count_of, place_of, triple_place_of}
@@ -151,11 +150,6 @@ pub record Ground (C k : ℕ) (kinds numbers sizes firsts seats parents : List �
   pub total : all ≡ k * C + weight_to variable_weight k kinds numbers n
   pub root : Variable all (seat_by kinds numbers firsts k 0 + k)
   pub mentioned : (x : ℕ) → x < n → AllMentioned all (row_definitions C k kinds numbers sizes firsts x)
-
--- it stands behind the references that a call is lent
-abbrev pub OnGround : ℕ → ℕ → (kinds numbers sizes firsts seats parents : Bor (List ℕ)) → ℕ → MutBor (List ℕ) → Type 0
-OnGround C k kinds numbers sizes firsts seats parents n values =
-    Ground C k kinds.now numbers.now sizes.now firsts.now seats.now parents.now n (length values.now)
 
 -- ---- letters
 

@@ -4,13 +4,13 @@ use mathlib.Core.Path.{◌≡◌, sym, ap, ◌∙◌}
 use mathlib.Core.Logic.{◌⊎◌, inl, inr}
 use mathlib.Core.Bool.{Bool, true, false}
 use mathlib.Core.List.{List}
-use Prim.Native.Nat.{ℕ, ◌<◌}
-use native.Mathlib.Omega.{arith}
+use Prim.Native.Nat.{ℕ}
 use Rattle.paper_circuit.specs.declared.Gate.{Gate}
 use Rattle.paper_circuit.specs.declared.Gate.TheVariants.{Constant}
 use Rattle.paper_clauses.specs.Clauses.{Clause, clauses_of}
 use Rattle.search_closing.specs.declared.Closed.{Closed as Ended}
-use Rattle.search_patterns.specs.Patterns.{among, renamed, pattern_of}
+use Rattle.search_patterns.specs.declared.Pattern.{Pattern}
+use Rattle.search_patterns.specs.Patterns.{among, renamed, pattern_of, low_pattern, high_pattern}
 use Rattle.search_patterns.proofs.Steps.{patterns}
 use Rattle.search_visits.specs.Visits.{Visited}
 use Rattle.search_visits.proofs.Parts.{visited_named}
@@ -20,7 +20,7 @@ pub visited_known : (v : ℕ) {gate g : Gate} {P : List Clause} {v₀ t₀ value
     → Visited P v₀ t₀ top₀ values trail r → Visited (clauses_of v gate) v₀ t₀ top₀ values trail r
 visited_known v e f w = visited_named (f ∙ ap (clauses_of v) (sym e)) w
 
-pub constant_known : (v : ℕ) {up : Bool} {g : ℕ} → ((g ≡ 6) × (up ≡ true)) ⊎ ((g ≡ 5) × (up ≡ false)) → (g < 8) ×
-    (renamed (among v v v v) (pattern_of g) ≡ clauses_of v (Constant up))
-constant_known v (inl (e, u)) = (omega arith, rw (e, u) (patterns v v v v).6)
-constant_known v (inr (e, u)) = (omega arith, rw (e, u) (patterns v v v v).5)
+pub constant_known : (v : ℕ) {up : Bool} {g : Pattern} → ((g ≡ high_pattern) × (up ≡ true)) ⊎ ((g ≡ low_pattern) × (up ≡ false)) →
+    renamed (among v v v v) (pattern_of g) ≡ clauses_of v (Constant up)
+constant_known v (inl (e, u)) = rw (e, u) (patterns v v v v).6
+constant_known v (inr (e, u)) = rw (e, u) (patterns v v v v).5

@@ -11,17 +11,13 @@ ghost use Rattle.search_visits.specs.Visits.{Visits};
 
 use paper_circuit::Gate;
 use search_closing::Closed;
-use search_patterns::{COPY, EITHER, INVERSE};
+use search_patterns::{Pattern, settle_both, settle_by, settle_step};
 
 // The pattern of a constant.
-pub fn constant(up: bool) -> usize
+pub fn constant(up: bool) -> Pattern
     ensures { ((result ≡ high_pattern) × (up ≡ true)) ⊎ ((result ≡ low_pattern) × (up ≡ false)) }
 {
-    if up {
-        search_patterns::HIGH
-    } else {
-        search_patterns::LOW
-    }
+    if up { Pattern::High } else { Pattern::Low }
 }
 
 // The gate that defines v.
@@ -30,21 +26,12 @@ pub fn visit(values: &mut [u8], trail: &mut [u32], top: usize, v: u32, gate: Gat
     ensures { Visits (clauses_of v gate) values trail top result }
 {
     match gate {
-        Gate::Constant(up) => search_patterns::settle_by(
-            values,
-            trail,
-            top,
-            constant(up),
-            v,
-            v,
-            v,
-            v,
-        ),
-        Gate::Copy(u) => search_patterns::settle_by(values, trail, top, COPY, v, u, v, v),
-        Gate::Inverse(x) => search_patterns::settle_by(values, trail, top, INVERSE, v, x, v, v),
-        Gate::Both(x, y) => search_patterns::settle_both(values, trail, top, v, x, y),
-        Gate::Either(x, y) => search_patterns::settle_by(values, trail, top, EITHER, v, x, y, v),
+        Gate::Constant(up) => settle_by(values, trail, top, constant(up), v, v, v, v),
+        Gate::Copy(u) => settle_by(values, trail, top, Pattern::Copy, v, u, v, v),
+        Gate::Inverse(x) => settle_by(values, trail, top, Pattern::Inverse, v, x, v, v),
+        Gate::Both(x, y) => settle_both(values, trail, top, v, x, y),
+        Gate::Either(x, y) => settle_by(values, trail, top, Pattern::Either, v, x, y, v),
         Gate::AnyOf(w, n) => search_visits::visit_any(values, trail, top, v, w, n),
-        Gate::Step(p, q, s) => search_patterns::settle_step(values, trail, top, v, p, q, s),
+        Gate::Step(p, q, s) => settle_step(values, trail, top, v, p, q, s),
     }
 }

@@ -6,6 +6,8 @@ use Prim.Native.Nat.{ℕ, ◌*◌, ◌^◌, ◌≤◌, ◌<◌}
 use native.Mathlib.Omega.{arith}
 use lib.ListN.{length, get_or, take, drop, length-map, take-append-drop}
 use lib.Seq.{length-take-le}
+use Rattle.std.specs.Prelude.{Result, Ok}
+use Rattle.refusal.specs.declared.Refusal.{Refusal}
 use Rattle.interval.specs.Limits.{max_steps}
 use Rattle.paper_grammar.specs.Limits.{max_nodes, max_channels}
 use Rattle.paper_grammar.specs.Trees.{Tree, Letters}
@@ -25,7 +27,6 @@ use Rattle.paper_assignments.specs.Extension.{recording_by}
 use Rattle.paper_assignments.proofs.Recordings.{recording_length}
 use Rattle.paper_closure.specs.Runs.{dead, found, high_in}
 use Rattle.paper_closure.specs.Tree.{Trial, trial, tree}
-use Rattle.search_decode.specs.Decode.{Tables}
 use Rattle.search_clauses.specs.Clauses.{table_by}
 use Rattle.search_fanout.specs.Fanout.{Nearest, Ground}
 use Rattle.search_fanout.proofs.Formula.{ground_of, table_known}
@@ -47,15 +48,15 @@ module _ (C k B : ℕ) (recording : List ℕ) (h : k ≤ length recording) (t : 
       ap (λ (l : List ℕ). l ++ drop k recording) (over_whole new (take k recording) (omega (arith, length-take-le k recording h)))
       ∙ ap (λ (n : ℕ). new ++ drop n recording) (sym e)
 
-  whole : (a : Answer) → rest (unwritten (take k recording) a) ≡ unwritten recording a
+  whole : (a : Result Answer Refusal) → rest (unwritten (take k recording) a) ≡ unwritten recording a
   whole a = ap (λ (l : List ℕ). unwritten l a) (take-append-drop k recording)
 
   first_rest : {x : Searched} → End C k B (take k recording) t x → rest x ≡ limited C k B recording t
   first_rest (finds S e l) =
-      ap (λ (l : List ℕ). record { answer = Found t.tries; recording = l }) (over_first (recording_by C k (high_in S)) (recording_length C k (high_in S)))
+      ap (λ (l : List ℕ). record { answer = Ok (Found t.tries); recording = l }) (over_first (recording_by C k (high_in S)) (recording_length C k (high_in S)))
       ∙ within C k B recording t (trial (found S) t.tries) (λ i. trial (e i) t.tries) l
-  first_rest (lacks e l) = whole (None t.tries) ∙ within C k B recording t (trial dead t.tries) (λ i. trial (e i) t.tries) l
-  first_rest (spends l) = whole (Spent B) ∙ beyond C k B recording t l
+  first_rest (lacks e l) = whole (Ok (None t.tries)) ∙ within C k B recording t (trial dead t.tries) (λ i. trial (e i) t.tries) l
+  first_rest (spends l) = whole (Ok (Spent B)) ∙ beyond C k B recording t l
 
 -- ---- the formula's node table
 
@@ -74,21 +75,21 @@ module _ (C k : ℕ) (f : Tree Formula) {T : NodeTable} (e : T ≡ node_table_of
     values_taken = length-take-le s.variables values v
 
     -- what the tree of tries asks for
-    pub parts_fit : s.variables < 2 ^ 32 → Letters C f → C ≤ max_channels → k ≤ max_steps → T.count ≤ max_nodes → {Q P : List ℕ} →
-        Seated T.kinds T.numbers G k Q max_nodes → Nearest T.sizes P T.count → {I S R : List ℕ} → Tables k I S R
-        → (Ground C k T.kinds T.numbers T.sizes G Q P T.count (length (take s.variables values)) × Tables k I S R)
-        × ((length (take s.variables values) ≤ length (take s.variables trail)) × (length (take s.variables values) < 2 ^ 32) × (length (take k recording) ≡ k))
-    parts_fit l L c k n q p i = (
-      (ground_of C _ f e w L c k n q p (take s.variables values) values_taken, i),
-      (omega (arith, values_taken, length-take-le s.variables trail t), omega (arith, values_taken, l), length-take-le _ recording h),
-    )
+    pub on_ground : Letters C f → C ≤ max_channels → k ≤ max_steps → T.count ≤ max_nodes → {Q P : List ℕ} →
+        Seated T.kinds T.numbers G k Q max_nodes → Nearest T.sizes P T.count
+        → Ground C k T.kinds T.numbers T.sizes G Q P T.count (length (take s.variables values))
+    on_ground L c k n q p = ground_of C _ f e w L c k n q p (take s.variables values) values_taken
+
+    pub parts_fit : s.variables < 2 ^ 32 → (length (take s.variables values) ≤ length (take s.variables trail)) × (length (take s.variables values) < 2 ^ 32)
+        × (length (take k recording) ≡ k)
+    parts_fit l = (omega (arith, values_taken, length-take-le s.variables trail t), omega (arith, values_taken, l), length-take-le _ recording h)
 
     -- and what it comes to
     tree_known : tree (table_by C k T.kinds T.numbers T.sizes G T.count) (length (take s.variables values)) (k * C) ≡ tree_of C k f
     unfolding tree_of
     tree_known = ap₂ (λ (T : List Clause) (n : ℕ). tree T n (k * C)) (table_known C k f e w) (values_taken ∙ variables_known C k f e w)
 
-    pub search_known : (B : ℕ) {a : Answer} {out : List ℕ}
+    pub search_known : (B : ℕ) {a : Result Answer Refusal} {out : List ℕ}
         → record { answer = a; recording = out } ≡ limited C k B (take k recording)
         (tree (table_by C k T.kinds T.numbers T.sizes G T.count) (length (take s.variables values)) (k * C))
         → record { answer = a; recording = out ++ drop k recording } ≡ limited C k B recording (tree_of C k f)

@@ -1,7 +1,7 @@
 // The search in its lent arrays: what the queue goes by, and the parts of them that it takes.
 #![tactic(auto)]
 
-ghost use Rattle.std.specs.Prelude.{◌≡◌, ◌≤◌, length};
+ghost use Rattle.std.specs.Prelude.{◌≡◌, ◌≤◌, length, Ok};
 ghost use Rattle.interval.specs.Limits.{max_steps};
 ghost use Rattle.paper_grammar.specs.Limits.{max_nodes, max_channels};
 ghost use Rattle.paper_grammar.specs.Trees.{Tree};
@@ -15,6 +15,7 @@ use interval::Interval;
 use node_rows::NodeTable;
 use paper_grammar::MAX_NODES;
 use paper_search::Answer;
+use search_fanout::Wiring;
 use table_layout::Layout;
 
 // The search of an accepted formula whose sizes fit the lent arrays: what the queue goes by, and the tree of tries.
@@ -32,32 +33,35 @@ pub fn search_lent(
     requires measured { Measured c k table.kinds table.numbers table.count layout.firsts layout.sizes }
     requires variables_in_bounds { (layout.sizes.variables ≤ length values.old) × (layout.sizes.variables ≤ length trail.old) × (k ≤ length recording.old) }
     ensures { (f : Tree Formula) → table ≡ node_table_of f
-        → left result recording ≡ limited c k limit recording.old (tree_of c k f) }
+        → left (Ok result) recording ≡ limited c k limit recording.old (tree_of c k f) }
 {
-    let mut seats = [0; MAX_NODES];
-    table_layout::put_seats(&table.kinds, &table.numbers, &layout.firsts, k, &mut seats);
-    let mut parents = [0; MAX_NODES];
-    search_parents::put_parents(&table.sizes, table.count, &mut parents);
-    let steps = k as usize;
+    // Before the wiring, whose type says what they are.
     let mut intervals = [0; Interval::MAX_COUNT];
     let mut starts = [0; Interval::MAX_ENDS];
     let mut rows = [0; Interval::MAX_ROWS];
     search_decode::put_tables(&mut intervals, &mut starts, &mut rows, k);
-    let s = layout.sizes;
-    let v = s.variables as usize;
+    let Layout { sizes, firsts } = layout;
+    let mut wiring = Wiring {
+        table,
+        firsts,
+        seats: [0; MAX_NODES],
+        parents: [0; MAX_NODES],
+        intervals,
+        starts,
+        rows,
+        c,
+        k,
+        all: Interval::count(k as usize) as u32,
+    };
+    let w = &mut wiring;
+    table_layout::put_seats(&w.table.kinds, &w.table.numbers, &w.firsts, k, &mut w.seats);
+    search_parents::put_parents(&w.table.sizes, w.table.count, &mut w.parents);
+    let v = sizes.variables as usize;
     search_draw::draw(
         &mut values[..v],
         &mut trail[..v],
-        &mut recording[..steps],
-        table,
-        &layout.firsts,
-        &seats,
-        &parents,
-        &intervals,
-        &starts,
-        &rows,
-        c,
-        k,
+        &mut recording[..k as usize],
+        &wiring,
         limit,
     )
 }

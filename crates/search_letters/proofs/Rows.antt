@@ -1,6 +1,6 @@
 -- A row of the ground is a node as the code asks of it: its block lies beyond the channels and before its parts', and all that it mentions
 -- has a value. A letter that speaks of a channel is a block of one line over all instants.
-use mathlib.Core.Path.{◌≡◌, refl, sym, ap, ◌∙◌, subst}
+use mathlib.Core.Path.{◌≡◌, refl, sym, ap, subst}
 use mathlib.Core.Bool.{true, false}
 use mathlib.Core.List.{List}
 use Prim.Native.Nat.{ℕ, suc, ◌*◌, ◌<◌}
@@ -8,15 +8,14 @@ use native.Mathlib.Nat.{mul-le-mul_right}
 use native.Mathlib.Decide.{dec_lt}
 use mathlib.Core.Logic.{by_cases}
 use native.Mathlib.Omega.{arith}
-use lib.ListN.{length, get_or, get_or-eq_default}
-use Rattle.paper_grammar.specs.Limits.{max_nodes}
+use lib.ListN.{length, get_or}
 use Rattle.paper_circuit.specs.Circuit.{channel_of}
-use Rattle.table_blocks.specs.Blocks.{form_of, bound}
+use Rattle.table_blocks.specs.Blocks.{form_of}
 use Rattle.table_blocks.specs.declared.Block.{Block}
 use Rattle.table_blocks.specs.declared.Form.TheVariants.{Line}
 use Rattle.table_blocks.specs.declared.Rule.{Rule}
 use Rattle.table_nodes.specs.Nodes.{Fine}
-use Rattle.table_layout.specs.Rows.{seat_by, block_by, Seated}
+use Rattle.table_layout.specs.Rows.{block_by}
 use Rattle.paper_clauses.specs.Clauses.{Clause}
 use Rattle.search_decode.specs.Decode.{CellOf}
 use Rattle.search_decode.specs.declared.Cell.{Cell}
@@ -27,15 +26,6 @@ use Rattle.search_clauses.proofs.Walk.{row_mentioned}
 use Rattle.search_fanout.specs.Fanout.{Ground, Node, Voiced, speaks}
 use Rattle.search_fanout.proofs.Rows.{laid}
 use Rattle.search_fanout.proofs.Letters.{speaks_letter}
-
--- the seat of a part's row; past the last row every column is 0, and so is the seat
-module _ (kinds numbers firsts seats : List ℕ) (k : ℕ) (f : Seated kinds numbers firsts k seats max_nodes) (a : length kinds ≡ max_nodes)
-    (b : length firsts ≡ max_nodes) (c : length seats ≡ max_nodes) where
-  pub seat_told : (y : ℕ) {s : ℕ} → s ≡ get_or seats y 0 → (s ≡ seat_by kinds numbers firsts k y) × (s < bound)
-  unfolding seat_by
-  seat_told y e = by_cases (dec_lt y max_nodes) (λ l. (e ∙ (f y l).0, omega (arith, e, (f y l).1)))
-      (λ l. let o = e ∙ get_or-eq_default seats 0 {n = y} (omega arith) in
-      rw (get_or-eq_default kinds 0 {n = y} (omega arith), get_or-eq_default firsts 0 {n = y} (omega arith)) (o, omega (arith, o)))
 
 pub node_at : {C k : ℕ} {kinds numbers sizes firsts seats parents : List ℕ} {n m : ℕ} {values trail : List ℕ} {top : ℕ} (y : ℕ) {b : Block}
     → Ground C k kinds numbers sizes firsts seats parents n m → length values ≡ m → y < n → b ≡ block_by kinds numbers sizes firsts k y →

@@ -2,7 +2,6 @@
 #![tactic(auto)]
 
 ghost use Rattle.std.specs.Prelude.{◌≡◌};
-ghost use Rattle.interval.specs.Places.{count_of};
 ghost use Rattle.table_blocks.specs.Blocks.{defined_by, Placed};
 ghost use Rattle.search_visits.specs.Visits.{Visits};
 ghost use Rattle.search_clauses.specs.Clauses.{clauses_at};
@@ -10,24 +9,15 @@ ghost use Rattle.search_fanout.specs.Walks.{Standing};
 ghost use Rattle.search_levels.specs.Rules.{is_throughout, Leveled};
 
 use search_closing::Closed;
-use search_patterns::{COPY, HIGH, LOW};
+use search_fanout::Wiring;
+use search_patterns::Pattern;
 use table_blocks::{Block, Rule};
 
 // Whether a rule is that of `[S]`.
 fn is_throughout(rule: Rule) -> bool
     ensures { result ≡ is_throughout rule }
 {
-    match rule {
-        Rule::Fixed(_) => false,
-        Rule::Letter(_) => false,
-        Rule::Negation => false,
-        Rule::And => false,
-        Rule::Or => false,
-        Rule::Chop => false,
-        Rule::Duration(_) => false,
-        Rule::Throughout => true,
-        Rule::Cut => false,
-    }
+    matches!(rule, Rule::Throughout)
 }
 
 // A duration's or `[S]`'s gate in place x of its block: on level a, on the interval of d steps from i on.
@@ -35,18 +25,16 @@ pub fn visit_level(
     values: &mut [u8],
     trail: &mut [u32],
     top: usize,
-    c: u32,
-    k: u32,
-    all: u32,
+    wiring: &Wiring,
     block: Block,
     x: u32,
     a: u32,
     i: u32,
     d: u32,
 ) -> Closed
-    requires standing { Standing c k block values.old trail.old top × (all ≡ count_of k) × Leveled block.rule }
-    requires placed { Placed block.points k block.rule x a i d }
-    ensures { Visits (clauses_at (defined_by c k block) x) values trail top result }
+    requires standing { Standing wiring.now.c wiring.now.k block values.old trail.old top × Leveled block.rule }
+    requires placed { Placed block.points wiring.now.k block.rule x a i d }
+    ensures { Visits (clauses_at (defined_by wiring.now.c wiring.now.k block) x) values trail top result }
 {
     let rule = block.rule;
     let first = block.first;
@@ -55,21 +43,21 @@ pub fn visit_level(
     if is_throughout(rule) {
         if d < 2 {
             if d == 0 {
-                return search_patterns::settle_by(values, trail, top, LOW, v, v, v, v);
+                return search_patterns::settle_by(values, trail, top, Pattern::Low, v, v, v, v);
             }
-            return search_patterns::settle_by(values, trail, top, COPY, v, left + i, v, v);
+            return search_patterns::settle_by(values, trail, top, Pattern::Copy, v, left + i, v, v);
         }
         let last = left + (i + (d - 1));
         return search_patterns::settle_both(values, trail, top, v, v - 1, last);
     }
     if a == 0 {
-        return search_patterns::settle_by(values, trail, top, HIGH, v, v, v, v);
+        return search_patterns::settle_by(values, trail, top, Pattern::High, v, v, v, v);
     }
     if d == 0 {
-        return search_patterns::settle_by(values, trail, top, LOW, v, v, v, v);
+        return search_patterns::settle_by(values, trail, top, Pattern::Low, v, v, v, v);
     }
     let p = x - 1;
-    let q = p - all;
+    let q = p - wiring.all;
     search_patterns::settle_step(
         values,
         trail,

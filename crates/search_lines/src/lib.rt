@@ -23,15 +23,8 @@ pub fn rise_of(rule: Rule) -> Rise
     ensures { result ≡ rise_of rule }
 {
     match rule {
-        Rule::Fixed(_) => Rise { from: 0, count: 1 },
-        Rule::Letter(_) => Rise { from: 0, count: 1 },
-        Rule::Negation => Rise { from: 0, count: 1 },
-        Rule::And => Rise { from: 0, count: 1 },
-        Rule::Or => Rise { from: 0, count: 1 },
-        Rule::Chop => Rise { from: 0, count: 1 },
         Rule::Duration(n) => Rise { from: 1, count: n },
-        Rule::Throughout => Rise { from: 0, count: 1 },
-        Rule::Cut => Rise { from: 0, count: 1 },
+        _ => Rise { from: 0, count: 1 },
     }
 }
 

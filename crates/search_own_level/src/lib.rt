@@ -3,13 +3,13 @@
 #![tactic(auto)]
 
 ghost use Rattle.std.specs.Prelude.{◌≡◌};
-ghost use Rattle.interval.specs.Places.{count_of};
 ghost use Rattle.table_blocks.specs.Blocks.{Placed};
 ghost use Rattle.search_visits.specs.Visits.{Visits};
 ghost use Rattle.search_fanout.specs.Fanout.{Levels};
 ghost use Rattle.search_fanout.specs.Walks.{Standing, after_clauses};
 
 use search_closing::Closed;
+use search_fanout::Wiring;
 use table_blocks::{Block, Position};
 
 // A duration's or `[S]`'s own variable in place x, at position p: its gate, that of the interval a step longer, and that of the level above.
@@ -18,29 +18,27 @@ pub fn visit_after(
     values: &mut [u8],
     trail: &mut [u32],
     top: usize,
-    c: u32,
-    k: u32,
-    all: u32,
+    wiring: &Wiring,
     block: Block,
     x: u32,
     p: Position,
     levels: u32,
 ) -> Closed
-    requires standing { Standing c k block values.old trail.old top × (all ≡ count_of k) × Levels block.rule levels }
-    requires placed { Placed block.points k block.rule x p.row p.line p.cell }
-    ensures { Visits (after_clauses c k block levels x p) values trail top result }
+    requires standing { Standing wiring.now.c wiring.now.k block values.old trail.old top × Levels block.rule levels }
+    requires placed { Placed block.points wiring.now.k block.rule x p.row p.line p.cell }
+    ensures { Visits (after_clauses wiring.now.c wiring.now.k block levels x p) values trail top result }
 {
     let a = p.row;
     let i = p.line;
     let d = p.cell;
-    let r = search_levels::visit_level(values, trail, top, c, k, all, block, x, a, i, d);
+    let r = search_levels::visit_level(values, trail, top, wiring, block, x, a, i, d);
     if r.clash {
         return Closed {
             clash: r.clash,
             top: r.top,
         };
     }
-    if i + d >= k {
+    if i + d >= wiring.k {
         return Closed {
             clash: r.clash,
             top: r.top,
@@ -48,7 +46,7 @@ pub fn visit_after(
     }
     let next = x + 1;
     let further = d + 1;
-    let s = search_levels::visit_level(values, trail, r.top, c, k, all, block, next, a, i, further);
+    let s = search_levels::visit_level(values, trail, r.top, wiring, block, next, a, i, further);
     if s.clash {
         return Closed {
             clash: s.clash,
@@ -61,15 +59,14 @@ pub fn visit_after(
             top: s.top,
         };
     }
+    let above = next + wiring.all;
     let t = search_levels::visit_level(
         values,
         trail,
         s.top,
-        c,
-        k,
-        all,
+        wiring,
         block,
-        next + all,
+        above,
         a + 1,
         i,
         further,

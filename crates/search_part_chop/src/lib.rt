@@ -2,13 +2,12 @@
 #![tactic(auto)]
 
 ghost use Rattle.std.specs.Prelude.{◌≡◌, ◌*◌, ◌<◌};
-ghost use Rattle.interval.specs.Places.{count_of};
 ghost use Rattle.table_blocks.specs.declared.Rule.TheVariants.{Chop};
-ghost use Rattle.search_decode.specs.Decode.{Tables};
 ghost use Rattle.search_fanout.specs.Fanout.{Reaches, node_clauses, Node, InBlock};
 ghost use Rattle.search_part_chop.specs.Among.{Among};
 
 use search_closing::Closed;
+use search_fanout::Wiring;
 use table_blocks::Block;
 
 // Whether u is one of n variables from w on.
@@ -26,32 +25,28 @@ pub fn reach_chop(
     values: &mut [u8],
     trail: &mut [u32],
     top: usize,
-    intervals: &[u16],
-    starts: &[u32],
-    rows: &[u32],
-    c: u32,
-    k: u32,
-    all: u32,
+    wiring: &Wiring,
     block: Block,
     u: u32,
 ) -> Closed
-    requires node { Node c k block values.old trail.old top × (all ≡ count_of k) × (block.rule ≡ Chop) × (InBlock k block u → ⊥) × (k * c < u) }
-    requires tables { Tables k intervals.now starts.now rows.now }
-    ensures { Reaches (node_clauses c k block) u values trail top result }
+    requires { Node wiring.now.c wiring.now.k block values.old trail.old top × (block.rule ≡ Chop)
+        × (InBlock wiring.now.k block u → ⊥) × (wiring.now.k * wiring.now.c < u) }
+    ensures { Reaches (node_clauses wiring.now.c wiring.now.k block) u values trail top result }
 {
     let left = block.left;
     let right = block.right;
-    let triples = table_nodes::triples_of(table_nodes::beyond(block.first, rows, k), block);
-    if among(left, all, u) {
-        let v = search_decode::interval_at(intervals, k as usize, (u - left) as usize);
+    let w = table_nodes::beyond(block.first, &wiring.rows, wiring.k);
+    let triples = table_nodes::triples_of(w, block);
+    if among(left, wiring.all, u) {
+        let v = wiring.interval_at(u - left);
         return search_triples::visit_first(
-            values, trail, top, starts, rows, c, k, triples, v.i as u32, v.j as u32,
+            values, trail, top, wiring, triples, v.i as u32, v.j as u32,
         );
     }
-    if among(right, all, u) {
-        let v = search_decode::interval_at(intervals, k as usize, (u - right) as usize);
+    if among(right, wiring.all, u) {
+        let v = wiring.interval_at(u - right);
         return search_triples::visit_second(
-            values, trail, top, starts, rows, c, k, all, triples, v.i as u32, v.j as u32,
+            values, trail, top, wiring, triples, v.i as u32, v.j as u32,
         );
     }
     search_lines::done(top)

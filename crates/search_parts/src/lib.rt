@@ -2,15 +2,13 @@
 #![tactic(auto)]
 
 ghost use Rattle.std.specs.Prelude.{◌≡◌, false, ◌*◌, ◌<◌};
-ghost use Rattle.interval.specs.Places.{count_of};
-ghost use Rattle.interval.specs.Rows.{RowsOf};
 ghost use Rattle.table_blocks.specs.Blocks.{is_chop, form_of};
 ghost use Rattle.table_blocks.specs.declared.Form.TheVariants.{Line, Intervals};
-ghost use Rattle.search_decode.specs.Decode.{Tables};
 ghost use Rattle.search_fanout.specs.Fanout.{Reaches, node_clauses, Node, InBlock};
 ghost use Rattle.search_parts.specs.Part.{parts_of};
 
 use search_closing::Closed;
+use search_fanout::Wiring;
 use table_blocks::{Block, Form, Rule};
 
 // How many parts are judged as the node itself is, place by place.
@@ -18,15 +16,9 @@ fn parts_of(rule: Rule) -> u32
     ensures { result ≡ parts_of rule }
 {
     match rule {
-        Rule::Fixed(_) => 0,
-        Rule::Letter(_) => 0,
         Rule::Negation => 1,
-        Rule::And => 2,
-        Rule::Or => 2,
-        Rule::Chop => 0,
-        Rule::Duration(_) => 0,
-        Rule::Throughout => 0,
-        Rule::Cut => 0,
+        Rule::And | Rule::Or => 2,
+        _ => 0,
     }
 }
 
@@ -62,36 +54,23 @@ fn reach_instant(
     values: &mut [u8],
     trail: &mut [u32],
     top: usize,
-    rows: &[u32],
-    c: u32,
-    k: u32,
-    all: u32,
+    wiring: &Wiring,
     block: Block,
     u: u32,
 ) -> Closed
-    requires node { Node c k block values.old trail.old top × (all ≡ count_of k) × (InBlock k block u → ⊥) × (k * c < u) }
-    requires rule_value { (form_of block.rule ≡ Intervals) × (is_chop block.rule ≡ false) × RowsOf k rows.now }
-    ensures { Reaches (node_clauses c k block) u values trail top result }
+    requires node { Node wiring.now.c wiring.now.k block values.old trail.old top
+        × (InBlock wiring.now.k block u → ⊥) × (wiring.now.k * wiring.now.c < u) }
+    requires rule_value { (form_of block.rule ≡ Intervals) × (is_chop block.rule ≡ false) }
+    ensures { Reaches (node_clauses wiring.now.c wiring.now.k block) u values trail top result }
 {
     let left = block.left;
-    if !search_part_chop::among(left, k, u) {
+    if !search_part_chop::among(left, wiring.k, u) {
         return search_lines::done(top);
     }
     let rule = block.rule;
     let rise = search_lines::rise_of(rule);
-    search_instants::visit_instant(
-        values,
-        trail,
-        top,
-        rows,
-        c,
-        k,
-        all,
-        block,
-        rise.from,
-        rise.count,
-        u - left,
-    )
+    let t = u - left;
+    search_instants::visit_instant(values, trail, top, wiring, block, rise.from, rise.count, t)
 }
 
 // A variable of another node: where it is a part's truth, the gates that mention it.
@@ -99,28 +78,21 @@ pub fn reach(
     values: &mut [u8],
     trail: &mut [u32],
     top: usize,
-    intervals: &[u16],
-    starts: &[u32],
-    rows: &[u32],
-    c: u32,
-    k: u32,
-    all: u32,
+    wiring: &Wiring,
     block: Block,
     u: u32,
 ) -> Closed
-    requires node { Node c k block values.old trail.old top × (all ≡ count_of k) × (InBlock k block u → ⊥) × (k * c < u) }
-    requires tables { Tables k intervals.now starts.now rows.now }
-    ensures { Reaches (node_clauses c k block) u values trail top result }
+    requires { Node wiring.now.c wiring.now.k block values.old trail.old top
+        × (InBlock wiring.now.k block u → ⊥) × (wiring.now.k * wiring.now.c < u) }
+    ensures { Reaches (node_clauses wiring.now.c wiring.now.k block) u values trail top result }
 {
     let rule = block.rule;
     if table_blocks::is_chop(rule) {
-        return search_part_chop::reach_chop(
-            values, trail, top, intervals, starts, rows, c, k, all, block, u,
-        );
+        return search_part_chop::reach_chop(values, trail, top, wiring, block, u);
     }
     match table_blocks::form_of(rule) {
-        Form::Line => reach_line(values, trail, top, c, k, block, u),
-        Form::Intervals => reach_instant(values, trail, top, rows, c, k, all, block, u),
+        Form::Line => reach_line(values, trail, top, wiring.c, wiring.k, block, u),
+        Form::Intervals => reach_instant(values, trail, top, wiring, block, u),
         Form::Triples => search_lines::done(top),
     }
 }

@@ -25,7 +25,9 @@ use Rattle.search_closing.proofs.Trail.{held_le, grown_none, grown_length, grown
 use Rattle.search_closing.proofs.Held.{nothing_there}
 use Rattle.search_patterns.specs.Patterns.{value_at, Settled, pattern_of, among, rename_by, renamed, code_of, four_of, forced_by, Forces, ended_by}
 use Rattle.table_gates.specs.Mentioned.{Variable}
-use Rattle.search_patterns.specs.declared.Next.TheVariants as next
+use Rattle.search_patterns.specs.declared.Pattern.{Pattern}
+use Rattle.search_patterns.specs.declared.Pattern.TheVariants as pattern
+use Rattle.std.specs.Prelude.{Some, None}
 use Rattle.search_patterns.proofs.Renamed.{closed_to, closed_from}
 
 parity : (n : ℕ) (u : Bool) → eqb ((2 * n + bit u + 2) % 2) 1 ≡ u
@@ -60,7 +62,7 @@ module _ (values : List ℕ) (v x y z : ℕ) (hv : 1 ≤ v) (hx : 1 ≤ x) (hy :
       go (suc (suc (suc (suc zero)))) u = at z hz u
       go (suc (suc (suc (suc (suc n))))) u = nothing_there u
 
-  module _ (g : ℕ) {e : ℕ} (h : e ≡ forced_by g (value_at values v) (value_at values x) (value_at values y) (value_at values z)) where
+  module _ (g : Pattern) {e : ℕ} (h : e ≡ forced_by g (value_at values v) (value_at values x) (value_at values y) (value_at values z)) where
     abbrev T : List Clause
     T = renamed (among v x y z) (pattern_of g)
 
@@ -68,13 +70,13 @@ module _ (values : List ℕ) (v x y z : ℕ) (hv : 1 ≤ v) (hx : 1 ≤ x) (hy :
     unfolding forced_by
     first = h
 
-    pub nothing_forced : e ≡ 0 → Forces T values next.Nothing
+    pub nothing_forced : e ≡ 0 → Forces T values None
     nothing_forced n =
         closed_same T (held_in values) (closed_to (among v x y z) (In (held_in values)) (pattern_of g)
         (subst (λ (L : Literals). Closed (pattern_of g) (In L)) four_held (none_forced (members_in (pattern_of g)) four (uncoded _ (sym first ∙ n)))))
 
     pub literal_forced : (e ≡ 0 → ⊥) → e ≤ 11 → 4 ≤ e → {u k : ℕ} → Variable k v → Variable k x → Variable k y → Variable k z → k ≡ length values
-        → ((m : ℕ) (b : Bool) → e ≡ 2 * m + bit b + 2 → 1 ≤ m → m ≤ 4 → u ≡ among v x y z m) → Forces T values (next.Literal u e)
+        → ((m : ℕ) (b : Bool) → e ≡ 2 * m + bit b + 2 → 1 ≤ m → m ≤ 4 → u ≡ among v x y z m) → Forces T values (Some (u, e))
     literal_forced n up low {u} iv ix iy iz len pick =
         let (l, o, q) = coded (first_forced (members_in (pattern_of g)) four) first n in
         let m1 : 1 ≤ l.variable = omega (arith, bit_le l.sign) in
@@ -96,7 +98,7 @@ module _ (values : List ℕ) (v x y z : ℕ) (hv : 1 ≤ v) (hx : 1 ≤ x) (hy :
         within (suc (suc (suc (suc zero)))) f t = omega (arith, iz, len)
         within (suc (suc (suc (suc (suc m))))) f t = absurd (omega arith)
 
-pub known : (g : ℕ) {a b c d a' b' c' d' e : ℕ} → a ≡ a' → b ≡ b' → c ≡ c' → d ≡ d' → e ≡ forced_by g a b c d → e ≡ forced_by g a' b' c' d'
+pub known : (g : Pattern) {a b c d a' b' c' d' e : ℕ} → a ≡ a' → b ≡ b' → c ≡ c' → d ≡ d' → e ≡ forced_by g a b c d → e ≡ forced_by g a' b' c' d'
 known g p q r s h = cc
 
 pub there : {n m v : ℕ} → m ≡ n → Variable n v → Variable m v
@@ -143,10 +145,10 @@ module _ {T : List Clause} {v₀ t₀ values trail : List ℕ} {top₀ top : ℕ
 
 -- ---- the patterns are the gates
 
-pub patterns : (v x y z : ℕ) → (renamed (among v x v v) (pattern_of 0) ≡ clauses_of v (Copy x)) × (renamed (among v x v v) (pattern_of 1) ≡ clauses_of v (Inverse x))
-    × (renamed (among v x y v) (pattern_of 2) ≡ clauses_of v (Both x y)) × (renamed (among v x y v) (pattern_of 3) ≡ clauses_of v (Either x y))
-    × (renamed (among v x y z) (pattern_of 4) ≡ clauses_of v (Step x y z)) × (renamed (among v v v v) (pattern_of 5) ≡ clauses_of v (Constant false))
-    × (renamed (among v v v v) (pattern_of 6) ≡ clauses_of v (Constant true))
+pub patterns : (v x y z : ℕ) → (renamed (among v x v v) (pattern_of pattern.Copy) ≡ clauses_of v (Copy x)) × (renamed (among v x v v) (pattern_of pattern.Inverse) ≡ clauses_of v (Inverse x))
+    × (renamed (among v x y v) (pattern_of pattern.Both) ≡ clauses_of v (Both x y)) × (renamed (among v x y v) (pattern_of pattern.Either) ≡ clauses_of v (Either x y))
+    × (renamed (among v x y z) (pattern_of pattern.Step) ≡ clauses_of v (Step x y z)) × (renamed (among v v v v) (pattern_of pattern.Low) ≡ clauses_of v (Constant false))
+    × (renamed (among v v v v) (pattern_of pattern.High) ≡ clauses_of v (Constant true))
 unfolding renamed pattern_of clauses_of
 patterns v x y z = (refl, refl, refl, refl, refl, refl, refl)
 

@@ -1,12 +1,12 @@
 -- The tables of what is forced first, compared at each gate and each four values with what the clauses force:
--- one computation for all of them.
+-- one computation for each gate.
 use mathlib.Core.Path.{◌≡◌, refl, sym, ap, ◌∙◌, subst}
 use mathlib.Core.Bool.{Bool, true, false, cond, not, ◌&&◌, ◌||◌}
 use mathlib.Core.List.{List, [], ◌∷◌, flat_map}
-use Prim.Native.Nat.{ℕ, zero, suc, ◌+◌, ◌*◌, ◌/◌, ◌%◌, ◌^◌, ◌≤◌, ◌<◌, zero-le}
+use Prim.Native.Nat.{ℕ, zero, suc, ◌+◌, ◌*◌, ◌/◌, ◌%◌, ◌^◌, ◌≤◌, ◌<◌}
 use native.Mathlib.Omega.{arith}
 use native.Mathlib.Nat.{eq-or-lt_of_le}
-use mathlib.Core.Logic.{◌⊎◌, ⊎_elim}
+use mathlib.Core.Logic.{⊎_elim}
 use lib.Dec.{eqb, leb}
 use lib.ListN.{get_or}
 use borrow.Author.Tests.{eqb-true, leb-true}
@@ -17,37 +17,23 @@ use Rattle.paper_closure.specs.Tree.{first_forced}
 use Rattle.paper_closure.proofs.Sets.{or_cases}
 use Rattle.search_closing.specs.Values.{held_in}
 use Rattle.search_patterns.specs.Patterns.{pattern_of, forced_by, Quiets}
+use Rattle.search_patterns.specs.declared.Pattern.{Pattern}
+use Rattle.search_patterns.specs.declared.Pattern.TheVariants.{Copy, Inverse, Both, Either, Step, Low, High, Raised}
 
-unfoldable pub copy_table : List ℕ
-copy_table = 0 ∷ 7 ∷ 6 ∷ 5 ∷ 0 ∷ 5 ∷ 4 ∷ 4 ∷ 0 ∷ 0 ∷ 7 ∷ 6 ∷ 5 ∷ 0 ∷ 5 ∷ 4 ∷ 4 ∷ 0 ∷ 0 ∷ 7 ∷ 6 ∷ 5 ∷ 0 ∷ 5 ∷ 4 ∷ 4 ∷ 0 ∷ []
-
-unfoldable pub inverse_table : List ℕ
-inverse_table = 0 ∷ 6 ∷ 7 ∷ 4 ∷ 4 ∷ 0 ∷ 5 ∷ 0 ∷ 5 ∷ 0 ∷ 6 ∷ 7 ∷ 4 ∷ 4 ∷ 0 ∷ 5 ∷ 0 ∷ 5 ∷ 0 ∷ 6 ∷ 7 ∷ 4 ∷ 4 ∷ 0 ∷ 5 ∷ 0 ∷ 5 ∷ []
-
-unfoldable pub both_table : List ℕ
-both_table = 0 ∷ 7 ∷ 0 ∷ 0 ∷ 9 ∷ 8 ∷ 4 ∷ 4 ∷ 0 ∷ 0 ∷ 7 ∷ 6 ∷ 5 ∷ 0 ∷ 5 ∷ 4 ∷ 4 ∷ 0 ∷ 4 ∷ 7 ∷ 0 ∷ 4 ∷ 4 ∷ 0 ∷ 4 ∷ 4 ∷ 0 ∷ []
-
-unfoldable pub either_table : List ℕ
-either_table = 0 ∷ 0 ∷ 6 ∷ 5 ∷ 0 ∷ 5 ∷ 0 ∷ 9 ∷ 8 ∷ 5 ∷ 0 ∷ 6 ∷ 5 ∷ 0 ∷ 5 ∷ 5 ∷ 0 ∷ 5 ∷ 0 ∷ 7 ∷ 6 ∷ 5 ∷ 0 ∷ 5 ∷ 4 ∷ 4 ∷ 0 ∷ []
-
-unfoldable pub step_table : List ℕ
-step_table =
+-- the tables of the code
+unfoldable pub table_for : Pattern → List ℕ
+table_for Copy = 0 ∷ 7 ∷ 6 ∷ 5 ∷ 0 ∷ 5 ∷ 4 ∷ 4 ∷ 0 ∷ 0 ∷ 7 ∷ 6 ∷ 5 ∷ 0 ∷ 5 ∷ 4 ∷ 4 ∷ 0 ∷ 0 ∷ 7 ∷ 6 ∷ 5 ∷ 0 ∷ 5 ∷ 4 ∷ 4 ∷ 0 ∷ []
+table_for Inverse = 0 ∷ 6 ∷ 7 ∷ 4 ∷ 4 ∷ 0 ∷ 5 ∷ 0 ∷ 5 ∷ 0 ∷ 6 ∷ 7 ∷ 4 ∷ 4 ∷ 0 ∷ 5 ∷ 0 ∷ 5 ∷ 0 ∷ 6 ∷ 7 ∷ 4 ∷ 4 ∷ 0 ∷ 5 ∷ 0 ∷ 5 ∷ []
+table_for Both = 0 ∷ 7 ∷ 0 ∷ 0 ∷ 9 ∷ 8 ∷ 4 ∷ 4 ∷ 0 ∷ 0 ∷ 7 ∷ 6 ∷ 5 ∷ 0 ∷ 5 ∷ 4 ∷ 4 ∷ 0 ∷ 4 ∷ 7 ∷ 0 ∷ 4 ∷ 4 ∷ 0 ∷ 4 ∷ 4 ∷ 0 ∷ []
+table_for Either = 0 ∷ 0 ∷ 6 ∷ 5 ∷ 0 ∷ 5 ∷ 0 ∷ 9 ∷ 8 ∷ 5 ∷ 0 ∷ 6 ∷ 5 ∷ 0 ∷ 5 ∷ 5 ∷ 0 ∷ 5 ∷ 0 ∷ 7 ∷ 6 ∷ 5 ∷ 0 ∷ 5 ∷ 4 ∷ 4 ∷ 0 ∷ []
+table_for Step =
     0 ∷ 0 ∷ 6 ∷ 5 ∷ 0 ∷ 5 ∷ 0 ∷ 9 ∷ 0 ∷ 0 ∷ 0 ∷ 6 ∷ 5 ∷ 0 ∷ 5 ∷ 0 ∷ 11 ∷ 10 ∷ 0 ∷ 7 ∷ 6 ∷ 5 ∷ 0 ∷ 5 ∷ 4 ∷
     4 ∷ 0 ∷ 0 ∷ 0 ∷ 6 ∷ 5 ∷ 0 ∷ 5 ∷ 0 ∷ 9 ∷ 8 ∷ 5 ∷ 0 ∷ 6 ∷ 5 ∷ 0 ∷ 5 ∷ 5 ∷ 0 ∷ 5 ∷ 0 ∷ 7 ∷ 6 ∷ 5 ∷ 0 ∷
     5 ∷ 4 ∷ 4 ∷ 0 ∷ 0 ∷ 7 ∷ 6 ∷ 5 ∷ 0 ∷ 5 ∷ 4 ∷ 9 ∷ 0 ∷ 0 ∷ 7 ∷ 6 ∷ 5 ∷ 0 ∷ 5 ∷ 4 ∷ 4 ∷ 0 ∷ 0 ∷ 7 ∷
     6 ∷ 5 ∷ 0 ∷ 5 ∷ 4 ∷ 4 ∷ 0 ∷ []
-
-unfoldable pub low_table : List ℕ
-low_table = 4 ∷ 4 ∷ 0 ∷ 4 ∷ 4 ∷ 0 ∷ 4 ∷ 4 ∷ 0 ∷ 4 ∷ 4 ∷ 0 ∷ 4 ∷ 4 ∷ 0 ∷ 4 ∷ 4 ∷ 0 ∷ 4 ∷ 4 ∷ 0 ∷ 4 ∷ 4 ∷ 0 ∷ 4 ∷ 4 ∷ 0 ∷ []
-
-unfoldable pub high_table : List ℕ
-high_table = 5 ∷ 0 ∷ 5 ∷ 5 ∷ 0 ∷ 5 ∷ 5 ∷ 0 ∷ 5 ∷ 5 ∷ 0 ∷ 5 ∷ 5 ∷ 0 ∷ 5 ∷ 5 ∷ 0 ∷ 5 ∷ 5 ∷ 0 ∷ 5 ∷ 5 ∷ 0 ∷ 5 ∷ 5 ∷ 0 ∷ 5 ∷ []
-
-unfoldable pub raised_table : List ℕ
-raised_table = 0 ∷ 0 ∷ 6 ∷ 5 ∷ 0 ∷ 5 ∷ 0 ∷ 0 ∷ 0 ∷ 0 ∷ 0 ∷ 6 ∷ 5 ∷ 0 ∷ 5 ∷ 0 ∷ 0 ∷ 0 ∷ 0 ∷ 0 ∷ 6 ∷ 5 ∷ 0 ∷ 5 ∷ 0 ∷ 0 ∷ 0 ∷ []
-
-abbrev pub table_for : ℕ → List ℕ
-table_for g = get_or (copy_table ∷ inverse_table ∷ both_table ∷ either_table ∷ step_table ∷ low_table ∷ high_table ∷ raised_table ∷ []) g []
+table_for Low = 4 ∷ 4 ∷ 0 ∷ 4 ∷ 4 ∷ 0 ∷ 4 ∷ 4 ∷ 0 ∷ 4 ∷ 4 ∷ 0 ∷ 4 ∷ 4 ∷ 0 ∷ 4 ∷ 4 ∷ 0 ∷ 4 ∷ 4 ∷ 0 ∷ 4 ∷ 4 ∷ 0 ∷ 4 ∷ 4 ∷ 0 ∷ []
+table_for High = 5 ∷ 0 ∷ 5 ∷ 5 ∷ 0 ∷ 5 ∷ 5 ∷ 0 ∷ 5 ∷ 5 ∷ 0 ∷ 5 ∷ 5 ∷ 0 ∷ 5 ∷ 5 ∷ 0 ∷ 5 ∷ 5 ∷ 0 ∷ 5 ∷ 5 ∷ 0 ∷ 5 ∷ 5 ∷ 0 ∷ 5 ∷ []
+table_for Raised = 0 ∷ 0 ∷ 6 ∷ 5 ∷ 0 ∷ 5 ∷ 0 ∷ 0 ∷ 0 ∷ 0 ∷ 0 ∷ 6 ∷ 5 ∷ 0 ∷ 5 ∷ 0 ∷ 0 ∷ 0 ∷ 0 ∷ 0 ∷ 6 ∷ 5 ∷ 0 ∷ 5 ∷ 0 ∷ 0 ∷ 0 ∷ []
 
 -- a test of 0 to n - 1
 abbrev every : ℕ → (ℕ → Bool) → Bool
@@ -71,22 +57,39 @@ at_four f t a b c d ha hb hc hd =
     (at 3 (λ a. every 3 (λ b. every 3 (λ c. every 3 (λ d. f a b c d)))) t a (omega arith)) b (omega arith)) c (omega arith)) d (omega arith)
 
 -- only a step has a fourth variable
-abbrev entry_of : ℕ → ℕ → ℕ → ℕ → ℕ → ℕ
-entry_of g a b c d = get_or (table_for g) (a + 3 * b + 9 * c + 27 * cond (eqb g 4) d 0) 0
+abbrev pub has_fourth : Pattern → Bool
+has_fourth Copy = false
+has_fourth Inverse = false
+has_fourth Both = false
+has_fourth Either = false
+has_fourth Step = true
+has_fourth Low = false
+has_fourth High = false
+has_fourth Raised = false
+
+abbrev entry_of : Pattern → ℕ → ℕ → ℕ → ℕ → ℕ
+entry_of g a b c d = get_or (table_for g) (a + 3 * b + 9 * c + 27 * cond (has_fourth g) d 0) 0
 
 abbrev fair : ℕ → Bool
 fair e = leb e 11 && (eqb e 0 || leb 4 e)
 
-abbrev right : ℕ → ℕ → ℕ → ℕ → ℕ → Bool
+abbrev right : Pattern → ℕ → ℕ → ℕ → ℕ → Bool
 right g a b c d = eqb (entry_of g a b c d) (forced_by g a b c d) && fair (entry_of g a b c d)
 
-all_right : every 8 (λ g. fours (right g)) ≡ true
-unfolding copy_table inverse_table both_table either_table step_table low_table high_table raised_table forced_by pattern_of clauses_of members_in members_of flat_map first_forced all_opposed held_in
-all_right = refl
+all_right : (g : Pattern) → fours (right g) ≡ true
+unfolding table_for forced_by pattern_of clauses_of members_in members_of flat_map first_forced all_opposed held_in
+all_right Copy = refl
+all_right Inverse = refl
+all_right Both = refl
+all_right Either = refl
+all_right Step = refl
+all_right Low = refl
+all_right High = refl
+all_right Raised = refl
 
-module _ (g a b c d : ℕ) (hg : g < 8) (ha : a ≤ 2) (hb : b ≤ 2) (hc : c ≤ 2) (hd : d ≤ 2) where
+module _ (g : Pattern) (a b c d : ℕ) (ha : a ≤ 2) (hb : b ≤ 2) (hc : c ≤ 2) (hd : d ≤ 2) where
   here : right g a b c d ≡ true
-  here = at_four (right g) (at 8 (λ g. fours (right g)) all_right g hg) a b c d ha hb hc hd
+  here = at_four (right g) (all_right g) a b c d ha hb hc hd
 
   found : (entry_of g a b c d ≡ forced_by g a b c d) × (entry_of g a b c d ≤ 11) × ((entry_of g a b c d ≡ 0 → ⊥) → 4 ≤ entry_of g a b c d)
   found =
@@ -95,26 +98,18 @@ module _ (g a b c d : ℕ) (hg : g < 8) (ha : a ≤ 2) (hb : b ≤ 2) (hc : c �
       (eqb-true _ _ w.0, leb-true _ _ u.0, λ n. ⊎_elim (λ h. absurd (n (eqb-true _ _ h))) (leb-true _ _) (or_cases (eqb (entry_of g a b c d) 0) (leb 4 (entry_of g a b c d)) u.1))
 
   -- by the code's gate and place
-  abbrev Says : ℕ → ℕ → Type 0
+  abbrev Says : Pattern → ℕ → Type 0
   Says gate x = let e = get_or (table_for g) x 0 in (e ≡ forced_by gate a b c d) × (e ≤ 11) × ((e ≡ 0 → ⊥) → 4 ≤ e)
 
-  pub forced_three : {gate p q r : ℕ} → gate ≡ g → eqb g 4 ≡ false → p ≡ a → q ≡ b → r ≡ c → Says gate (p + 3 * q + 9 * r)
+  pub forced_three : {gate : Pattern} {p q r : ℕ} → gate ≡ g → has_fourth g ≡ false → p ≡ a → q ≡ b → r ≡ c → Says gate (p + 3 * q + 9 * r)
   forced_three {gate} {p} {q} {r} e f i j k =
-      let x : a + 3 * b + 9 * c + 27 * cond (eqb g 4) d 0 ≡ p + 3 * q + 9 * r = ap (λ (s : Bool). a + 3 * b + 9 * c + 27 * cond s d 0) f ∙ omega (arith, i, j, k) in
-      subst (λ (h : ℕ). Says h (p + 3 * q + 9 * r)) (sym e) (subst (Says g) x found)
+      let x : a + 3 * b + 9 * c + 27 * cond (has_fourth g) d 0 ≡ p + 3 * q + 9 * r = ap (λ (s : Bool). a + 3 * b + 9 * c + 27 * cond s d 0) f ∙ omega (arith, i, j, k) in
+      subst (λ (h : Pattern). Says h (p + 3 * q + 9 * r)) (sym e) (subst (Says g) x found)
 
-  pub forced_four : {gate p q r s : ℕ} → gate ≡ g → eqb g 4 ≡ true → p ≡ a → q ≡ b → r ≡ c → s ≡ d → Says gate (p + 3 * q + 9 * r + 27 * s)
+  pub forced_four : {gate : Pattern} {p q r s : ℕ} → gate ≡ g → has_fourth g ≡ true → p ≡ a → q ≡ b → r ≡ c → s ≡ d → Says gate (p + 3 * q + 9 * r + 27 * s)
   forced_four {gate} {p} {q} {r} {s} e f i j k l =
-      let x : a + 3 * b + 9 * c + 27 * cond (eqb g 4) d 0 ≡ p + 3 * q + 9 * r + 27 * s = ap (λ (s : Bool). a + 3 * b + 9 * c + 27 * cond s d 0) f ∙ omega (arith, i, j, k, l) in
-      subst (λ (h : ℕ). Says h (p + 3 * q + 9 * r + 27 * s)) (sym e) (subst (Says g) x found)
-
--- the gate that is left
-up : {n k : ℕ} → n ≤ k → (k ≡ n → ⊥) → suc n ≤ k
-up h f = omega arith
-
-pub last_gate : {g : ℕ} → g < 8 → (g ≡ 0 → ⊥) → (g ≡ 1 → ⊥) → (g ≡ 2 → ⊥) → (g ≡ 3 → ⊥) → (g ≡ 4 → ⊥) →
-    (g ≡ 5 → ⊥) → (g ≡ 6 → ⊥) → g ≡ 7
-last_gate h a b c d e f i = omega (arith, h, up (up (up (up (up (up (up zero-le a) b) c) d) e) f) i)
+      let x : a + 3 * b + 9 * c + 27 * cond (has_fourth g) d 0 ≡ p + 3 * q + 9 * r + 27 * s = ap (λ (s : Bool). a + 3 * b + 9 * c + 27 * cond s d 0) f ∙ omega (arith, i, j, k, l) in
+      subst (λ (h : Pattern). Says h (p + 3 * q + 9 * r + 27 * s)) (sym e) (subst (Says g) x found)
 
 -- ---- where nothing is forced, by the bits
 
@@ -129,31 +124,45 @@ by_honest : (m i e : ℕ) → honest m i e ≡ true → quiet m i ≡ true → e
 by_honest m i e h q = eqb-true e 0 (sym (ap (λ (b : Bool). not b || eqb e 0) q) ∙ h)
 
 -- bits for a gate, or for each value of its fourth variable: tried at each four values
-abbrev tried : (ℕ → ℕ) → ℕ → Bool
+abbrev tried : (ℕ → ℕ) → Pattern → Bool
 tried f g = fours (λ a b c d. honest (f d) (a + 3 * b + 9 * c) (forced_by g a b c d))
 
-by_tried : (f : ℕ → ℕ) (g : ℕ) → tried f g ≡ true → (a b c d : ℕ) → a ≤ 2 → b ≤ 2 → c ≤ 2 → d ≤ 2 →
+by_tried : (f : ℕ → ℕ) (g : Pattern) → tried f g ≡ true → (a b c d : ℕ) → a ≤ 2 → b ≤ 2 → c ≤ 2 → d ≤ 2 →
     quiet (f d) (a + 3 * b + 9 * c) ≡ true → forced_by g a b c d ≡ 0
 by_tried f g t a b c d ha hb hc hd =
     by_honest (f d) (a + 3 * b + 9 * c) (forced_by g a b c d) (at_four (λ a b c d. honest (f d) (a + 3 * b + 9 * c) (forced_by g a b c d)) t a b c d ha hb hc hd)
 
-abbrev pub bits_of : ℕ → ℕ
-bits_of g = get_or (71705361 ∷ 42287777 ∷ 76686093 ∷ 71640147 ∷ 71573521 ∷ 76695844 ∷ 38347922 ∷ 122660819 ∷ []) g 0
+abbrev pub bits_of : Pattern → ℕ
+bits_of Copy = 71705361
+bits_of Inverse = 42287777
+bits_of Both = 76686093
+bits_of Either = 71640147
+bits_of Step = 71573521
+bits_of Low = 76695844
+bits_of High = 38347922
+bits_of Raised = 122660819
 
-all_honest : every 8 (λ g. tried (λ d. bits_of g) g) ≡ true
+all_honest : (g : Pattern) → tried (λ d. bits_of g) g ≡ true
 unfolding forced_by pattern_of clauses_of members_in members_of flat_map first_forced all_opposed held_in
-all_honest = refl
+all_honest Copy = refl
+all_honest Inverse = refl
+all_honest Both = refl
+all_honest Either = refl
+all_honest Step = refl
+all_honest Low = refl
+all_honest High = refl
+all_honest Raised = refl
 
-pub gate_quiets : (g : ℕ) {gate m : ℕ} → g < 8 → gate ≡ g → m ≡ bits_of g → Quiets gate m
-gate_quiets g h e f = rw (e, f) (by_tried (λ d. bits_of g) g (at 8 (λ g. tried (λ d. bits_of g) g) all_honest g h))
+pub gate_quiets : (g : Pattern) {gate : Pattern} {m : ℕ} → gate ≡ g → m ≡ bits_of g → Quiets gate m
+gate_quiets g e f = rw (e, f) (by_tried (λ d. bits_of g) g (all_honest g))
 
 abbrev pub step_mask : ℕ → ℕ
 step_mask d = get_or (71608147 ∷ 71640147 ∷ 71705361 ∷ []) d 0
 
-step_honest : tried step_mask 4 ≡ true
+step_honest : tried step_mask Step ≡ true
 unfolding forced_by pattern_of clauses_of members_in members_of flat_map first_forced all_opposed held_in
 step_honest = refl
 
 pub step_bit : (a b c : ℕ) → a ≤ 2 → b ≤ 2 → c ≤ 2 → (d : ℕ) → d ≤ 2 → {p q r m : ℕ} → p ≡ a → q ≡ b → r ≡ c →
-    m ≡ step_mask d → quiet m (p + 3 * q + 9 * r) ≡ true → forced_by 4 a b c d ≡ 0
-step_bit a b c ha hb hc d hd i j k l q = by_tried step_mask 4 step_honest a b c d ha hb hc hd (rw (i, j, k, l) at q)
+    m ≡ step_mask d → quiet m (p + 3 * q + 9 * r) ≡ true → forced_by Step a b c d ≡ 0
+step_bit a b c ha hb hc d hd i j k l q = by_tried step_mask Step step_honest a b c d ha hb hc hd (rw (i, j, k, l) at q)

@@ -14,22 +14,18 @@ ghost use Rattle.paper_clauses.specs.Clauses.{clauses_of};
 
 use search_closing::Closed;
 
-// The gates, by number: a copy, an inverse, both of two, either of two, a step, the constants, and (v −x), of which an `AnyOf` has many.
-pub const COPY: usize = 0;
-
-pub const INVERSE: usize = 1;
-
-pub const BOTH: usize = 2;
-
-pub const EITHER: usize = 3;
-
-pub const STEP: usize = 4;
-
-pub const LOW: usize = 5;
-
-pub const HIGH: usize = 6;
-
-pub const RAISED: usize = 7;
+// The gates: a copy, an inverse, both of two, either of two, a step, the constants, and (v −x), of which an `AnyOf` has many.
+#[derive(Clone, Copy)]
+pub enum Pattern {
+    Copy,
+    Inverse,
+    Both,
+    Either,
+    Step,
+    Low,
+    High,
+    Raised,
+}
 
 fn wide(x: u8) -> usize
     ensures { result ≡ x }
@@ -37,20 +33,20 @@ fn wide(x: u8) -> usize
     x as usize
 }
 
-fn forced(gate: usize, a: u8, b: u8, c: u8, d: u8) -> u8
-    requires { (gate < 8) × (a ≤ 2) × (b ≤ 2) × (c ≤ 2) × (d ≤ 2) }
+fn forced(gate: Pattern, a: u8, b: u8, c: u8, d: u8) -> u8
+    requires { (a ≤ 2) × (b ≤ 2) × (c ≤ 2) × (d ≤ 2) }
     ensures { (result ≡ forced_by gate a b c d) × (result ≤ 11) × ((result ≡ 0 → ⊥) → 4 ≤ result) }
 {
     let i = wide(a) + 3 * wide(b) + 9 * wide(c);
     match gate {
-        COPY => tables::COPY_FORCED[i],
-        INVERSE => tables::INVERSE_FORCED[i],
-        BOTH => tables::BOTH_FORCED[i],
-        EITHER => tables::EITHER_FORCED[i],
-        STEP => tables::STEP_FORCED[i + 27 * wide(d)],
-        LOW => tables::LOW_FORCED[i],
-        HIGH => tables::HIGH_FORCED[i],
-        _ => tables::RAISED_FORCED[i],
+        Pattern::Copy => tables::COPY_FORCED[i],
+        Pattern::Inverse => tables::INVERSE_FORCED[i],
+        Pattern::Both => tables::BOTH_FORCED[i],
+        Pattern::Either => tables::EITHER_FORCED[i],
+        Pattern::Step => tables::STEP_FORCED[i + 27 * wide(d)],
+        Pattern::Low => tables::LOW_FORCED[i],
+        Pattern::High => tables::HIGH_FORCED[i],
+        Pattern::Raised => tables::RAISED_FORCED[i],
     }
 }
 
@@ -79,25 +75,25 @@ fn value(values: &[u8], v: u32) -> u8
 }
 
 // A gate's bits.
-fn quiet_bits(gate: usize) -> u32
-    requires { gate < 8 }
+#[tactic(auto, using(crate::proofs::Table::gate_quiets))]
+fn quiet_bits(gate: Pattern) -> u32
     ensures { Quiets gate result }
 {
     match gate {
-        COPY => tables::COPY_QUIET,
-        INVERSE => tables::INVERSE_QUIET,
-        BOTH => tables::BOTH_QUIET,
-        EITHER => tables::EITHER_QUIET,
-        STEP => tables::STEP_QUIET,
-        LOW => tables::LOW_QUIET,
-        HIGH => tables::HIGH_QUIET,
-        _ => tables::RAISED_QUIET,
+        Pattern::Copy => tables::COPY_QUIET,
+        Pattern::Inverse => tables::INVERSE_QUIET,
+        Pattern::Both => tables::BOTH_QUIET,
+        Pattern::Either => tables::EITHER_QUIET,
+        Pattern::Step => tables::STEP_QUIET,
+        Pattern::Low => tables::LOW_QUIET,
+        Pattern::High => tables::HIGH_QUIET,
+        Pattern::Raised => tables::RAISED_QUIET,
     }
 }
 
 // Nothing is forced by the gate's first three variables, whatever the fourth is.
-fn quiet(gate: usize, a: u8, b: u8, c: u8) -> bool
-    requires { (gate < 8) × (a ≤ 2) × (b ≤ 2) × (c ≤ 2) }
+fn quiet(gate: Pattern, a: u8, b: u8, c: u8) -> bool
+    requires { (a ≤ 2) × (b ≤ 2) × (c ≤ 2) }
     ensures { (d : ℕ) → d ≤ 2 → result ≡ true → forced_by gate a b c d ≡ 0 }
 {
     (quiet_bits(gate) >> (wide(a) + 3 * wide(b) + 9 * wide(c))) % 2 == 1
@@ -118,16 +114,9 @@ fn step_quiet(a: u8, b: u8, c: u8, d: u8) -> bool
     (tables::STEP_QUIET_LOW >> i) % 2 == 1
 }
 
-// The first literal that is forced, as by a unit clause, or none.
-#[derive(Drop)]
-pub enum Next {
-    Nothing,
-    Literal(u32, u8),
-}
-
-// What the clauses of one of the gates, over these variables, force first.
-fn next_forced(values: &[u8], gate: usize, v: u32, x: u32, y: u32, z: u32) -> Next
-    requires by_index { ((x : ℕ) → get_or values.now x 0 ≤ 2) × (gate < 8) }
+// The first literal that the clauses of one of the gates, over these variables, force, as by a unit clause, or none.
+fn next_forced(values: &[u8], gate: Pattern, v: u32, x: u32, y: u32, z: u32) -> Option<(u32, u8)>
+    requires by_index { (x : ℕ) → get_or values.now x 0 ≤ 2 }
     requires four { Four values.now v x y z }
     ensures { Forces (renamed (among v x y z) (pattern_of gate)) values.now result }
 {
@@ -137,9 +126,9 @@ fn next_forced(values: &[u8], gate: usize, v: u32, x: u32, y: u32, z: u32) -> Ne
     let d = value(values, z);
     let e = forced(gate, a, b, c, d);
     if e == 0 {
-        return Next::Nothing;
+        return None;
     }
-    Next::Literal(pick(e, v, x, y, z), e)
+    Some((pick(e, v, x, y, z), e))
 }
 
 // One of the gates by its pattern, over these variables, of which something is forced: twice the top then, and 1 more for a clash, since a
@@ -148,20 +137,19 @@ fn settle_on(
     values: &mut [u8],
     trail: &mut [u32],
     top: usize,
-    gate: usize,
+    gate: Pattern,
     v: u32,
     x: u32,
     y: u32,
     z: u32,
 ) -> usize
-    requires trailing { Trailing values.old trail.old top × (gate < 8) }
+    requires trailing { Trailing values.old trail.old top }
     requires four { Four values.old v x y z }
     ensures { Settles (renamed (among v x y z) (pattern_of gate)) values trail top (ended_by result) }
 {
     let mut t = top;
     loop {
-        let next = next_forced(values, gate, v, x, y, z);
-        let Next::Literal(u, e) = next else {
+        let Some((u, e)) = next_forced(values, gate, v, x, y, z) else {
             return 2 * t;
         };
         if search_closing::opposed(values, u, e) {
@@ -186,13 +174,13 @@ pub fn settle_by(
     values: &mut [u8],
     trail: &mut [u32],
     top: usize,
-    gate: usize,
+    gate: Pattern,
     v: u32,
     x: u32,
     y: u32,
     z: u32,
 ) -> Closed
-    requires trailing { Trailing values.old trail.old top × (gate < 8) }
+    requires trailing { Trailing values.old trail.old top }
     requires four { Four values.old v x y z }
     ensures { Settles (renamed (among v x y z) (pattern_of gate)) values trail top result }
 {
@@ -220,7 +208,7 @@ pub fn settle_both(
     requires { Trailing values.old trail.old top × Variable (length values.old) v × InputsIn (length values.old) (Both x y) }
     ensures { Settles (clauses_of v (Both x y)) values trail top result }
 {
-    settle_by(values, trail, top, BOTH, v, x, y, v)
+    settle_by(values, trail, top, Pattern::Both, v, x, y, v)
 }
 
 // v is p, or q and s: mostly nothing is forced.
@@ -246,5 +234,5 @@ pub fn settle_step(
             top: top,
         };
     }
-    ended(settle_on(values, trail, top, STEP, v, p, q, s))
+    ended(settle_on(values, trail, top, Pattern::Step, v, p, q, s))
 }

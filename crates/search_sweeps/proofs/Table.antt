@@ -18,9 +18,9 @@ module _ (C k : ℕ) (kinds numbers sizes firsts : List ℕ) (n : ℕ) {v₀ t�
   unfolding table_by
   nodes_clash e = visited_stop w (clauses_of (seat_by kinds numbers firsts k 0 + k) (Constant true)) e
 
-  pub nodes_root : {v₂ t₂ : List ℕ} {s : Ended} {m : ℕ} → r.clash ≡ false → m ≡ seat_by kinds numbers firsts k 0 →
-      Visited (clauses_of (m + k) (Constant true)) v₁ t₁ r.top v₂ t₂ s
+  pub nodes_root : {v₂ t₂ : List ℕ} {s : Ended} {m : ℕ} → r.clash ≡ false → m ≡ seat_by kinds numbers firsts k 0 + k →
+      Visited (clauses_of m (Constant true)) v₁ t₁ r.top v₂ t₂ s
       → Visited (table_by C k kinds numbers sizes firsts n) v₀ t₀ top₀ v₂ t₂ s
   unfolding table_by
   nodes_root {m = m} e f u = visited_then w (clauses_of (seat_by kinds numbers firsts k 0 + k) (Constant true)) e
-      (visited_named (ap (λ (m : ℕ). clauses_of (m + k) (Constant true)) f) u)
+      (visited_named (ap (λ (m : ℕ). clauses_of m (Constant true)) f) u)

@@ -1,24 +1,11 @@
--- A node table as the queue goes by it, and what the code's search says of the tree of its clauses. Nothing here need be believed: no call
--- open to others cites it.
-use Rattle.std.specs.Prelude.{◌≡◌, List, ℕ, ◌≤◌, ◌<◌, length}
-use Rattle.std.specs.Borrow.{Bor, MutBor}
-use Rattle.node_rows.specs.declared.NodeTable.{NodeTable}
+-- What the code's search says of the tree of a list of clauses. Nothing here need be believed: no call open to others cites it.
+use Rattle.std.specs.Prelude.{◌≡◌, List, ℕ, ◌≤◌, ◌<◌}
 use Rattle.paper_clauses.specs.Clauses.{Clause}
 use Rattle.paper_closure.specs.Runs.{dead, found}
 use Rattle.paper_closure.specs.Tree.{trial, tree}
 use Rattle.search_closing.specs.Values.{held_in}
-use Rattle.search_clauses.specs.Clauses.{table_by}
-use Rattle.search_fanout.specs.Fanout.{Ground}
 use Rattle.search_tries.specs.declared.Below.{Below}
 use Rattle.search_tries.specs.declared.Below.TheVariants.{Dead, Found, Spent}
-
--- a node table, and the columns beside it that a call is lent
-abbrev pub GroundOf : ℕ → ℕ → NodeTable → (firsts seats parents : Bor (List ℕ)) → MutBor (List ℕ) → Type 0
-GroundOf C k table firsts seats parents values =
-    Ground C k table.kinds table.numbers table.sizes firsts.now seats.now parents.now table.count (length values.now)
-
-abbrev pub table_clauses : ℕ → ℕ → NodeTable → List ℕ → List Clause
-table_clauses C k table firsts = table_by C k table.kinds table.numbers table.sizes firsts table.count
 
 -- what comes of the whole tree
 abbrev pub Result : List Clause → ℕ → ℕ → ℕ → List ℕ → Below → Type 0

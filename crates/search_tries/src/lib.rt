@@ -1,19 +1,19 @@
 // The tree of tries on values and a trail, all tries one after another: it is DPLL's, its decisions in a fixed order, with chronological
-// backtracking. `table` to `k` are what the queue goes by: nothing here looks into them, but for the number of channel variables.
+// backtracking. The wiring is what the queue goes by: nothing here looks into it, but for the number of channel variables.
 #![tactic(auto)]
 
 ghost use Rattle.std.specs.Prelude.{◌*◌, length};
 ghost use Rattle.paper_closure.specs.Closure.{nothing};
-ghost use Rattle.search_decode.specs.Decode.{Tables};
+ghost use Rattle.search_fanout.specs.Wiring.{OnGround, clauses_in};
 ghost use Rattle.search_attempts.specs.Attempts.{Holding};
-ghost use Rattle.search_tries.specs.Tries.{GroundOf, table_clauses, Started};
+ghost use Rattle.search_tries.specs.Tries.{Started};
 
 // The crates above reach these through this one: rt goes every way that leads down, and there are fewer then.
 use interval::Interval;
-use node_rows::NodeTable;
-use paper_grammar::{MAX_CHANNELS, MAX_NODES};
+use paper_grammar::MAX_CHANNELS;
 pub use search_attempts::{clear, start};
 use search_closing::Closed;
+use search_fanout::Wiring;
 
 // So many tries high can be left to make: each is of another channel variable.
 const MAX_DEPTH: usize = Interval::MAX_STEPS * MAX_CHANNELS;
@@ -33,22 +33,14 @@ pub fn descend(
     values: &mut [u8],
     trail: &mut [u32],
     closed: Closed,
-    table: NodeTable,
-    firsts: &[u32; MAX_NODES],
-    seats: &[u32; MAX_NODES],
-    parents: &[u8; MAX_NODES],
-    intervals: &[u16],
-    starts: &[u32],
-    rows: &[u32],
-    c: u32,
-    k: u32,
+    wiring: &Wiring,
     limit: u32,
 ) -> Below
-    requires ground_of { GroundOf c k table firsts seats parents values × Tables k intervals.now starts.now rows.now }
-    requires holding { Holding (table_clauses c k table firsts.now) nothing values.old trail.old closed }
-    ensures { Started (table_clauses c k table firsts.now) (length values.old) (k * c) limit values.new result }
+    requires on_ground { OnGround wiring.now (length values.old) }
+    requires holding { Holding (clauses_in wiring.now) nothing values.old trail.old closed }
+    ensures { Started (clauses_in wiring.now) (length values.old) (wiring.now.k * wiring.now.c) limit values.new result }
 {
-    let channels = k * c;
+    let channels = wiring.channels();
     let mut levels = [0; MAX_DEPTH];
     let mut last = closed;
     let mut depth = 0;
@@ -62,24 +54,7 @@ pub fn descend(
                 return Below::Spent;
             }
             depth -= 1;
-            last = search_attempts::try_high(
-                values,
-                trail,
-                levels[depth],
-                last.top,
-                &table.kinds,
-                &table.numbers,
-                &table.sizes,
-                firsts,
-                seats,
-                parents,
-                intervals,
-                starts,
-                rows,
-                table.count,
-                c,
-                k,
-            );
+            last = search_attempts::try_high(values, trail, levels[depth], last.top, wiring);
             n += 1;
             continue;
         }
@@ -96,18 +71,7 @@ pub fn descend(
             values,
             trail,
             last.top,
-            &table.kinds,
-            &table.numbers,
-            &table.sizes,
-            firsts,
-            seats,
-            parents,
-            intervals,
-            starts,
-            rows,
-            table.count,
-            c,
-            k,
+            wiring,
             v,
             paper_clauses::NEGATED,
         );

@@ -2,14 +2,12 @@
 #![tactic(auto)]
 
 ghost use Rattle.std.specs.Prelude.{◌≡◌, ◌≤◌};
-ghost use Rattle.interval.specs.Places.{count_of};
-ghost use Rattle.interval.specs.Rows.{RowsOf, StartsOf};
 ghost use Rattle.table_blocks.specs.declared.Rule.TheVariants.{Cut};
 ghost use Rattle.search_visits.specs.Visits.{Visits};
 ghost use Rattle.search_fanout.specs.Walks.{Standing, first_clauses, second_clauses};
 
-use interval::{Interval, Triple};
 use search_closing::Closed;
+use search_fanout::Wiring;
 use table_blocks::Block;
 
 // A chop's first part on [i, m]: the triples (i, m, j) for all j. The next stands j - i + 1 places further, for so many has [i, j]; their
@@ -18,23 +16,19 @@ pub fn visit_first(
     values: &mut [u8],
     trail: &mut [u32],
     top: usize,
-    starts: &[u32],
-    rows: &[u32],
-    c: u32,
-    k: u32,
+    wiring: &Wiring,
     block: Block,
     i: u32,
     m: u32,
 ) -> Closed
-    requires { Standing c k block values.old trail.old top × RowsOf k rows.now × (block.rule ≡ Cut) × (i ≤ m) × (m ≤ k)
-        × StartsOf k starts.now }
-    ensures { Visits (first_clauses c k block i m) values trail top result }
+    requires { Standing wiring.now.c wiring.now.k block values.old trail.old top × (block.rule ≡ Cut) × (i ≤ m) × (m ≤ wiring.now.k) }
+    ensures { Visits (first_clauses wiring.now.c wiring.now.k block i m) values trail top result }
 {
-    let x = block.left + Interval::place(rows, k, i, m - i);
-    let start = Interval::place(rows, k, m, 0);
-    let mut v = block.first + Triple::place(rows, starts, k, i, m - i, m - i);
+    let x = block.left + wiring.place(i, m - i);
+    let start = wiring.place(m, 0);
+    let mut v = block.first + wiring.triple_place(i, m - i, m - i);
     let mut t = top;
-    for e in 0..k - m + 1 {
+    for e in 0..wiring.k - m + 1 {
         let y = block.right + start + e;
         let r = search_patterns::settle_both(values, trail, t, v, x, y);
         if r.clash {
@@ -55,23 +49,18 @@ pub fn visit_second(
     values: &mut [u8],
     trail: &mut [u32],
     top: usize,
-    starts: &[u32],
-    rows: &[u32],
-    c: u32,
-    k: u32,
-    all: u32,
+    wiring: &Wiring,
     block: Block,
     m: u32,
     j: u32,
 ) -> Closed
-    requires { Standing c k block values.old trail.old top × (all ≡ count_of k) × (block.rule ≡ Cut) × (m ≤ j) × (j ≤ k)
-        × RowsOf k rows.now × StartsOf k starts.now }
-    ensures { Visits (second_clauses c k block m j) values trail top result }
+    requires { Standing wiring.now.c wiring.now.k block values.old trail.old top × (block.rule ≡ Cut) × (m ≤ j) × (j ≤ wiring.now.k) }
+    ensures { Visits (second_clauses wiring.now.c wiring.now.k block m j) values trail top result }
 {
-    let start = Interval::place(rows, k, m, j - m);
+    let start = wiring.place(m, j - m);
     let mut x = block.left + m;
-    let mut v = block.first + Triple::place(rows, starts, k, 0, j, m);
-    let mut row = all;
+    let mut v = block.first + wiring.triple_place(0, j, m);
+    let mut row = wiring.all;
     let mut t = top;
     for i in 0..m + 1 {
         let y = block.right + start;
@@ -81,8 +70,8 @@ pub fn visit_second(
         }
         t = r.top;
         v = v + row - (j - i + 1);
-        x += k - i;
-        row -= k - i + 1;
+        x += wiring.k - i;
+        row -= wiring.k - i + 1;
     }
     Closed {
         clash: false,

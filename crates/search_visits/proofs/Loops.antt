@@ -12,6 +12,7 @@ use Rattle.paper_circuit.specs.declared.Gate.TheVariants.{AnyOf}
 use Rattle.paper_clauses.specs.Clauses.{Clause, plain, negated, clauses_of}
 use Rattle.search_closing.specs.Values.{Trailing}
 use Rattle.search_closing.specs.declared.Closed.{Closed as Ended}
+use Rattle.search_patterns.specs.declared.Pattern.TheVariants.{Raised}
 use Rattle.search_patterns.specs.Patterns.{among, renamed, pattern_of}
 use Rattle.search_visits.specs.Visits.{Visited, raised_by, long_by}
 use Rattle.search_visits.proofs.Parts.{visited_none, visited_named, visited_stop, visited_then}
@@ -51,6 +52,6 @@ pub any_clauses_lem : (v w n : ℕ) → rows n (raised_by v w) ++ long_by v w n 
 unfolding clauses_of
 any_clauses_lem v w n = ap (λ (T : List Clause). T ++ long_by v w n ∷ []) (sym (map_rows (λ w. plain v ∷ negated w ∷ []) (λ e. (w + e) ∷ []) n))
 
-pub raised_pattern : (v w e : ℕ) → renamed (among v (w + e) v v) (pattern_of 7) ≡ raised_by v w e
+pub raised_pattern : (v w e : ℕ) → renamed (among v (w + e) v v) (pattern_of Raised) ≡ raised_by v w e
 unfolding renamed pattern_of
 raised_pattern v w e = refl

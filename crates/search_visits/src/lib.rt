@@ -14,7 +14,7 @@ ghost use Rattle.paper_closure.specs.Closure.{opposite};
 ghost use Rattle.search_closing.specs.Free.{free_of, Tally};
 
 use search_closing::Closed;
-use search_patterns::RAISED;
+use search_patterns::Pattern;
 
 // v is high or w is low, for each of n variables from w on.
 fn visit_each(values: &mut [u8], trail: &mut [u32], top: usize, v: u32, w: u32, n: u32) -> Closed
@@ -23,7 +23,7 @@ fn visit_each(values: &mut [u8], trail: &mut [u32], top: usize, v: u32, w: u32, 
 {
     let mut t = top;
     for e in 0..n {
-        let r = search_patterns::settle_by(values, trail, t, RAISED, v, w + e, v, v);
+        let r = search_patterns::settle_by(values, trail, t, Pattern::Raised, v, w + e, v, v);
         if r.clash {
             return r;
         }
@@ -125,7 +125,7 @@ pub fn visit_one(
     requires { Trailing values.old trail.old top × Variable (length values.old) v × Row (length values.old) w n × (e < n) }
     ensures { Visits (raised_by v w e ++ long_by v w n ∷ []) values trail top result }
 {
-    let r = search_patterns::settle_by(values, trail, top, RAISED, v, w + e, v, v);
+    let r = search_patterns::settle_by(values, trail, top, Pattern::Raised, v, w + e, v, v);
     if r.clash {
         return r;
     }

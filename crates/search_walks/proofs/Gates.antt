@@ -1,16 +1,14 @@
 -- The gate in a place is that of its definition, whose clauses a visit goes through: a triple's goes by its two parts, that of a block of
 -- one line by its pattern and its inputs.
-use mathlib.Core.Path.{◌≡◌, refl, sym, ap, ap₂, ◌∙◌, subst}
+use mathlib.Core.Path.{◌≡◌, refl, sym, ap₂, ◌∙◌, subst}
 use mathlib.Core.List.{List}
-use Prim.Native.Nat.{ℕ, ◌+◌, ◌<◌}
+use Prim.Native.Nat.{ℕ, ◌+◌}
 use lib.ListN.{length}
 use Rattle.interval.specs.Places.{place_of}
 use Rattle.paper_circuit.specs.declared.Gate.{Gate}
 use Rattle.paper_circuit.specs.declared.Gate.TheVariants.{Both}
-use Rattle.table_blocks.specs.Blocks.{form_of, gate_of, defined_by, Placed}
+use Rattle.table_blocks.specs.Blocks.{gate_of, defined_by, Placed}
 use Rattle.table_blocks.specs.declared.Block.{Block}
-use Rattle.table_blocks.specs.declared.Form.TheVariants.{Line}
-use Rattle.table_blocks.specs.declared.Rule.{Rule}
 use Rattle.table_blocks.specs.declared.Rule.TheVariants.{Cut}
 use Rattle.table_blocks.proofs.Positions.{gate_by_lem}
 use Rattle.paper_clauses.specs.Clauses.{clauses_of}
@@ -45,13 +43,10 @@ module _ {C k : ℕ} {b : Block} {values trail : List ℕ} {top x a i d : ℕ} (
 
 -- ---- a line's gate, its rule being known
 
-pub goes_by : (C k : ℕ) (b : Block) (x v : ℕ) {g : Gate} → g ≡ gate_of C k b x 0 0 x → (r : Inputs) → r.gate < 8 →
+pub goes_by : (C k : ℕ) (b : Block) (x v : ℕ) {g : Gate} → g ≡ gate_of C k b x 0 0 x → (r : Inputs) →
     renamed (among v r.x r.y v) (pattern_of r.gate) ≡ clauses_of v g
     → ((l : ℕ) → Variable l v → InputsIn l g → Variable l r.x × Variable l r.y) → GoesBy C k b x v r
-goes_by C k b x v {g} e r h c f =
+goes_by C k b x v {g} e r c f =
     subst (λ (g : Gate). (renamed (among v r.x r.y v) (pattern_of r.gate) ≡ clauses_of v g) ×
     ((l : ℕ) → Variable l v → InputsIn l g → Variable l r.x × Variable l r.y) → GoesBy C k b x v r) (sym e)
-    (λ w. record { gate = h; clauses = w.0; inputs = w.1 }) (c, f)
-
-pub no_line : {X : Type 0} {r q : Rule} → r ≡ q → form_of r ≡ Line → (form_of q ≡ Line → X) → X
-no_line e f g = g (sym (ap form_of e) ∙ f)
+    (λ w. record { clauses = w.0; inputs = w.1 }) (c, f)

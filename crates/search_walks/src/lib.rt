@@ -2,8 +2,6 @@
 #![tactic(auto)]
 
 ghost use Rattle.std.specs.Prelude.{◌≡◌, ◌^◌, ◌<◌};
-ghost use Rattle.interval.specs.Places.{count_of};
-ghost use Rattle.interval.specs.Rows.{RowsOf};
 ghost use Rattle.table_blocks.specs.Blocks.{form_of, defined_by, Placed, Before, Bounded};
 ghost use Rattle.table_blocks.specs.declared.Form.TheVariants.{Line};
 ghost use Rattle.table_blocks.specs.declared.Rule.TheVariants.{Chop, Cut};
@@ -12,8 +10,9 @@ ghost use Rattle.search_clauses.specs.Clauses.{clauses_at};
 ghost use Rattle.search_fanout.specs.Walks.{Standing};
 ghost use Rattle.search_walks.specs.Lines.{GoesBy};
 
-use interval::Interval;
 use search_closing::Closed;
+use search_fanout::Wiring;
+use search_patterns::Pattern;
 use table_blocks::{Block, Position, Rule};
 
 // The gate in place x of a block, at position p.
@@ -21,20 +20,17 @@ pub fn visit_at(
     values: &mut [u8],
     trail: &mut [u32],
     top: usize,
-    rows: &[u32],
-    c: u32,
-    k: u32,
-    all: u32,
+    wiring: &Wiring,
     block: Block,
     x: u32,
     p: Position,
 ) -> Closed
-    requires standing { Standing c k block values.old trail.old top × (all ≡ count_of k) × RowsOf k rows.now }
-    requires placed { Placed block.points k block.rule x p.row p.line p.cell × (block.rule ≡ Chop → Before block.points k Chop p) }
-    ensures { Visits (clauses_at (defined_by c k block) x) values trail top result }
+    requires standing { Standing wiring.now.c wiring.now.k block values.old trail.old top }
+    requires placed { Placed block.points wiring.now.k block.rule x p.row p.line p.cell × (block.rule ≡ Chop → Before block.points wiring.now.k Chop p) }
+    ensures { Visits (clauses_at (defined_by wiring.now.c wiring.now.k block) x) values trail top result }
 {
     let first = block.first;
-    let gate = table_blocks::gate_at(c, rows, k, all, block, x, p);
+    let gate = table_blocks::gate_at(wiring.c, &wiring.rows, wiring.k, wiring.all, block, x, p);
     search_gate::visit(values, trail, top, first + x, gate)
 }
 
@@ -43,29 +39,27 @@ pub fn visit_cut(
     values: &mut [u8],
     trail: &mut [u32],
     top: usize,
-    rows: &[u32],
-    c: u32,
-    k: u32,
+    wiring: &Wiring,
     block: Block,
     x: u32,
     i: u32,
     d: u32,
     e: u32,
 ) -> Closed
-    requires standing { Standing c k block values.old trail.old top × RowsOf k rows.now × (block.rule ≡ Cut) }
-    requires placed { Placed block.points k block.rule x i d e }
-    ensures { Visits (clauses_at (defined_by c k block) x) values trail top result }
+    requires standing { Standing wiring.now.c wiring.now.k block values.old trail.old top × (block.rule ≡ Cut) }
+    requires placed { Placed block.points wiring.now.k block.rule x i d e }
+    ensures { Visits (clauses_at (defined_by wiring.now.c wiring.now.k block) x) values trail top result }
 {
     let v = block.first + x;
-    let first = block.left + Interval::place(rows, k, i, e);
-    let second = block.right + Interval::place(rows, k, i + e, d - e);
+    let first = block.left + wiring.place(i, e);
+    let second = block.right + wiring.place(i + e, d - e);
     search_patterns::settle_both(values, trail, top, v, first, second)
 }
 
 // What the gate in a place of a block of one line goes by: its pattern, and its inputs; where it has fewer than two, its own variable.
 #[derive(Clone, Copy)]
 pub struct Inputs {
-    pub gate: usize,
+    pub gate: Pattern,
     pub x: u32,
     pub y: u32,
 }
@@ -85,42 +79,27 @@ fn inputs_of(c: u32, k: u32, block: Block, x: u32, v: u32) -> Inputs
             y: v,
         },
         Rule::Letter(channel) => Inputs {
-            gate: search_patterns::COPY,
+            gate: Pattern::Copy,
             x: 1 + x * c + channel,
             y: v,
         },
         Rule::Negation => Inputs {
-            gate: search_patterns::INVERSE,
+            gate: Pattern::Inverse,
             x: left,
             y: v,
         },
         Rule::And => Inputs {
-            gate: search_patterns::BOTH,
+            gate: Pattern::Both,
             x: left,
             y: right,
         },
         Rule::Or => Inputs {
-            gate: search_patterns::EITHER,
+            gate: Pattern::Either,
             x: left,
             y: right,
         },
-        Rule::Chop => Inputs {
-            gate: search_patterns::COPY,
-            x: v,
-            y: v,
-        },
-        Rule::Duration(_) => Inputs {
-            gate: search_patterns::COPY,
-            x: v,
-            y: v,
-        },
-        Rule::Throughout => Inputs {
-            gate: search_patterns::COPY,
-            x: v,
-            y: v,
-        },
-        Rule::Cut => Inputs {
-            gate: search_patterns::COPY,
+        Rule::Chop | Rule::Duration(_) | Rule::Throughout | Rule::Cut => Inputs {
+            gate: Pattern::Copy,
             x: v,
             y: v,
         },

@@ -1,11 +1,8 @@
 -- Document 02, C-11: what the strip's call answers, and the lent array after it.
-use Rattle.std.specs.Prelude.{List, [], ◌∷◌, ◌++◌, ℕ, length}
+use Rattle.std.specs.Prelude.{List, [], ◌∷◌, ◌++◌, ℕ, length, Result, Ok, Err}
 use Rattle.moments.specs.Moments.{over}
-use Rattle.refusal.specs.Asked.{ask_places, asked}
+use Rattle.refusal.specs.Asked.{ask_places, asked, Reply}
 use Rattle.refusal.specs.declared.Refusal.{Refusal}
-use Rattle.refusal.specs.declared.Reply.{Reply}
-use Rattle.refusal.specs.declared.Printed.{Printed}
-use Rattle.refusal.specs.declared.Printed.TheVariants.{Bytes, Refused}
 use Rattle.interval.specs.Limits.{ask_steps}
 use Rattle.paper_grammar.specs.Questions.{ask_channels}
 use Rattle.paper_meaning.specs.Recording.{ask_recording, ask_bytes}
@@ -20,14 +17,14 @@ strip_questions C k recording room = recorded_questions C k recording ++ ask_pla
 
 -- the answer, and the strip's array after it
 pub record Stripped : Type 0 where
-  pub answer : Printed
+  pub answer : Result ℕ Refusal
   pub strip : List ℕ
 
 abbrev pub not_stripped : List ℕ → Refusal → Stripped
-not_stripped strip r = record { answer = Refused r; strip = strip }
+not_stripped strip r = record { answer = Err r; strip = strip }
 
 abbrev pub printed : List ℕ → List ℕ → Stripped
-printed S strip = record { answer = Bytes (length S); strip = over S strip }
+printed S strip = record { answer = Ok (length S); strip = over S strip }
 
 -- the questions; then the strip is written
 unfoldable pub stripped : ℕ → ℕ → List ℕ → List ℕ → Stripped

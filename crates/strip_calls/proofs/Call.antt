@@ -8,17 +8,16 @@ use lib.Dec.{leb}
 use lib.ListN.{length}
 use lib.Seq.{sets, length-sets}
 use borrow.Author.Tests.{leb-true}
+use Rattle.std.specs.Prelude.{Err, Ok}
 use Rattle.moments.specs.Moments.{over}
 use Rattle.lists.specs.Listing.{rows}
 use Rattle.lists.proofs.Listing.{rows_next}
 use Rattle.lists.proofs.Stored.{sets_append, stored_over}
-use Rattle.refusal.specs.Asked.{question, ask_places, asked}
+use Rattle.refusal.specs.Asked.{question, ask_places, asked, Reply, ok}
 use Rattle.refusal.specs.declared.Refusal.{Refusal}
-use Rattle.refusal.specs.declared.Reply.{Reply}
-use Rattle.refusal.specs.declared.Reply.TheVariants.{Yes, No}
-use Rattle.refusal.specs.declared.Printed.TheVariants.{Bytes}
 use Rattle.refusal.proofs.Laws.{earlier_no, last_no, last_yes, all_replied, test_yes}
 use Rattle.interval.specs.Limits.{max_steps}
+use Rattle.paper_grammar.specs.Limits.{max_channels}
 use Rattle.strip.specs.Strip.{line_of, strip_of, line_bytes}
 use Rattle.strip.specs.Call.{recorded_questions, Stripped, not_stripped, printed, stripped}
 use Rattle.strip.specs.declared.Line.TheVariants.{Ruler, Channel}
@@ -74,34 +73,35 @@ module _ (C k : ℕ) (recording strip : List ℕ) where
   abbrev answer : Stripped
   answer = printed (strip_of C k recording) strip
 
-  pub refused_first : {q : Reply} {r : Refusal} → q ≡ asked questions No Yes → q ≡ No r → not_stripped strip r ≡ stripped C k recording strip
+  pub refused_first : {r : Refusal} → Err r ≡ asked questions Err ok → not_stripped strip r ≡ stripped C k recording strip
   unfolding stripped
-  refused_first e f = earlier_no (not_stripped strip) answer questions last (sym e ∙ f)
+  refused_first e = earlier_no (not_stripped strip) answer questions last (sym e)
 
   -- 1, 2, 10 and 11 are answered with yes; then 18
-  module _ {q : Reply} (e : q ≡ asked questions No Yes) (y : q ≡ Yes) where
-    pub is_recording : Recorded C k recording
-    is_recording = recorded C k recording (all_replied _ (sym e ∙ y))
+  module _ (e : ok ≡ asked questions Err ok) where
+    is_recording : Recorded C k recording
+    is_recording = recorded C k recording (all_replied _ (sym e))
 
     bytes : length (strip_of C k recording) ≡ (C + 1) * line_bytes
     bytes = strip_length k recording is_recording.steps C
 
-    module _ {p : Reply} (a : p ≡ question 18 0 (leb ((C + 1) * line_bytes) (length strip))) where
-      room : last ≡ p
-      unfolding ask_places
-      room = ap (λ (n : ℕ). question 18 0 (leb n (length strip))) bytes ∙ sym a
+    room : {p : Reply} → p ≡ question 18 0 (leb ((C + 1) * line_bytes) (length strip)) → last ≡ p
+    unfolding ask_places
+    room a = ap (λ (n : ℕ). question 18 0 (leb n (length strip))) bytes ∙ sym a
 
-      pub no_room : {r : Refusal} → p ≡ No r → not_stripped strip r ≡ stripped C k recording strip
+    pub no_room : {r : Refusal} → Err r ≡ question 18 0 (leb ((C + 1) * line_bytes) (length strip)) → not_stripped strip r ≡ stripped C k recording strip
+    unfolding stripped
+    no_room a = last_no (not_stripped strip) answer questions last (sym e) (room a)
+
+    module _ (a : ok ≡ question 18 0 (leb ((C + 1) * line_bytes) (length strip))) where
+      -- what the strip's writer asks
+      pub writable : (C ≤ max_channels) × (length recording ≤ max_steps) × ((C + 1) * line_bytes ≤ length strip)
+      writable = let r = is_recording in (r.channels, omega (arith, r.steps, r.bytes), leb-true _ _ (test_yes 18 0 _ (sym a)))
+
+      pub answered : {s : List ℕ} → s ≡ over (strip_of C (length recording) recording) strip
+          → record { answer = Ok ((C + 1) * line_bytes); strip = s } ≡ stripped C k recording strip
       unfolding stripped
-      no_room f = last_no (not_stripped strip) answer questions last (sym e ∙ y) (room ∙ f)
-
-      pub enough : p ≡ Yes → (C + 1) * line_bytes ≤ length strip
-      enough f = leb-true _ _ (test_yes 18 0 _ (sym a ∙ f))
-
-      pub answered : p ≡ Yes → {s : List ℕ} → s ≡ over (strip_of C (length recording) recording) strip
-          → record { answer = Bytes ((C + 1) * line_bytes); strip = s } ≡ stripped C k recording strip
-      unfolding stripped
-      answered f {s} o =
+      answered {s} o =
           let w : s ≡ over (strip_of C k recording) strip = o ∙ ap (λ (k : ℕ). over (strip_of C k recording) strip) is_recording.bytes in
-          (λ i. record { answer = Bytes (sym bytes i); strip = w i })
-          ∙ last_yes (not_stripped strip) answer questions last (sym e ∙ y) (room ∙ f)
+          (λ i. record { answer = Ok (sym bytes i); strip = w i })
+          ∙ last_yes (not_stripped strip) answer questions last (sym e) (room a)

@@ -1,10 +1,10 @@
 // A recording's strip for the lab notebook.
 #![tactic(auto)]
 
-ghost use Rattle.std.specs.Prelude.{◌≡◌, ◌+◌, ◌*◌, ◌≤◌, length};
+ghost use Rattle.std.specs.Prelude.{◌≡◌, ◌+◌, ◌*◌, ◌≤◌, length, Err};
 ghost use Rattle.std.proofs.lemmas.List.Edits.{sets};
 ghost use Rattle.moments.specs.Moments.{over};
-ghost use Rattle.refusal.specs.Asked.{asked};
+ghost use Rattle.refusal.specs.Asked.{asked, ok};
 ghost use Rattle.interval.specs.Limits.{max_steps};
 ghost use Rattle.paper_grammar.specs.Limits.{max_channels};
 ghost use Rattle.strip.specs.Strip.{line_of, strip_of, line_bytes};
@@ -12,7 +12,7 @@ ghost use Rattle.strip.specs.Call.{recorded_questions, stripped};
 ghost use Rattle.strip_lines.specs.Lines.{OfStrip};
 
 use interval::Interval;
-use refusal::{Printed, Reply};
+use refusal::Refusal;
 use strip::{LINE_BYTES, Line};
 
 // Line n of the strip: a part that starts in its middle, handed on to be written.
@@ -37,32 +37,24 @@ fn put_strip(strip: &mut [u8], recording: &[u8], channels: usize)
 }
 
 // Questions 1, 2, 10 and 11.
-fn ask_recorded(c: u32, k: u32, recording: &[u8]) -> Reply
-    ensures { result ≡ asked (recorded_questions c k recording.now) Reply.No Reply.Yes }
+#[tactic(auto, using(interval::proofs::Gives::steps_yes, paper_grammar::proofs::Gives::channels_yes, paper_meaning::proofs::Recording::recording_length))]
+fn ask_recorded(c: u32, k: u32, recording: &[u8]) -> Result<(), Refusal>
+    ensures { result ≡ asked (recorded_questions c k recording.now) Err ok }
 {
-    if let Reply::No(r) = formula_text::ask_channels(c) {
-        return Reply::No(r);
-    }
-    if let Reply::No(r) = Interval::ask_steps(k as usize) {
-        return Reply::No(r);
-    }
-    if let Reply::No(r) = recording_questions::ask_recording(k, recording) {
-        return Reply::No(r);
-    }
+    formula_text::ask_channels(c)?;
+    Interval::ask_steps(k as usize)?;
+    recording_questions::ask_recording(k, recording)?;
     recording_questions::ask_bytes(c, recording)
 }
 
 // Writes the strip of a recording of k steps of C channels: questions 1, 2, 10, 11 and 18.
-pub fn strip(c: u32, k: u32, recording: &[u8], strip: &mut [u8]) -> Printed
+#[tactic(auto, using(crate::proofs::Call::refused_first, crate::proofs::Call::no_room, crate::proofs::Call::writable, crate::proofs::Call::answered))]
+pub fn strip(c: u32, k: u32, recording: &[u8], strip: &mut [u8]) -> Result<u32, Refusal>
     ensures { record { answer = result; strip = strip.new } ≡ stripped c k recording.now strip.old }
 {
-    if let Reply::No(r) = ask_recorded(c, k, recording) {
-        return Printed::Refused(r);
-    }
+    ask_recorded(c, k, recording)?;
     let bytes = (c as usize + 1) * LINE_BYTES;
-    if let Reply::No(r) = refusal::ask(18, bytes <= strip.len()) {
-        return Printed::Refused(r);
-    }
+    refusal::ask(18, bytes <= strip.len())?;
     put_strip(strip, recording, c as usize);
-    Printed::Bytes(bytes as u32)
+    Ok(bytes as u32)
 }

@@ -1,7 +1,7 @@
 -- A line is two bytes, its columns, a blank, its count and a line feed, stored one after another in a part that is as long as all of them:
 -- so nothing of what stood there is left.
-use mathlib.Core.Path.{◌≡◌, refl, sym, ap, ◌∙◌, subst}
-use mathlib.Core.Bool.{Bool, true, false, cond}
+use mathlib.Core.Path.{◌≡◌, refl, sym, ap, ◌∙◌}
+use mathlib.Core.Bool.{Bool, cond}
 use mathlib.Core.List.{List, [], ◌∷◌, ◌++◌, append-nil, append_assoc}
 use Prim.Native.Nat.{ℕ, ◌+◌, ◌<◌}
 use native.Mathlib.Omega.{arith}
@@ -13,31 +13,8 @@ use Rattle.lists.specs.Listing.{tab}
 use Rattle.lists.proofs.Listing.{length_tab}
 use Rattle.lists.proofs.Stored.{sets_append, stored_before, part_stored, stored_over}
 use Rattle.interval.specs.Limits.{max_steps}
-use Rattle.paper_grammar.specs.Limits.{max_channels}
-use Rattle.paper_meaning.specs.Meaning.{bit}
-use Rattle.strip.specs.Strip.{blank, high, low, line_feed, letter_of, glyph_of, column_of, count_of, line_of, line_bytes}
+use Rattle.strip.specs.Strip.{blank, line_feed, letter_of, glyph_of, column_of, count_of, line_of, line_bytes}
 use Rattle.strip.specs.declared.Line.{Line}
-use Rattle.strip.specs.declared.Line.TheVariants.{Channel}
-use Rattle.strip_lines.specs.Lines.{OfStrip}
-
-pub of_channel : {l : Line} {c : ℕ} → l ≡ Channel c → OfStrip l → c < max_channels
-of_channel e h = subst OfStrip e h
-
--- what the test of a bit picks
-module _ (b : Bool) {x : ℕ} (e : x ≡ bit b) where
-  pub shows_high : x ≡ 1 → high ≡ cond b high low
-  shows_high = go b e
-    where
-      go : (b : Bool) → x ≡ bit b → x ≡ 1 → high ≡ cond b high low
-      go true e h = refl
-      go false e h = absurd (omega arith)
-
-  pub shows_low : (x ≡ 1 → ⊥) → low ≡ cond b high low
-  shows_low = go b e
-    where
-      go : (b : Bool) → x ≡ bit b → (x ≡ 1 → ⊥) → low ≡ cond b high low
-      go true e h = absurd (h e)
-      go false e h = refl
 
 -- a column of an instant shows the line's glyph
 pub column_below : (k : ℕ) (recording : List ℕ) (t : ℕ) {l m : Line} {x : ℕ} → t < k → l ≡ m → x ≡ glyph_of recording m t → x ≡ column_of k recording l t

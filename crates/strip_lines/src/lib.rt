@@ -94,8 +94,8 @@ fn put_columns(columns: &mut [u8], recording: &[u8], line: Line)
     requires { OfStrip line }
     ensures { columns.new ≡ tab (length columns.old) (column_of (length recording.now) recording.now line) }
 {
-    for t in 0..columns.len() {
-        columns[t] = column(recording, line, t);
+    for (t, byte) in columns.iter_mut().enumerate() {
+        *byte = column(recording, line, t);
     }
 }
 

@@ -77,17 +77,7 @@ pub fn rule_of(kind: u8, number: u8) -> Rule
 pub fn is_chop(rule: Rule) -> bool
     ensures { result ≡ is_chop rule }
 {
-    match rule {
-        Rule::Fixed(_) => false,
-        Rule::Letter(_) => false,
-        Rule::Negation => false,
-        Rule::And => false,
-        Rule::Or => false,
-        Rule::Chop => true,
-        Rule::Duration(_) => false,
-        Rule::Throughout => false,
-        Rule::Cut => false,
-    }
+    matches!(rule, Rule::Chop)
 }
 
 // How the cells of a block of this rule stand.
@@ -95,23 +85,10 @@ pub fn form_of(rule: Rule) -> Form
     ensures { result ≡ form_of rule }
 {
     match rule {
-        Rule::Fixed(_) => Form::Line,
-        Rule::Letter(_) => Form::Line,
-        Rule::Negation => Form::Line,
-        Rule::And => Form::Line,
-        Rule::Or => Form::Line,
-        Rule::Chop => Form::Intervals,
-        Rule::Duration(_) => Form::Intervals,
-        Rule::Throughout => Form::Intervals,
+        Rule::Chop | Rule::Duration(_) | Rule::Throughout => Form::Intervals,
         Rule::Cut => Form::Triples,
+        _ => Form::Line,
     }
-}
-
-// What is left of x, and nothing where y is more.
-fn less(x: u32, y: u32) -> u32
-    ensures { result ≡ x - y }
-{
-    if y <= x { x - y } else { 0 }
 }
 
 // How many lines a row has.
@@ -122,7 +99,7 @@ fn lines(form: Form, k: u32, row: u32) -> u32
     match form {
         Form::Line => 1,
         Form::Intervals => k + 1,
-        Form::Triples => less(k + 1, row),
+        Form::Triples => (k + 1).saturating_sub(row),
     }
 }
 
@@ -133,7 +110,7 @@ fn cells(form: Form, points: u32, k: u32, line: u32) -> u32
 {
     match form {
         Form::Line => points,
-        Form::Intervals => less(k + 1, line),
+        Form::Intervals => (k + 1).saturating_sub(line),
         Form::Triples => line + 1,
     }
 }

@@ -9,10 +9,9 @@ use lib.Dec.{leb}
 use lib.ListN.{length, length-map}
 use lib.Seq.{sets}
 use borrow.Author.Tests.{leb-true}
-use Rattle.refusal.specs.Asked.{asked}
+use Rattle.std.specs.Prelude.{Ok, Err}
+use Rattle.refusal.specs.Asked.{asked, Reply, ok}
 use Rattle.refusal.specs.declared.Refusal.{Refusal}
-use Rattle.refusal.specs.declared.Reply.{Reply}
-use Rattle.refusal.specs.declared.Reply.TheVariants.{Yes, No}
 use Rattle.refusal.proofs.Laws.{test_yes}
 use Rattle.paper_grammar.specs.Trees.{Tree}
 use Rattle.paper_grammar.specs.Reader.{Read, read, on_tree}
@@ -20,7 +19,6 @@ use Rattle.paper_grammar.specs.declared.Sort.TheVariants.{Formula}
 use Rattle.lists.proofs.Tests.{both}
 use Rattle.node_rows.specs.declared.NodeTable.{NodeTable}
 use Rattle.node_calls.specs.Calls.{tabled_of as nodeTabled}
-use Rattle.node_calls.specs.declared.Tabled.{Tabled}
 use Rattle.node_calls.specs.Rows.{node_table_of}
 use Rattle.node_calls.proofs.Called as first
 use Rattle.paper_clauses.specs.Clauses.{clause_table}
@@ -32,12 +30,11 @@ use Rattle.table_layout.proofs.Known.{clauses_are, known, variables_known, liter
 use Rattle.table_calls.specs.Table.{After, sizes_of, sizes_in, ask_room, refused, written_table, five_of, tabled}
 use Rattle.moments.specs.Moments.{over}
 use Rattle.table_calls.specs.Rows.{tabled_by}
-use Rattle.refusal.specs.declared.Written.TheVariants.{Done}
 use Rattle.lists.proofs.Stored.{stored_over}
 
 -- ---- question 18, answered with yes
 
-module _ (L s v m : ℕ) (e : ask_room L s v m ≡ Yes) where
+module _ (L s v m : ℕ) (e : ask_room L s v m ≡ ok) where
   room_yes : (leb 5 s ≡ true) × (leb L v ≡ true) × (leb L m ≡ true)
   unfolding ask_room
   room_yes = let a = both (leb 5 s && leb L v) (leb L m) (test_yes 18 0 _ e) in let b = both (leb 5 s) (leb L v) a.0 in (b.0, b.1, a.1)
@@ -74,37 +71,37 @@ module _ (C k : ℕ) (f : Tree Formula) where
       abbrev question : ℕ → Reply
       question L = ask_room L (length five) (length variables) (length marks)
 
-      pub refused_known : (r : Refusal) → question s.literals ≡ No r → refused five variables marks r ≡ tabled_by C k f five variables marks
+      pub refused_known : {r : Refusal} → Err r ≡ question s.literals → refused five variables marks r ≡ tabled_by C k f five variables marks
       unfolding tabled_by
-      refused_known r q =
-          ap (λ (a : Reply). asked (a ∷ []) (refused five variables marks) (written_table (sizes_of C k f) places five variables marks)) (sym (ap question (sym (literals_known C k f e w)) ∙ q))
+      refused_known q =
+          ap (λ (a : Reply). asked (a ∷ []) (refused five variables marks) (written_table (sizes_of C k f) places five variables marks)) (q ∙ ap question (literals_known C k f e w))
 
-      pub written_known : question s.literals ≡ Yes → {five' variables' marks' : List ℕ} {at : ℕ} → five' ≡ over (five_of s) five
+      pub written_known : ok ≡ question s.literals → {five' variables' marks' : List ℕ} {at : ℕ} → five' ≡ over (five_of s) five
           → Wrote variables marks 0 (table_places C k T F) variables' marks' at
-          → record { answer = Done; sizes = five'; variables = variables'; marks = marks' } ≡ tabled_by C k f five variables marks
+          → record { answer = ok; sizes = five'; variables = variables'; marks = marks' } ≡ tabled_by C k f five variables marks
       unfolding tabled_by
       written_known q {five'} {variables'} {marks'} z t =
-          let g = room_enough s.literals (length five) (length variables) (length marks) q in
+          let g = room_enough s.literals (length five) (length variables) (length marks) (sym q) in
           let a : five' ≡ over (sizes_of C k f) five = z ∙ ap (λ (l : List ℕ). over l five) five_known in
           let b = arrays_written g.1 g.2 t in
-          let d : question (length places) ≡ Yes = ap question (sym (literals_known C k f e w)) ∙ q in
-          (λ i. record { answer = Done; sizes = a i; variables = b.0 i; marks = b.1 i })
-          ∙ ap (λ (a : Reply). asked (a ∷ []) (refused five variables marks) (written_table (sizes_of C k f) places five variables marks)) (sym d)
+          let d : ok ≡ question (length places) = q ∙ ap question (literals_known C k f e w) in
+          (λ i. record { answer = ok; sizes = a i; variables = b.0 i; marks = b.1 i })
+          ∙ ap (λ (a : Reply). asked (a ∷ []) (refused five variables marks) (written_table (sizes_of C k f) places five variables marks)) d
 
 -- ---- the whole call
 
-module _ (C k : ℕ) (t : List ℕ) (T : Tabled) (e : T ≡ nodeTabled C k t) (five variables marks : List ℕ) where
+module _ (C k : ℕ) (t five variables marks : List ℕ) where
   abbrev later : Read Formula → List Reply
   later f = ask_room (length (on_tree (λ f. flat (clause_table C k f)) f)) (length five) (length variables) (length marks) ∷ []
 
   abbrev answer : Read Formula → After
   answer f = written_table (on_tree (sizes_of C k) f) (on_tree (λ f. flat (clause_table C k f)) f) five variables marks
 
-  pub refused_first : (r : Refusal) → T.reply ≡ No r → refused five variables marks r ≡ tabled C k t five variables marks
+  pub refused_first : {r : Refusal} → Err r ≡ nodeTabled C k t → refused five variables marks r ≡ tabled C k t five variables marks
   unfolding tabled sizes_in places_in
-  refused_first r n = first.refused_first C k t T e (refused five variables marks) (answer (read t)) (later (read t)) n
+  refused_first e = first.refused_first C k t e (refused five variables marks) (answer (read t)) (later (read t))
 
-  pub called : T.reply ≡ Yes → {a : After} → ((f : Tree Formula) → T.table ≡ node_table_of f → a ≡ tabled_by C k f five variables marks)
+  pub called : {T : NodeTable} → Ok T ≡ nodeTabled C k t → {a : After} → ((f : Tree Formula) → T ≡ node_table_of f → a ≡ tabled_by C k f five variables marks)
       → a ≡ tabled C k t five variables marks
   unfolding tabled tabled_by sizes_in places_in
-  called y g = first.called C k t T e y (refused five variables marks) answer later (λ f n. g f n.is)
+  called e g = first.called C k t e (refused five variables marks) answer later (λ f n. g f n.is)

@@ -6,7 +6,7 @@ use Prim.Native.Nat.{ℕ, ◌+◌, ◌*◌, ◌^◌, ◌≤◌, ◌<◌}
 use native.Mathlib.Omega.{arith}
 use lib.Dec.{ltb}
 use lib.ListN.{length}
-use Rattle.refusal.specs.declared.Reply.TheVariants.{Yes}
+use Rattle.refusal.specs.Asked.{ok}
 use Rattle.interval.specs.Places.{count_of}
 use Rattle.interval.specs.Limits.{max_steps, max_count}
 use Rattle.interval.proofs.Counts.{count_le}
@@ -83,7 +83,7 @@ module _ (w : Weight) (k : ℕ) (h : Small w k) where
       )
 
 -- of an accepted text the sizes are "five 32-bit unsigned numbers"
-pub sizes_fit : (C k : ℕ) (t : List ℕ) → accept_of C k t ≡ Yes → All (λ n. n < 2 ^ 32) (sizes_in C k t)
+pub sizes_fit : (C k : ℕ) (t : List ℕ) → accept_of C k t ≡ ok → All (λ n. n < 2 ^ 32) (sizes_in C k t)
 unfolding sizes_in sizes_of
 sizes_fit C k t e =
     let a = accepted C k t e in

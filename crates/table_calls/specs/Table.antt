@@ -1,9 +1,8 @@
 -- Document 01, "Clause file" and "Questions in order", 18: what the table's call answers, and every lent array after it.
-use Rattle.std.specs.Prelude.{◌&&◌, List, [], ◌∷◌, ◌++◌, ℕ, leb, length}
+use Rattle.std.specs.Prelude.{◌&&◌, List, [], ◌∷◌, ◌++◌, ℕ, leb, length, Err}
 use Rattle.moments.specs.Moments.{over}
-use Rattle.refusal.specs.Asked.{question, asked}
+use Rattle.refusal.specs.Asked.{question, asked, Reply, ok}
 use Rattle.refusal.specs.declared.Refusal.{Refusal}
-use Rattle.refusal.specs.declared.Reply.{Reply}
 use Rattle.paper_grammar.specs.Trees.{Tree}
 use Rattle.paper_grammar.specs.Reader.{read, on_tree}
 use Rattle.paper_grammar.specs.declared.Sort.TheVariants.{Formula}
@@ -13,8 +12,6 @@ use Rattle.paper_circuit.specs.Circuit.{variables_of}
 use Rattle.paper_clauses.specs.Clauses.{clause_table}
 use Rattle.paper_clauses.specs.Entries.{Entry, flat, places_in, variables_in, marks_in}
 use Rattle.table_layout.specs.declared.Sizes.{Sizes}
-use Rattle.refusal.specs.declared.Written.{Written}
-use Rattle.refusal.specs.declared.Written.TheVariants.{Done, Refused}
 
 -- "five 32-bit unsigned numbers [..]: C, k, variables V, clauses M, literals L"
 unfoldable pub sizes_of : ℕ → ℕ → Tree Formula → List ℕ
@@ -38,18 +35,18 @@ table_questions C k t sizes variables marks = formula_questions C k t ++ ask_roo
 
 -- the answer, and the arrays after it
 pub record After : Type 0 where
-  pub answer : Written
+  pub answer : Reply
   pub sizes : List ℕ
   pub variables : List ℕ
   pub marks : List ℕ
 
 -- where refused, nothing is written
 abbrev pub refused : List ℕ → List ℕ → List ℕ → Refusal → After
-refused sizes variables marks r = record { answer = Refused r; sizes = sizes; variables = variables; marks = marks }
+refused sizes variables marks r = record { answer = Err r; sizes = sizes; variables = variables; marks = marks }
 
 -- the sizes and the two arrays written
 abbrev pub written : List ℕ → List ℕ → List ℕ → List ℕ → List ℕ → List ℕ → After
-written five v m sizes variables marks = record { answer = Done; sizes = over five sizes; variables = over v variables; marks = over m marks }
+written five v m sizes variables marks = record { answer = ok; sizes = over five sizes; variables = over v variables; marks = over m marks }
 
 -- "A table in memory is the same two arrays."
 abbrev pub written_table : List ℕ → List Entry → List ℕ → List ℕ → List ℕ → After

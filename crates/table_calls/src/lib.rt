@@ -19,7 +19,7 @@ ghost use Rattle.table_calls.specs.Rows.{tabled_by};
 use interval::Interval;
 use node_rows::NodeTable;
 use paper_grammar::MAX_NODES;
-use refusal::{Reply, Written};
+use refusal::Refusal;
 use table_layout::Sizes;
 
 // The clauses of all nodes, in number order.
@@ -72,7 +72,7 @@ fn put_table(
 }
 
 // Question 18, by the arrays' lengths.
-pub fn ask_room(literals: u32, sizes: usize, variables: usize, marks: usize) -> Reply
+pub fn ask_room(literals: u32, sizes: usize, variables: usize, marks: usize) -> Result<(), Refusal>
     ensures { result ≡ ask_room literals sizes variables marks }
 {
     let l = literals as usize;
@@ -84,7 +84,7 @@ pub fn put_sizes(sizes: &mut [u32], s: Sizes)
     requires { 5 ≤ length sizes.old }
     ensures { sizes.new ≡ over (five_of s) sizes.old }
 {
-    table_literals::put_numbers(
+    table_literals::store(
         sizes,
         0,
         &[s.channels, s.steps, s.variables, s.clauses, s.literals],
@@ -99,21 +99,20 @@ fn write_table(
     sizes: &mut [u32],
     variables: &mut [u32],
     marks: &mut [u8],
-) -> Written
+) -> Result<(), Refusal>
     requires { (c ≤ max_channels) × (k ≤ max_steps) × (table.count ≤ max_nodes) }
     ensures { (f : Tree Formula) → table ≡ node_table_of f → left result sizes variables marks ≡ tabled_by c k f sizes.old variables.old marks.old }
 {
     let layout = table_layout::layout_of(table, c, k);
     let s = layout.sizes;
-    if let Reply::No(r) = ask_room(s.literals, sizes.len(), variables.len(), marks.len()) {
-        return Written::Refused(r);
-    }
+    ask_room(s.literals, sizes.len(), variables.len(), marks.len())?;
     put_sizes(sizes, s);
     put_table(variables, marks, table, &layout.firsts, c, k);
-    Written::Done
+    Ok(())
 }
 
 // The clause table of a formula of C channels over k steps: C, k, V, M and L to `sizes`, the literals to the two arrays.
+#[tactic(auto, using(crate::proofs::Call::refused_first))]
 pub fn table(
     text: &[u8],
     c: u32,
@@ -121,14 +120,9 @@ pub fn table(
     sizes: &mut [u32],
     variables: &mut [u32],
     marks: &mut [u8],
-) -> Written
+) -> Result<(), Refusal>
     ensures { left result sizes variables marks ≡ tabled c k text.now sizes.old variables.old marks.old }
 {
-    let tabled = node_calls::node_table(text, c, k);
-    let reply = tabled.reply;
-    if let Reply::No(r) = reply {
-        return Written::Refused(r);
-    }
-    let table = tabled.table;
+    let table = node_calls::node_table(text, c, k)?;
     write_table(table, c, k, sizes, variables, marks)
 }

@@ -5,9 +5,7 @@ use mathlib.Core.List.{List}
 use Prim.Native.Nat.{ℕ, ◌+◌, ◌*◌, ◌≤◌, ◌<◌}
 use native.Mathlib.Nat.{mul-le-mul}
 use native.Mathlib.Omega.{arith}
-use lib.ListN.{length, get_or, set}
-use lib.Seq.{get_or-set_same, get_or-set_other}
-use borrow.Author.Count.{below_more}
+use lib.ListN.{get_or}
 use borrow.Author.Tests.{eq-eqb, ne_eqb}
 use Rattle.interval.specs.Limits.{max_steps, max_count}
 use Rattle.interval.specs.Places.{count_of}
@@ -18,7 +16,7 @@ use Rattle.table_blocks.specs.declared.Rule.{Rule}
 use Rattle.table_blocks.proofs.Positions.{rule_number}
 use Rattle.table_sizes.specs.Weights.{points_by}
 use Rattle.table_nodes.specs.Nodes.{Fine}
-use Rattle.table_layout.specs.Rows.{seat_by, block_by, Low, Seated}
+use Rattle.table_layout.specs.Rows.{seat_by, block_by, Low}
 
 module _ (kinds numbers firsts : List ℕ) (k y : ℕ) {first kind : ℕ} (p : first ≡ get_or firsts y 0) (q : kind ≡ get_or kinds y 0) where
   pub seat_lasting : {n i : ℕ} → kind ≡ 23 → n ≡ get_or numbers y 0 → i ≡ count_of k → first + n * i ≡ seat_by kinds numbers firsts k y
@@ -28,16 +26,6 @@ module _ (kinds numbers firsts : List ℕ) (k y : ℕ) {first kind : ℕ} (p : f
   pub seat_other : (kind ≡ 23 → ⊥) → first ≡ seat_by kinds numbers firsts k y
   unfolding seat_by
   seat_other n = rw (← q, ne_eqb kind 23 n) (omega (arith, p))
-
--- the column of seats, row after row
-module _ (kinds numbers firsts : List ℕ) (k : ℕ) where
-  abbrev SeatIs : ℕ → ℕ → Type 0
-  SeatIs y s = (s ≡ seat_by kinds numbers firsts k y) × (s < bound)
-
-  pub one_seated : (seats : List ℕ) (n : ℕ) {s : ℕ} → Seated kinds numbers firsts k seats n → n < length seats → SeatIs n s → Seated kinds numbers firsts k (set seats n s) (n + 1)
-  one_seated seats n {s} f l e =
-      below_more (λ y. SeatIs y (get_or (set seats n s) y 0)) n (λ y m. subst (SeatIs y) (sym (get_or-set_other seats n y s 0 (λ e. omega arith))) (f y m))
-      (subst (SeatIs n) (sym (get_or-set_same seats n s 0 l)) e)
 
 pub level_low : (n i : ℕ) → n ≤ 255 → i ≤ max_count → n * i ≤ 255 * max_count
 level_low n i h l = mul-le-mul {n₂ = 255} {m₂ = max_count} h l

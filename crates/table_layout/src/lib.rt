@@ -34,7 +34,7 @@ pub struct Layout {
 pub fn number_at(numbers: &[u32], at: usize) -> u32
     ensures { result ≡ get_or numbers.now at 0 }
 {
-    if at < numbers.len() { numbers[at] } else { 0 }
+    numbers.get(at).copied().unwrap_or(0)
 }
 
 // The first variable of the truth of the node at row y: of a duration, the last level's.
@@ -50,7 +50,7 @@ pub fn seat<'a>(
 {
     let first = number_at(firsts, y);
     if node_rows::byte_at(kinds, y) == node_rows::FORMULA_DURATION {
-        let n = node_rows::byte_at(numbers, y) as u32;
+        let n = u32::from(node_rows::byte_at(numbers, y));
         return first + n * Interval::count(k as usize) as u32;
     }
     first
@@ -67,8 +67,8 @@ pub fn put_seats<'a>(
     requires { (k ≤ max_steps) × Low firsts.now × (length seats.old ≡ max_nodes) }
     ensures { Seated kinds.now numbers.now firsts.now k seats.new max_nodes }
 {
-    for y in 0..MAX_NODES {
-        seats[y] = seat(kinds, numbers, firsts, k, y);
+    for (y, place) in seats.iter_mut().enumerate() {
+        *place = seat(kinds, numbers, firsts, k, y);
     }
 }
 

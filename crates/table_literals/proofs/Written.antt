@@ -1,95 +1,48 @@
 -- To write F and then G from where F ends is to write F ++ G, since storing a list from a place on goes place by place. So a loop
 -- that writes f 0, f 1, .. has written the first i of them after i turns.
 use mathlib.Core.Path.{◌≡◌, refl, sym, ap, ◌∙◌, subst}
-use mathlib.Core.List.{List, [], ◌∷◌, ◌++◌, map, map-append, append-nil, flat_map}
-use Prim.Native.Nat.{ℕ, ◌+◌, ◌*◌, ◌≤◌, ◌<◌}
-use native.Mathlib.Nat.{zero-mul, suc-mul}
+use mathlib.Core.List.{List, [], ◌∷◌, ◌++◌, map, map-append}
+use Prim.Native.Nat.{ℕ, zero, suc, ◌+◌, ◌≤◌, ◌<◌}
 use native.Mathlib.Numerals.{add-one}
 use native.Mathlib.Omega.{arith}
-use lib.ListN.{length, get_or, take, set, length-append, length-map}
-use lib.Seq.{sets, length-sets, take-suc, take_all, length-take-le}
-use Rattle.lists.specs.Listing.{rows}
-use Rattle.lists.proofs.Listing.{rows_le, rows_next}
-use Rattle.lists.proofs.Lists.{flat_append}
+use lib.ListN.{length, take, set, replicate, length-append, length-map, length-replicate}
+use lib.Seq.{sets, length-sets, take-suc-set, take_all}
+use borrow.Rule.Slice.PartMut.{put_mid}
+use Rattle.std.proofs.lemmas.List.{replicate_more}
+use Rattle.lists.specs.Listing.{rows, tab}
+use Rattle.lists.proofs.Listing.{rows_le, rows_next, map_rows, length_tab}
 use Rattle.paper_clauses.specs.Entries.{Entry, entry, variables_in, marks_in}
-use Rattle.lists.proofs.Stored.{sets_append}
-use Rattle.table_literals.specs.Written.{Room, Wrote, Sofar}
+use Rattle.lists.proofs.Stored.{sets_append, part_stored}
+use Rattle.table_literals.specs.Written.{Room, Wrote, Sofar, run_of}
 
--- ---- lists that all have w entries, joined
+-- ---- a run: variables one after another, all with one mark
 
-pub flat_length : (g : ℕ → List ℕ) (w : ℕ) → ((x : ℕ) → length (g x) ≡ w) → (l : List ℕ) → length (flat_map g l) ≡ length l * w
-unfolding flat_map
-flat_length g w even [] = sym (zero-mul w)
-flat_length g w even (x ∷ l) = length-append (g x) (flat_map g l) ∙ omega (arith, even x, flat_length g w even l, suc-mul (length l) w)
+pub run_length : (w y n : ℕ) → length (rows n (run_of w y)) ≡ n
+run_length w y n = length_tab n (λ e. entry (w + e) y)
 
--- ---- a copy, each entry as so many of its own: those of the first e are stored, then those of one more
+-- one variable more
+pub run_turn : (w : ℕ) (s : List ℕ) (e : ℕ) → take e s ≡ tab e (λ e. w + e) → e < length s → take (e + 1) (set s e (w + e)) ≡ tab (e + 1) (λ e. w + e)
+run_turn w s e p h = rw add-one (take-suc-set s e (w + e) h) ∙ ap (λ (l : List ℕ). l ++ (w + e) ∷ []) p ∙ rows_next (λ e. (w + e) ∷ []) e
 
-pub record Copied (g : ℕ → List ℕ) (s : List ℕ) (i : ℕ) (l : List ℕ) (n : ℕ) (s' : List ℕ) (e : ℕ) : Type 0 where
-  pub whole : n ≡ length l
-  pub upto : e ≤ length l
-  pub long : length s' ≡ length s
-  pub stored : s' ≡ sets s i (flat_map g (take e l))
+run_marks : (y n : ℕ) → replicate n y ≡ rows n (λ e. y ∷ [])
+unfolding rows
+run_marks y zero = refl
+run_marks y (suc n) = ap (λ (k : ℕ). replicate k y) (sym (add-one n)) ∙ sym (replicate_more n y) ∙ ap (λ (l : List ℕ). l ++ y ∷ []) (run_marks y n)
 
--- an entry as it is
-abbrev pub same : ℕ → List ℕ
-same x = x ∷ []
-
-module _ {g : ℕ → List ℕ} {s : List ℕ} {i : ℕ} {l : List ℕ} where
-  pub copy_begun : {n : ℕ} → n ≡ length l → Copied g s i l n s 0
-  unfolding flat_map
-  copy_begun h = record { whole = h; upto = omega arith; long = refl; stored = refl }
-
-  module _ {n : ℕ} {s' : List ℕ} {e : ℕ} (c : Copied g s i l n s' e) where
-    pub copy_turn : (w : ℕ) → ((x : ℕ) → length (g x) ≡ w) → e < length l → {b : ℕ} → b ≡ i + e * w → {s'' : List ℕ} →
-        s'' ≡ sets s' b (g (get_or l e 0)) → Copied g s i l n s'' (e + 1)
-    unfolding flat_map
-    copy_turn w even h {b} p {s''} d =
-        let m : length (flat_map g (take e l)) ≡ e * w = flat_length g w even (take e l) ∙ ap (λ (n : ℕ). n * w) (length-take-le e l (omega arith)) in
-        record {
-          whole = c.whole;
-          upto = omega arith;
-          long = ap length d ∙ length-sets s' b (g (get_or l e 0)) ∙ c.long;
-          stored =
-              d ∙ rw (
-                p,
-                add-one e,
-                take-suc l e 0 h,
-                flat_append g (take e l) (get_or l e 0 ∷ []),
-                append-nil (g (get_or l e 0)),
-                sets_append s i (flat_map g (take e l)) (g (get_or l e 0)),
-                m,
-                c.stored,
-              ) refl;
-        }
-
-    pub copy_done : n ≤ e → s' ≡ sets s i (flat_map g l)
-    copy_done h = c.stored ∙ ap (λ (k : List ℕ). sets s i (flat_map g k)) (take_all e l (omega (arith, c.whole)))
-
--- a copy of the entries as they are
-module _ {s : List ℕ} {i : ℕ} {l : List ℕ} {n : ℕ} {s' : List ℕ} {e : ℕ} (c : Copied same s i l n s' e) where
-  pub same_turn : e < length l → {b x : ℕ} → b ≡ i + e → x ≡ get_or l e 0 → Copied same s i l n (set s' b x) (e + 1)
-  same_turn h {b} p q = copy_turn c 1 (λ x. refl) h (omega (arith, p)) (ap (set s' b) q)
-
-  pub same_done : n ≤ e → s' ≡ sets s i l
-  unfolding flat_map
-  same_done h = copy_done c h ∙ ap (sets s i) (joined l)
-    where
-      joined : (l : List ℕ) → flat_map same l ≡ l
-      joined [] = refl
-      joined (x ∷ l) = ap (λ (k : List ℕ). x ∷ k) (joined l)
-
--- numbers and marks that are F's
-pub both_stored : {v m v' m' : List ℕ} {at : ℕ} {n l : List ℕ} → v' ≡ sets v at n → m' ≡ sets m at l → (F : List Entry) → variables_in F ≡ n → marks_in F ≡ l
-    → Wrote v m at F v' m' (at + length n)
-both_stored {v} {m} {at = at} p q F e f = record {
-  variables = p ∙ ap (sets v at) (sym e);
-  marks = q ∙ ap (sets m at) (sym f);
-  next = ap (λ (k : ℕ). at + k) (sym (ap length e) ∙ length-map F (λ (e : Entry). e.variable));
-}
-
--- one place of both
-pub one_stored : (v m : List ℕ) (at x y : ℕ) → Wrote v m at (entry x y ∷ []) (set v at x) (set m at y) (at + 1)
-one_stored v m at x y = record { variables = refl; marks = refl; next = refl }
+-- all of them, in the parts of both arrays that are as long
+module _ {v m : List ℕ} {at : ℕ} (w y : ℕ) {n : ℕ} (r : Room v m at (rows n (run_of w y))) where
+  pub run_stored : (s : List ℕ) {t : List ℕ} {k i : ℕ} → k ≡ n → i ≡ n → length s ≤ i → take i s ≡ tab i (λ e. w + e) → t ≡ replicate n y → Wrote v m at (rows n (run_of w y)) (put_mid at k v s) (put_mid at k m t) (at + n)
+  run_stored s {t} {k} {i} e f h j q =
+      let p : s ≡ tab n (λ e. w + e) = sym (take_all i s h) ∙ j ∙ ap (λ (n : ℕ). tab n (λ e. w + e)) f in
+      let l = run_length w y n in record {
+        variables =
+            part_stored at k v s (ap length p ∙ length_tab n (λ e. w + e) ∙ sym e) (omega (arith, r.variables))
+            ∙ ap (sets v at) (p ∙ sym (map_rows (λ (e : Entry). e.variable) (run_of w y) n));
+        marks =
+            part_stored at k m t (ap length q ∙ length-replicate n y ∙ sym e) (omega (arith, r.marks))
+            ∙ ap (sets m at) (q ∙ run_marks y n ∙ sym (map_rows (λ (e : Entry). e.mark) (run_of w y) n));
+        next = omega arith;
+      }
 
 -- ---- one list after another
 

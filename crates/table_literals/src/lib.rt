@@ -13,24 +13,12 @@ ghost use Rattle.table_literals.specs.Writes.{Writes};
 
 use paper_clauses::{LAST_NEGATED, LAST_PLAIN, NEGATED, PLAIN};
 
-// Stores numbers from a place on.
-pub fn put_numbers(variables: &mut [u32], at: usize, more: &[u32])
-    requires { at + length more.now ≤ length variables.old }
-    ensures { variables.new ≡ sets variables.old at more.now }
+// Stores items from a place on.
+pub fn store<T: Copy>(out: &mut [T], at: usize, more: &[T])
+    requires { at + length more.now ≤ length out.old }
+    ensures { out.new ≡ sets out.old at more.now }
 {
-    for e in 0..more.len() {
-        variables[at + e] = more[e];
-    }
-}
-
-// Stores bytes from a place on.
-pub fn put_bytes(bytes: &mut [u8], at: usize, more: &[u8])
-    requires { at + length more.now ≤ length bytes.old }
-    ensures { bytes.new ≡ sets bytes.old at more.now }
-{
-    for e in 0..more.len() {
-        bytes[at + e] = more[e];
-    }
+    out[at..at + more.len()].copy_from_slice(more);
 }
 
 // Numbers and their marks, from a place on; the place after them. The numbers go before the marks, so that each are stored together.
@@ -38,8 +26,8 @@ pub fn put(variables: &mut [u32], marks: &mut [u8], at: usize, n: &[u32], m: &[u
     requires { (at + length n.now ≤ length variables.old) × (at + length m.now ≤ length marks.old) }
     ensures { (F : List Entry) → variables_in F ≡ n.now → marks_in F ≡ m.now → Writes variables marks at F result }
 {
-    put_numbers(variables, at, n);
-    put_bytes(marks, at, m);
+    store(variables, at, n);
+    store(marks, at, m);
     at + n.len()
 }
 
@@ -56,13 +44,12 @@ pub fn put_run(
     requires n_bound { w + n ≤ limit }
     ensures { Writes variables marks at (rows n (run_of w mark)) result }
 {
-    let mut b = at;
-    for e in 0..n {
-        variables[b] = w + e;
-        marks[b] = mark;
-        b += 1;
+    let end = at + n as usize;
+    for (e, v) in variables[at..end].iter_mut().enumerate() {
+        *v = w + e as u32;
     }
-    b
+    marks[at..end].fill(mark);
+    end
 }
 
 // (v -w) for n variables w.

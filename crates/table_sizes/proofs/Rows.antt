@@ -3,17 +3,18 @@
 use mathlib.Core.Path.{◌≡◌, refl, sym, ap, ap₂, ◌∙◌, subst}
 use mathlib.Core.Bool.{Bool, cond, true, false}
 use mathlib.Core.List.{List, [], ◌∷◌, ◌++◌, append-nil}
-use Prim.Native.Nat.{ℕ, suc, ◌+◌, ◌*◌, ◌≤◌, ◌<◌}
+use Prim.Native.Nat.{ℕ, suc, ◌+◌, ◌-◌, ◌*◌, ◌≤◌, ◌<◌}
 use native.Mathlib.Nat.{mul-one, suc-mul, zero-add}
 use native.Mathlib.Numerals.{add-one}
 use native.Mathlib.Decide.{dec_lt}
 use native.Mathlib.Omega.{arith}
-use lib.ListN.{length, get_or, drop}
+use lib.ListN.{length, get_or, drop, length-append, length-drop}
+use lib.Seq.{get_or-drop}
+use Rattle.std.proofs.lemmas.List.{get_or_append_left, get_or-append_right}
 use borrow.Author.Tests.{lt-ltb, le-ltb}
 use Rattle.lists.specs.Listing.{sum}
 use Rattle.interval.specs.Places.{count_of}
 use Rattle.interval.specs.Limits.{max_steps, max_count}
-use Rattle.lists.proofs.Fill.{Upto}
 use Rattle.lists.proofs.Listing.{sum_le}
 use Rattle.paper_grammar.specs.Limits.{max_nodes}
 use Rattle.paper_grammar.specs.Trees.{and, or, chop, Tree, constant, letter, negation, pair, duration, throughout}
@@ -180,18 +181,24 @@ module _ (w : Weight) (k : ℕ) (kinds numbers : List ℕ) (start : ℕ) where
       t + v ≡ start + weight_to w k kinds numbers (x + 1)
   total_next x e f = omega (arith, weight_next w k kinds numbers x)
 
-  -- all rows are passed
-  pub summed : (count : ℕ) (old new : List ℕ) (x r : ℕ) → x ≡ count → r ≡ start + weight_to w k kinds numbers x → r ≤ max_sum
-      → Upto max_nodes (λ y. start + weight_to w k kinds numbers y) (λ y. get_or old y 0) x new → Summed w k kinds numbers start count old new r
+  -- all rows are passed, and what is beyond them stands
+  pub summed : (count : ℕ) (old new : List ℕ) (x : ℕ) (r : ℕ) → x ≡ count → (length new ≡ count) × (count ≤ length old) × (length old ≡ max_nodes) →
+      r ≡ start + weight_to w k kinds numbers x → r ≤ max_sum → ((y : ℕ) → y < x → get_or new y 0 ≡ start + weight_to w k kinds numbers y)
+      → Summed w k kinds numbers start count old (new ++ drop count old) r
   unfolding weight_to
-  summed count old new x r e t m u = record {
+  summed count old new x r e (n, h, l) t m b = record {
     total = t ∙ ap (λ (x : ℕ). start + weight_to w k kinds numbers x) e;
     most = m;
-    below = λ y h. u.below y (omega arith);
-    within = λ y h. omega (arith, u.below y (omega arith), sum_le (λ y. row_weight w k (get_or kinds y 0) (get_or numbers y 0)) x y (omega arith));
-    beyond = λ y h. u.beyond y (omega arith);
-    whole = u.whole;
+    below = λ y g. at y g ∙ b y (omega arith);
+    within = λ y g. omega (arith, at y g, b y (omega arith), sum_le (λ y. row_weight w k (get_or kinds y 0) (get_or numbers y 0)) x y (omega arith));
+    beyond = λ y g.
+        let z : count + (y - count) ≡ y = omega arith in
+        get_or-append_right new (drop count old) count y 0 n g ∙ get_or-drop count old (y - count) 0 ∙ ap (λ (y : ℕ). get_or old y 0) z;
+    whole = omega (arith, length-append new (drop count old), length-drop count old);
   }
+    where
+      at : (y : ℕ) → y < count → get_or (new ++ drop count old) y 0 ≡ get_or new y 0
+      at y g = get_or_append_left new (drop count old) 0 y (omega arith)
 
 -- no entry is more than the limit if none beyond the rows was
 pub all_low : {w : Weight} {k : ℕ} {kinds numbers : List ℕ} {start count : ℕ} {old new : List ℕ} {r : ℕ} → Summed w k kinds numbers start count old new r

@@ -120,8 +120,8 @@ pub fn sums<'a>(
     ensures { Summed w k kinds.now numbers.now start count out.old out.new result }
 {
     let mut total = start;
-    for x in 0..count {
-        out[x] = total;
+    for (x, place) in out[..count].iter_mut().enumerate() {
+        *place = total;
         total += row_weight(kinds[x], numbers[x], k, w);
     }
     total

@@ -9,17 +9,9 @@ ghost use Rattle.truth_calls.specs.Evaluation.{evaluated};
 ghost use Rattle.truth_calls.specs.Rows.{judged};
 ghost use Rattle.truth_rows.specs.Rows.{AtRow};
 
-use interval::{Interval, Made};
+use interval::Interval;
 use node_rows::NodeTable;
-use refusal::{Refusal, Reply};
-
-// What evaluation answers.
-#[derive(Drop)]
-pub enum Verdict {
-    No,
-    Yes,
-    Refused(Refusal),
-}
+use refusal::Refusal;
 
 // The formula's truth on an interval, from its node table.
 fn holds_on(table: NodeTable, recording: &[u8], v: Interval) -> bool
@@ -41,35 +33,35 @@ fn holds_on(table: NodeTable, recording: &[u8], v: Interval) -> bool
 }
 
 // What an accepted formula and an interval answer: questions 10 and 11, then the truth. Only a recording of k bytes is asked the last.
-fn verdict_on(table: NodeTable, c: u32, k: u32, recording: &[u8], v: Interval) -> Verdict
+#[tactic(auto, using(paper_meaning::proofs::Recording::recording_length))]
+fn verdict_on(
+    table: NodeTable,
+    c: u32,
+    k: u32,
+    recording: &[u8],
+    v: Interval,
+) -> Result<bool, Refusal>
     requires { (c ≤ max_channels) × (k ≤ max_steps) × IntervalOf k v }
     ensures { AtRow recording.now table.kinds table.numbers table.sizes Formula 0 (λ f. result ≡ judged c k recording.now (f v)) }
 {
-    if let Reply::No(r) = recording_questions::ask_recording(k, recording) {
-        return Verdict::Refused(r);
-    }
-    if let Reply::No(r) = recording_questions::ask_bytes(c, recording) {
-        return Verdict::Refused(r);
-    }
-    if holds_on(table, recording, v) {
-        Verdict::Yes
-    } else {
-        Verdict::No
-    }
+    recording_questions::ask_recording(k, recording)?;
+    recording_questions::ask_bytes(c, recording)?;
+    Ok(holds_on(table, recording, v))
 }
 
 // Whether the recording satisfies the formula on [i, j].
-pub fn evaluate(text: &[u8], c: u32, k: u32, i: u32, j: u32, recording: &[u8]) -> Verdict
+#[tactic(auto, using(crate::proofs::Laws::refused_first, crate::proofs::Laws::not_made, crate::proofs::Laws::within))]
+pub fn evaluate(
+    text: &[u8],
+    c: u32,
+    k: u32,
+    i: u32,
+    j: u32,
+    recording: &[u8],
+) -> Result<bool, Refusal>
     ensures { result ≡ evaluated c k i j text.now recording.now }
 {
-    let tabled = node_calls::node_table(text, c, k);
-    let reply = tabled.reply;
-    if let Reply::No(r) = reply {
-        return Verdict::Refused(r);
-    }
-    let table = tabled.table;
-    match Interval::new(i as usize, j as usize, k as usize) {
-        Made::Good(v) => verdict_on(table, c, k, recording, v),
-        Made::Refused(r) => Verdict::Refused(r),
-    }
+    let table = node_calls::node_table(text, c, k)?;
+    let v = Interval::new(i as usize, j as usize, k as usize)?;
+    verdict_on(table, c, k, recording, v)
 }

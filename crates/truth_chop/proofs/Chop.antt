@@ -185,7 +185,3 @@ module _ (k i start : ℕ) (p q nexts : List ℕ) where
   pub done : (d : ℕ) (row : List ℕ) → Chopping k i start p q nexts d row → suc k - i ≤ d → (f g : Interval → Bool) → TableOf k f p →
       TableOf k g q → Within k g nexts → RowOf i (chops f g) row
   done d row w h f g P Q W = chop_done f g i d row (omega (arith, w.whole)) (w.chopped f g P Q W)
-
--- fewer m's are left
-pub fewer : (n i d x : ℕ) → d < n → i + d < x → n - (x - i) < n - d
-fewer n i d x h l = omega arith

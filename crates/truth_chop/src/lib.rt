@@ -19,8 +19,9 @@ fn or_onto(row: &mut [u8], from: &[u8])
     requires { length row.old ≡ length from.now }
     ensures { (d : ℕ) → d < length row.old → get_or row.new d 0 ≡ bit_or (get_or row.old d 0) (get_or from.now d 0) }
 {
-    for d in 0..from.len() {
-        row[d] |= from[d];
+    // Of what a `zip` over `iter_mut` writes, the library tells nothing.
+    for (d, byte) in row.iter_mut().enumerate() {
+        *byte |= from[d];
     }
 }
 
@@ -40,6 +41,7 @@ fn chop_row(
     ensures { (f g : Interval → Bool) → TableOf k f p.now → TableOf k g q.now → Within k g nexts.now → RowOf i (chops f g) row.new }
 {
     let mut d = 0;
+    // No `for`: a turn goes on to the next row that has more, which no iterator knows.
     while d < row.len() {
         let m = i + d;
         if p[start + d] == 0 {
@@ -66,6 +68,7 @@ pub fn chop_table(
     let nexts = truth_skips::next_rows(q, rows, k);
     let mut t = truth_table::all_of(0);
     let mut start = 0;
+    // Over starts, which are no list's indices: each row is shorter than the one before.
     for i in 0..k + 1 {
         let end = start + (k + 1 - i);
         chop_row(&mut t[start..end], p, q, &nexts, rows, k, i, start);

@@ -13,6 +13,7 @@ use lib.Dec.{eqb, ltb}
 use lib.ListN.{length, get_or, take, drop, set, length-set, replicate, length-replicate, get_or-replicate}
 use lib.Seq.{get_or-set_same, get_or-set_other}
 use borrow.Rule.Slice.PartMut.{mid_len}
+use borrow.Author.Count.{below_more}
 use borrow.Author.Tests.{eqb-true, ltb-true, ltb-false}
 use Rattle.interval.specs.Limits.{max_steps}
 use Rattle.interval.specs.Places.{count_of}
@@ -25,24 +26,16 @@ use Rattle.truth_skips.specs.Rows.{NextRows, Within}
 use Rattle.truth_table.proofs.Rows.{row_ends, row_entry, part_entry}
 
 -- nothing has been found beyond, up to d
-pub record NoneBeyond (row other : List ℕ) (d more : ℕ) : Type 0 where
-  pub none : more ≡ 0 → (y : ℕ) → y < d → bit_and (get_or row y 0) (bit_xor (get_or other y 0) 1) ≡ 0
+abbrev pub NoneBeyond : List ℕ → List ℕ → ℕ → ℕ → Type 0
+NoneBeyond row other d more = more ≡ 0 → (y : ℕ) → y < d → bit_and (get_or row y 0) (bit_xor (get_or other y 0) 1) ≡ 0
 
-pub none_begun : (row other : List ℕ) → NoneBeyond row other 0 0
-none_begun row other = record { none = λ e y h. omega arith }
-
-pub none_turn : (row other : List ℕ) (d more : ℕ) → NoneBeyond row other d more → NoneBeyond row other (d + 1) (bit_or more (bit_and (get_or row d 0) (bit_xor (get_or other d 0) 1)))
-none_turn row other d more w = record { none = λ e y h. go y h (ltb y d) refl (parts e) }
-  where
-    x : ℕ
-    x = bit_and (get_or row d 0) (bit_xor (get_or other d 0) 1)
-
-    parts : bit_or more x ≡ 0 → (more ≡ 0) × (x ≡ 0)
-    parts e = (omega (arith, or_add_and more x, and_le_l more x, and_le_r more x), omega (arith, or_add_and more x, and_le_l more x, and_le_r more x))
-
-    go : (y : ℕ) → y < d + 1 → (c : Bool) → ltb y d ≡ c → (more ≡ 0) × (x ≡ 0) → bit_and (get_or row y 0) (bit_xor (get_or other y 0) 1) ≡ 0
-    go y h true t o = w.none o.0 y (ltb-true y d t)
-    go y h false t o = let e : y ≡ d = omega (arith, ltb-false y d t) in ap (λ (z : ℕ). bit_and (get_or row z 0) (bit_xor (get_or other z 0) 1)) e ∙ o.1
+pub none_turn : (row other : List ℕ) (d n more a b : ℕ) → n ≡ d + 1 → a ≡ get_or row d 0 → b ≡ get_or other d 0 → NoneBeyond row other d more
+    → NoneBeyond row other n (bit_or more (bit_and a (bit_xor b 1)))
+none_turn row other d n more a b l p q w e =
+    let x : ℕ = bit_and a (bit_xor b 1) in
+    let m : more ≡ 0 = omega (arith, or_add_and more x, and_le_l more x, and_le_r more x) in
+    let z : x ≡ 0 = omega (arith, or_add_and more x, and_le_l more x, and_le_r more x) in
+    rw l (below_more (λ (y : ℕ). bit_and (get_or row y 0) (bit_xor (get_or other y 0) 1) ≡ 0) d (w m) (ap₂ (λ (a b : ℕ). bit_and a (bit_xor b 1)) (sym p) (sym q) ∙ z))
 
 implied : (x y : Bool) → bit_and (bit x) (bit_xor (bit y) 1) ≡ 0 → x ≡ true → y ≡ true
 implied true true e t = refl
@@ -142,19 +135,21 @@ module _ (k p at before more : ℕ) (q nexts : List ℕ) (w : Skipping k q (suc 
           subst (λ (l : ℕ). g (record { i = l; j = j }) ≡ true) o (from_next (eqb more 0) refl g Q n j (omega arith) z d f t)
 
 -- the same as the code has it: row m, and what it has beyond the row before
-pub skip_code : (k l m at before end more : ℕ) (q nexts : List ℕ) → suc l ≡ m → k ≤ max_steps → count_of k ≤ length q → before ≡ at - (k - l) → end ≡ at + (k - l)
+pub skip_code : (k m at before end more : ℕ) (q nexts : List ℕ) (v : ℕ) → 0 < m → k ≤ max_steps → count_of k ≤ length q → before ≡ at - (k - (m - 1)) → end ≡ at + (k - (m - 1))
     → (more ≡ 0 → (d : ℕ) → d < length (take (end - at) (drop at q)) → bit_and (get_or (take (end - at) (drop at q)) d 0) (bit_xor (get_or (take (at - before) (drop before q)) d 0) 1) ≡ 0)
-    → Skipping k q m at nexts → Skipping k q l (before - 1) (set nexts l (cond (eqb more 0) (get_or nexts m 0) m))
-skip_code k l m at before end more q nexts e h c b r none = subst (λ (m : ℕ). Skipping k q m at nexts → Skipping k q l (before - 1) (set nexts l (cond (eqb more 0) (get_or nexts m 0) m))) e go
-  where
-    go : Skipping k q (suc l) at nexts → Skipping k q l (before - 1) (set nexts l (cond (eqb more 0) (get_or nexts (suc l) 0) (suc l)))
-    go w = skip_turn k l at before more q nexts w h b (λ z d g.
-        let room = row_before k (suc l) at q nexts w (omega arith) in
-        let whole : length (take (end - at) (drop at q)) ≡ end - at = mid_len at end q (omega (arith, w.row, w.turns)) in
-        sym (ap₂ (λ (x y : ℕ). bit_and x (bit_xor y 1)) (part_entry at (end - at) q d (omega arith)) (part_entry before (at - before) q d (omega arith))) ∙ none z d (omega arith))
+    → Skipping k q m at nexts → v ≡ cond (eqb more 0) (get_or nexts (m - 1 + 1) 0) (m - 1 + 1) → Skipping k q (m - 1) (before - 1) (set nexts (m - 1) v)
+skip_code k m at before end more q nexts v g h c b r none w e =
+    let p : ℕ = m - 1 in
+    let n : m ≡ suc p = omega arith in
+    let o : Skipping k q (suc p) at nexts = subst (λ (m : ℕ). Skipping k q m at nexts) n w in
+    let u : v ≡ cond (eqb more 0) (get_or nexts (suc p) 0) (suc p) = e ∙ ap (λ (m : ℕ). cond (eqb more 0) (get_or nexts m 0) m) (add-one p) in
+    subst (λ (v : ℕ). Skipping k q p (before - 1) (set nexts p v)) (sym u) (skip_turn k p at before more q nexts o h b (λ z d l.
+    let room = row_before k (suc p) at q nexts o (omega arith) in
+    let whole : length (take (end - at) (drop at q)) ≡ end - at = mid_len at end q (omega (arith, o.row, o.turns)) in
+    sym (ap₂ (λ (x y : ℕ). bit_and x (bit_xor y 1)) (part_entry at (end - at) q d (omega arith)) (part_entry before (at - before) q d (omega arith))) ∙ none z d (omega arith)))
 
-pub skip_done : (k at : ℕ) (q nexts : List ℕ) → Skipping k q 0 at nexts → NextRows k nexts × ((g : Interval → Bool) → TableOf k g q → Within k g nexts)
-skip_done k at q nexts w = (
-  record { later = λ m h. (w.later m (omega arith) h).0; most = λ m h. (w.later m (omega arith) h).1 },
-  λ g Q. record { within = λ m l j a b c d t. w.within g Q m l j (omega arith) a b c d t },
+pub skip_done : (k m at : ℕ) (q nexts : List ℕ) → m ≡ 0 → Skipping k q m at nexts → NextRows k nexts × ((g : Interval → Bool) → TableOf k g q → Within k g nexts)
+skip_done k m at q nexts z w = (
+  record { later = λ l h. (w.later l (omega arith) h).0; most = λ l h. (w.later l (omega arith) h).1 },
+  λ g Q. record { within = λ i l j a b c d t. w.within g Q i l j (omega arith) a b c d t },
 )

@@ -18,8 +18,8 @@ fn beyond(row: &[u8], other: &[u8]) -> u8
     ensures { result ≡ 0 → (d : ℕ) → d < length row.now → bit_and (get_or row.now d 0) (bit_xor (get_or other.now d 0) 1) ≡ 0 }
 {
     let mut more: u8 = 0;
-    for d in 0..row.len() {
-        more |= row[d] & (other[d] ^ 1);
+    for (a, b) in row.iter().zip(other) {
+        more |= *a & (*b ^ 1);
     }
     more
 }
@@ -37,16 +37,13 @@ pub fn next_rows(q: &[u8], rows: &[u32], k: usize) -> [usize; Interval::MAX_ENDS
     ensures { NextRows k result × ((g : Interval → Bool) → TableOf k g q.now → Within k g result) }
 {
     let mut nexts = [k + 1; Interval::MAX_ENDS];
-    let mut m = k;
     let mut at = Interval::place(rows, k as u32, k as u32, 0) as usize;
-    while m > 0 {
-        let l = m - 1;
+    for l in (0..k).rev() {
         let before = at - (k - l);
         let end = at + (k - l);
         let more = beyond(&q[at..end], &q[before..at]);
-        nexts[l] = next_row(more, m, nexts[m]);
+        nexts[l] = next_row(more, l + 1, nexts[l + 1]);
         at = before - 1;
-        m = l;
     }
     nexts
 }

@@ -8,7 +8,7 @@ use native.Mathlib.Omega.{arith}
 use native.Mathlib.Nat.{eq-or-lt_of_le}
 use mathlib.Core.Logic.{⊎_elim}
 use lib.Dec.{ltb}
-use lib.ListN.{length, get_or, take, drop, replicate, length-append, length-take, length-drop, length-replicate, get_or-append}
+use lib.ListN.{length, get_or, take, drop, replicate, length-append, length-drop, length-replicate, get_or-append}
 use lib.Seq.{length-take-le, get_or-take, get_or-drop, get_or-append-add}
 use borrow.Author.Tests.{ltb-true, ltb-false}
 use borrow.Rule.Slice.PartMut.{mid_of, put_mid, mid_len}
@@ -85,10 +85,6 @@ pub record RowsTo (k : ℕ) (f : Interval → Bool) (i : ℕ) (t : List ℕ) : T
 pub row_length : (N k i start end : ℕ) (t : List ℕ) → Filled N k i start t → end ≡ start + (suc k - i) → length (mid_of start (end - start) t) ≡ suc k - i
 row_length N k i start end t w e = mid_len start end t (omega (arith, w.whole, w.row)) ∙ omega arith
 
-pub row_zeros : (N k i start end : ℕ) (t : List ℕ) → Filled N k i start t → (y : ℕ) → y < length (mid_of start (end - start) t) → get_or (mid_of start (end - start) t) y 0 ≡ 0
-row_zeros N k i start end t w y h =
-    part_entry start (end - start) t y (omega (arith, length-take (end - start) (drop start t))) ∙ w.rest (start + y) (omega arith)
-
 pub filled_begun : (N k : ℕ) (t : List ℕ) → count_of k ≤ N → t ≡ replicate N 0 → Filled N k 0 0 t
 unfolding sum
 filled_begun N k t h e = record {
@@ -133,6 +129,3 @@ module _ (N k i start end : ℕ) (t row : List ℕ) (h : i ≤ k) (w : Filled N 
           let j : i + (v.j - v.i) ≡ v.j = omega arith in
           ap (λ (a : ℕ). get_or after a 0) p ∙ put_within start (end - start) t row fits n (v.j - v.i) d ∙ r.at (v.j - v.i) (omega arith)
           ∙ ap₂ (λ (a b : ℕ). bit (f (record { i = a; j = b }))) (sym m) j
-
-pub rows_done : (k i : ℕ) (f : Interval → Bool) (t : List ℕ) → suc k ≤ i → RowsTo k f i t → TableOf k f t
-rows_done k i f t h w = record { at = λ v o. w.at v o (omega (arith, o.starts, o.ends)) }

@@ -8,7 +8,7 @@ ghost use Rattle.interval.specs.Rows.{RowsOf};
 ghost use Rattle.interval.specs.declared.Interval.{Interval};
 ghost use Rattle.paper_meaning.specs.Meaning.{bit, bit_at};
 ghost use Rattle.truth_word.specs.Word.{Lows, joined};
-ghost use Rattle.truth_table.specs.Table.{TableOf, RowOf, joined_byte, least_on, measured};
+ghost use Rattle.truth_table.specs.Table.{TableOf, RowOf, least_on, measured};
 
 use interval::Interval;
 
@@ -27,17 +27,11 @@ pub fn all_of(b: u8) -> [u8; Interval::MAX_COUNT]
     [b; Interval::MAX_COUNT]
 }
 
-pub fn byte_of(yes: bool) -> u8
-    ensures { result ≡ bit yes }
-{
-    if yes { 1 } else { 0 }
-}
-
 // The table of `T`, where `up`, or of `F`.
 pub fn constant_table(up: bool) -> [u8; Interval::MAX_COUNT]
     ensures { (k : ℕ) → k ≤ max_steps → TableOf k (λ v. up) result }
 {
-    all_of(byte_of(up))
+    all_of(u8::from(up))
 }
 
 // How many instants of [i, j] must be high.
@@ -46,13 +40,8 @@ fn least_on(measure: Measure, i: usize, j: usize) -> u32
     ensures { result ≡ least_on measure (record { i = i; j = j }) }
 {
     match measure {
-        Measure::AtLeast(n) => n as u32,
-        Measure::Throughout => {
-            if i == j {
-                return 1;
-            }
-            (j - i) as u32
-        }
+        Measure::AtLeast(n) => u32::from(n),
+        Measure::Throughout => (j - i).max(1) as u32,
     }
 }
 
@@ -67,7 +56,7 @@ fn measured_on(
     requires { (i ≤ j) × (j ≤ max_steps) × Lows lows.now }
     ensures { result ≡ bit (measured measure (bit_at word) (record { i = i; j = j })) }
 {
-    byte_of(truth_word::count_high(lows, word, i, j) >= least_on(measure, i, j))
+    u8::from(truth_word::count_high(lows, word, i, j) >= least_on(measure, i, j))
 }
 
 // Row i of a duration or of `[S]`.
@@ -81,8 +70,8 @@ fn measured_row(
     requires { (i + length row.old ≤ suc max_steps) × Lows lows.now }
     ensures { RowOf i (measured measure (bit_at word)) row.new }
 {
-    for d in 0..row.len() {
-        row[d] = measured_on(measure, lows, word, i, i + d);
+    for (d, truth) in row.iter_mut().enumerate() {
+        *truth = measured_on(measure, lows, word, i, i + d);
     }
 }
 
@@ -94,6 +83,7 @@ pub fn measured_table(measure: Measure, word: u32, k: usize) -> [u8; Interval::M
     let lows = truth_word::lows();
     let mut t = all_of(0);
     let mut start = 0;
+    // Over starts, which are no list's indices: each row is shorter than the one before.
     for i in 0..k + 1 {
         let end = start + (k + 1 - i);
         measured_row(&mut t[start..end], measure, &lows, word, i);
@@ -107,16 +97,10 @@ pub fn inverse(p: &mut [u8], rows: &[u32], k: usize)
     requires { (k ≤ max_steps) × (count_of k ≤ length p.old) × RowsOf k rows.now }
     ensures { (f : Interval → Bool) → TableOf k f p.old → TableOf k (λ v. not (f v)) p.new }
 {
-    for x in 0..Interval::all(rows, k as u32) as usize {
-        p[x] ^= 1;
+    let n = Interval::all(rows, k as u32) as usize;
+    for truth in p[..n].iter_mut() {
+        *truth ^= 1;
     }
-}
-
-// What `&`, where `both`, or `|` makes of the truths of its parts.
-pub fn joined_byte(both: bool, a: u8, b: u8) -> u8
-    ensures { result ≡ joined_byte both a b }
-{
-    if both { a & b } else { a | b }
 }
 
 // The table of `&`, where `both`, or of `|`, from those of its parts, in the place of the first.
@@ -124,7 +108,9 @@ pub fn join(both: bool, p: &mut [u8], q: &[u8], rows: &[u32], k: usize)
     requires { (k ≤ max_steps) × (count_of k ≤ length p.old) × (count_of k ≤ length q.now) × RowsOf k rows.now }
     ensures { (f g : Interval → Bool) → TableOf k f p.old → TableOf k g q.now → TableOf k (λ v. joined both (f v) (g v)) p.new }
 {
-    for x in 0..Interval::all(rows, k as u32) as usize {
-        p[x] = joined_byte(both, p[x], q[x]);
+    let n = Interval::all(rows, k as u32) as usize;
+    // Of what a `zip` over `iter_mut` writes, the library tells nothing.
+    for (x, truth) in p[..n].iter_mut().enumerate() {
+        *truth = truth_word::joined(both, *truth, q[x]);
     }
 }

@@ -2,6 +2,7 @@
 #![tactic(auto)]
 
 ghost use Rattle.std.specs.Prelude.{◌≡◌, Bool, not, ℕ, ◌-◌, ◌^◌, ◌≤◌, ◌<◌, length};
+ghost use Rattle.std.specs.Bool.{MatchBool};
 ghost use Rattle.interval.specs.Limits.{max_steps};
 ghost use Rattle.paper_grammar.specs.Limits.{max_channels};
 ghost use Rattle.paper_meaning.specs.Meaning.{bit, bit_at, channel_at, highs};
@@ -9,6 +10,7 @@ ghost use Rattle.paper_meaning.specs.Words.{WordOf};
 ghost use Rattle.truth_word.specs.Word.{Lows, joined};
 
 use interval::Interval;
+use std::ops::{BitAnd, BitOr};
 
 // A word's bits. The contracts are over the most steps, so that these must fit.
 pub const WIDTH: usize = 32;
@@ -25,11 +27,7 @@ fn low(n: usize) -> u32
 pub fn lows() -> [u32; Interval::MAX_ENDS]
     ensures { Lows result }
 {
-    let mut lows = [0; Interval::MAX_ENDS];
-    for n in 0..Interval::MAX_ENDS {
-        lows[n] = low(n);
-    }
-    lows
+    std::array::from_fn(low)
 }
 
 // The instants i to j - 1.
@@ -62,8 +60,8 @@ pub fn word_of(bytes: &[u8], c: usize, k: usize) -> u32
     ensures { WordOf k (channel_at bytes.now c) result }
 {
     let mut word: u32 = 0;
-    for t in 0..k {
-        word += (bit_of(bytes[t], c) as u32) << t;
+    for (t, byte) in bytes[..k].iter().enumerate() {
+        word += u32::from(bit_of(*byte, c)) << t;
     }
     word
 }
@@ -82,9 +80,17 @@ pub fn inverse_word(a: u32) -> u32
     a ^ u32::MAX
 }
 
+// What `&`, where `both`, or `|` makes of two numbers, bit by bit.
+pub fn joined<T: BitAnd<Output = T> + BitOr<Output = T>>(both: bool, a: T, b: T) -> T
+    requires { T.can_bitand a b × T.can_bitor a b }
+    ensures { MatchBool both (T.bitand_gives a b result) (T.bitor_gives a b result) }
+{
+    if both { a & b } else { a | b }
+}
+
 // The word of `&`, where `both`, or of `|`, from those of its parts.
 pub fn joined_word(both: bool, a: u32, b: u32) -> u32
     ensures { (k : ℕ) (f g : ℕ → Bool) → WordOf k f a → WordOf k g b → WordOf k (λ t. joined both (f t) (g t)) result }
 {
-    if both { a & b } else { a | b }
+    joined(both, a, b)
 }

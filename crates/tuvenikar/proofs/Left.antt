@@ -2,6 +2,8 @@
 -- and the arrays are left as they are.
 use mathlib.Core.Path.{◌≡◌, ap, ◌∙◌}
 use Prim.Native.Nat.{ℕ}
+use Rattle.std.specs.Prelude.{Result}
+use Rattle.refusal.specs.declared.Refusal.{Refusal}
 use Rattle.table_calls.specs.Table.{After}
 use Rattle.paper_assignments.specs.Calls.{Extended, Proposed}
 use Rattle.file_calls.specs.Calls.{FileAfter}
@@ -31,7 +33,7 @@ file_left e p = record { number = p ∙ ap (λ (x : FileAfter). pack_written x.a
 pub strip_left : {a b : Stripped} {r : ℕ} → a ≡ b → r ≡ pack_printed a.answer → StripLeft b r a.strip
 strip_left e p = record { number = p ∙ ap (λ (x : Stripped). pack_printed x.answer) e; new_strip = ap (λ (x : Stripped). x.strip) e }
 
-pub search_left : {a : Answer} {b : Searched} {r : ℕ} {before after : Arrays} → unwritten after.recording a ≡ b → r ≡ pack_answer a
+pub search_left : {a : Result Answer Refusal} {b : Searched} {r : ℕ} {before after : Arrays} → unwritten after.recording a ≡ b → r ≡ pack_answer a
     → Unchanged a before.variables after.variables × Unchanged a before.marks after.marks
     → Unchanged a before.values after.values × Unchanged a before.trail after.trail → SearchLeft b r before after
 search_left e p u v =

@@ -1,6 +1,7 @@
 -- The gate at the cursor is that of the definition in its place: the first gate
 -- with an unmet clause answers, and else the next clause's number is how many there were (Walk.antt).
 use native.Mathlib.Omega.{arith}
+use Rattle.std.proofs.lemmas.Result.{err_from_is_err_and}
 use Rattle.table_nodes.proofs.Walk.{walkable, one_less, all_defined, gate_asked, gate_defined}
 use Rattle.check_clauses.proofs.Walk.{met_begun, met_done, gate_asks, gate_few, block_turn, block_stopped}
 use Rattle.check_clauses.proofs.ask_block.Goals as goal
@@ -23,11 +24,12 @@ ask_gate-requires c =
     let i = c.loop-cursor.invariant in
     gate_asks c.requires.bounded.0 i.0 i.1 c.loop-cursor-test.true (gate_defined c.requires.bounded.0.0 i.0 c.loop-cursor-test.true c.gate_at-gate.ensures) c.requires.all_mentioned c.requires.bounded.1
 
-pub returns-in-No : goal.returns-in-No
-returns-in-No c =
+pub returns-in_err-ask_gate : goal.returns-in_err-ask_gate
+returns-in_err-ask_gate c =
+    let p = err_from_is_err_and c.from_residual.result c.from_residual.ensures.1 in
     let i = c.loop-cursor.invariant in
-    block_stopped c.requires.bounded.0 i.0 i.1 c.loop-cursor-test.true (gate_defined c.requires.bounded.0.0 i.0 c.loop-cursor-test.true c.gate_at-gate.ensures)
-    c.ask_gate.ensures c.in-No.is
+    rw (p.1, p.2) (block_stopped c.requires.bounded.0 i.0 i.1 c.loop-cursor-test.true (gate_defined c.requires.bounded.0.0 i.0 c.loop-cursor-test.true c.gate_at-gate.ensures)
+    c.ask_gate.ensures c.in_err-ask_gate.was)
 
 pub clause_count-m-requires : goal.clause_count-m-requires
 clause_count-m-requires c =
@@ -55,7 +57,7 @@ loop-cursor-preserved c =
     let i = c.loop-cursor.invariant in let e = c.next-cursor.ensures in (
       e.0,
       block_turn c.requires.bounded.0 i.0 i.1 c.loop-cursor-test.true (gate_defined c.requires.bounded.0.0 i.0 c.loop-cursor-test.true c.gate_at-gate.ensures)
-          c.ask_gate.ensures c.in_default.is c.clause_count-m.ensures e.1,
+          c.ask_gate.ensures c.in_ok-ask_gate.was c.clause_count-m.ensures e.1,
     )
 
 pub returns : goal.returns

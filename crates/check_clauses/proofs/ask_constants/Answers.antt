@@ -10,9 +10,6 @@ use Rattle.check_clauses.proofs.ask_constants.Goals as goal
 pub loop-e-init : goal.loop-e-init
 loop-e-init c = constants_begun _ _ _ _ _
 
-pub high-requires : goal.high-requires
-high-requires c = c.requires.3 _ c.loop-e-test.true
-
 pub returns-then-high-up : goal.returns-then-high-up
 returns-then-high-up c =
     constants_stopped _ _ _ _ _ c.loop-e.invariant c.loop-e-test.true c.high.ensures (differ c.high.result c.args.up (not-true _ c.if-high-up.true) refl)

@@ -3,11 +3,8 @@
 use Rattle.check_clauses.proofs.Walk.{Met}
 use Rattle.check_clauses.specs.Walk.{constants}
 use Rattle.paper_assignments.specs.Extension.{value_in}
-use Prim.Native.Nat.{◌+◌, ◌-◌}
+use Prim.Native.Nat.{◌+◌}
 use Rattle.check_clauses.proofs.ask_constants.Given as goal
 
 abbrev pub invariant-loop-e : goal.invariant-loop-e
 invariant-loop-e l = Met (value_in l.assignment) l.m (constants l.w l.n l.up) (l.m + l.e) l.e
-
-abbrev pub decreases-loop-e : goal.decreases-loop-e
-decreases-loop-e l = l.n - l.e

@@ -3,12 +3,7 @@
 use Rattle.paper_assignments.specs.Extension.{value_in}
 use Rattle.paper_circuit.specs.Circuit.{channel_of}
 use Rattle.paper_meaning.proofs.Words.{Packed}
-use mathlib.Core.Path.{◌≡◌}
-use Prim.Native.Nat.{◌-◌, ◌*◌, ◌≤◌}
 use Rattle.check_recording.proofs.recorded.Given as goal
 
 abbrev pub invariant-loop-b : goal.invariant-loop-b
-invariant-loop-b l = (l.b ≤ l.c) × (l.at ≡ l.t * l.c) × Packed l.b (λ b. value_in l.assignment (channel_of l.c l.t b)) l.byte
-
-abbrev pub decreases-loop-b : goal.decreases-loop-b
-decreases-loop-b l = l.c - l.b
+invariant-loop-b l = Packed l.b (λ b. value_in l.assignment (channel_of l.c l.t b)) l.byte

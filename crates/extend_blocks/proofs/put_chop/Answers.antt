@@ -1,6 +1,6 @@
 -- `put_chop` puts the chop's table, whose bytes are its truths in order (Tables.antt), and then its triples, into what is left:
 -- that is as much as they need.
-use mathlib.Core.Path.{◌≡◌, sym, ap₂, ◌∙◌}
+use mathlib.Core.Path.{◌≡◌, ap₂, ◌∙◌}
 use mathlib.Core.List.{List, ◌++◌, append-nil}
 use Prim.Native.Nat.{ℕ, ◌-◌}
 use native.Mathlib.Omega.{arith}
@@ -17,13 +17,6 @@ rest_put : (a : ℕ) (x r y : List ℕ) → length x ≡ a → put_mid a (length
 rest_put a x r y e =
     let n : length (x ++ r) - a ≡ length r = omega (arith, length-append x r) in
     rw (n, take_at x r a e, drop_at x r a e, drop-length r, append-nil y)
-
-pub slice_bounds-put_table-end-2 : goal.slice_bounds-put_table-end-2
-slice_bounds-put_table-end-2 c = sym (length-take-le _ _ (omega arith))
-
-pub put_table-requires : goal.put_table-requires
-put_table-requires c =
-    omega (arith, length-take-le c.all-count.result c.args.out.now (omega arith))
 
 pub returns : goal.returns
 returns c =

@@ -8,7 +8,7 @@ use Rattle.paper_meaning.specs.Meaning.{bit_at, lasts}
 use Rattle.truth_table.specs.declared.Measure.TheVariants.{AtLeast}
 use Rattle.truth_table.proofs.Measuring.{measured_word}
 use Rattle.paper_assignments.specs.Extension.{truth_values}
-use Rattle.extend_triples.proofs.Parts.{Parts, begun_even, room, part_length, turn, done}
+use Rattle.extend_triples.proofs.Parts.{Parts, begun_even, room, part_length, turn}
 use Rattle.extend_blocks.proofs.Tables.{table_values}
 use Rattle.paper_assignments.proofs.Values.{truth_length}
 use native.Mathlib.Omega.{arith}
@@ -29,11 +29,6 @@ overflow_add-end c = omega (arith, room (sofar (goal.at.overflow_add-end c).At-l
 pub slice_bounds-put_table-end : goal.slice_bounds-put_table-end
 slice_bounds-put_table-end c = omega (arith, room (sofar (goal.at.slice_bounds-put_table-end c).At-loop-c) (omega arith))
 
-pub put_table-requires : goal.put_table-requires
-put_table-requires c =
-    let l = c.loop-c in
-    omega (arith, part_length (sofar (goal.at.put_table-requires c).At-loop-c) (omega arith) (l.at + c.count-count.result) (omega arith))
-
 pub loop-c-preserved : goal.loop-c-preserved
 loop-c-preserved c =
     let a = c.args in
@@ -46,9 +41,3 @@ loop-c-preserved c =
           turn p (omega arith) _ o (c.put_table.ensures ∙
           table_values a.k (lasts l.c f) (part_length p (omega arith) _ o) (measured_word a.k (AtLeast l.c) a.word f _ W t.ensures)),
     )
-
-pub shape_of-out : goal.shape_of-out
-shape_of-out c = (sofar (goal.at.shape_of-out c).At-loop-c).long
-
-pub returns : goal.returns
-returns c = λ f W. done (c.loop-c.invariant.1 f W) (omega arith)

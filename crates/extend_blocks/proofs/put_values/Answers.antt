@@ -6,6 +6,7 @@ use lib.ListN.{length}
 use Rattle.paper_meaning.specs.Meaning.{fills}
 use Rattle.truth_table.specs.Table.{high_at}
 use Rattle.truth_table.specs.declared.Measure.TheVariants.{Throughout}
+use Rattle.truth_table.proofs.Joined.{from_bit}
 use Rattle.truth_table.proofs.Measuring.{measured_word}
 use Rattle.table_blocks.specs.declared.Rule.{Rule}
 use Rattle.extend_blocks.specs.Values.{values_by, Fits}
@@ -19,37 +20,14 @@ use Rattle.extend_blocks.proofs.put_values.Goals.{Start}
 fits : (s : Start) {q : Rule} → s.args.rule ≡ q → Fits s.args.k (length s.args.out.now) q
 fits s e = subst (Fits s.args.k (length s.args.out.now)) e s.requires.1
 
-pub put_table-requires : goal.put_table-requires
-put_table-requires c = fits (goal.at.put_table-requires c).Start c.in-Fixed.is
-
-pub put_inverse-requires : goal.put_inverse-requires
-put_inverse-requires c = (fits (goal.at.put_inverse-requires c).Start c.in-Negation.is, c.requires.2)
-
-pub put_joined-requires : goal.put_joined-requires
-put_joined-requires c = (fits (goal.at.put_joined-requires c).Start c.in-And.is, c.requires.2, c.requires.3)
-
-pub put_joined-requires-in-Or : goal.put_joined-requires-in-Or
-put_joined-requires-in-Or c = (fits (goal.at.put_joined-requires-in-Or c).Start c.in-Or.is, c.requires.2, c.requires.3)
-
-pub put_chop-requires : goal.put_chop-requires
-put_chop-requires c = (c.requires.0, fits (goal.at.put_chop-requires c).Start c.in-Chop.is, c.requires.2, c.requires.3, c.requires.4)
-
-pub put_levels-requires : goal.put_levels-requires
-put_levels-requires c =
-    let o = fits (goal.at.put_levels-requires c).Start c.in-Duration.is in
-    (c.requires.0, o.0, o.1)
-
 pub put_table-requires-in-Throughout : goal.put_table-requires-in-Throughout
 put_table-requires-in-Throughout c =
     omega (arith, fits (goal.at.put_table-requires-in-Throughout c).Start c.in-Throughout.is, few_intervals _ c.requires.0)
 
-pub put_table-requires-in-Cut : goal.put_table-requires-in-Cut
-put_table-requires-in-Cut c = fits (goal.at.put_table-requires-in-Cut c).Start c.in-Cut.is
-
 pub returns-in-Fixed : goal.returns-in-Fixed
 unfolding values_by
 returns-in-Fixed c =
-    values_by_lem _ _ _ _ _ c.in-Fixed.is (c.put_table.ensures ∙ same_values (fits (goal.at.returns-in-Fixed c).Start c.in-Fixed.is) c.all_of.ensures c.byte_of.ensures)
+    values_by_lem _ _ _ _ _ c.in-Fixed.is (c.put_table.ensures ∙ same_values (fits (goal.at.returns-in-Fixed c).Start c.in-Fixed.is) c.all_of.ensures (c.from.ensures ∙ from_bit _))
 
 pub returns-in-Letter : goal.returns-in-Letter
 unfolding values_by

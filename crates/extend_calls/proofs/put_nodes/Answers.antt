@@ -8,10 +8,6 @@ use Rattle.extend_calls.proofs.put_nodes.Goals as goal
 pub loop-x-init : goal.loop-x-init
 loop-x-init c = extending_begun c.requires.k_le_max_steps.2
 
-pub block_at-block-requires : goal.block_at-block-requires
-block_at-block-requires c =
-    (c.requires.k_le_max_steps.0, omega (arith, c.requires.k_le_max_steps.1, c.loop-x.invariant.turns, c.loop-x-test.true), c.requires.k_le_max_steps.3)
-
 pub put_node-requires : goal.put_node-requires
 put_node-requires c =
     let e = c.block_at-block.ensures in
@@ -26,9 +22,6 @@ overflow_sub-end c =
 pub loop-x-preserved : goal.loop-x-preserved
 loop-x-preserved c =
     extending_turn c.loop-x.invariant (search rules) c.block_at-block.ensures.value c.requires.by_index.0 c.requires.by_index.1 c.requires.k_le_max_steps.2 (search rules) c.put_node.ensures
-
-pub shape_of-assignment : goal.shape_of-assignment
-shape_of-assignment c = c.loop-x.invariant.long
 
 pub returns : goal.returns
 returns c = extending_done c.loop-x.invariant (omega (arith, c.loop-x-test.false))

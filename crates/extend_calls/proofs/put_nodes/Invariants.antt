@@ -5,6 +5,3 @@ use Rattle.extend_calls.proofs.put_nodes.Given as goal
 
 abbrev pub invariant-loop-x : goal.invariant-loop-x
 invariant-loop-x l = Extending l.k l.recording l.table l.firsts l.last l.initial.assignment l.assignment l.x l.end
-
-abbrev pub decreases-loop-x : goal.decreases-loop-x
-decreases-loop-x l = l.x

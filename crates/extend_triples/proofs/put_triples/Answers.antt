@@ -23,9 +23,6 @@ loop-i-init c =
 pub overflow_sub-end : goal.overflow_sub-end
 overflow_sub-end c = (ahead (goal.at.overflow_sub-end c).After-place).0
 
-pub overflow_add-end : goal.overflow_add-end
-overflow_add-end c = omega (arith, room c.loop-i.invariant.1 (omega arith), ahead (goal.at.overflow_add-end c).After-place)
-
 pub slice_bounds-put_starts-end : goal.slice_bounds-put_starts-end
 slice_bounds-put_starts-end c = omega (arith, room c.loop-i.invariant.1 (omega arith), ahead (goal.at.slice_bounds-put_starts-end c).After-place)
 

@@ -1,15 +1,10 @@
 -- `put_joined` joins the bytes of place e at turn e; both are bits, which join as truths do,
 -- so the slice is filled by the joined truths.
-use Prim.Native.Nat.{◌-◌}
-use lib.ListN.{length}
-use Rattle.paper_meaning.specs.Meaning.{bit}
-use Rattle.truth_word.specs.Word.{joined}
-use Rattle.truth_table.specs.Table.{high_at}
-use Rattle.lists.proofs.Filled.{Filled}
+use mathlib.Core.Path.{◌≡◌}
+use Prim.Native.Nat.{ℕ, ◌<◌}
+use lib.ListN.{get_or}
+use Rattle.truth_table.specs.Table.{joined_byte}
 use Rattle.extend_truths.proofs.put_joined.Given as goal
 
 abbrev pub invariant-loop-e : goal.invariant-loop-e
-invariant-loop-e l = Filled (λ y. bit (joined l.both (high_at l.p y) (high_at l.q y))) (length l.initial.out) l.e l.out
-
-abbrev pub decreases-loop-e : goal.decreases-loop-e
-decreases-loop-e l = length l.initial.out - l.e
+invariant-loop-e l = (y : ℕ) → y < l.e → get_or l.out y 0 ≡ joined_byte l.both (get_or l.p y 0) (get_or l.q y 0)

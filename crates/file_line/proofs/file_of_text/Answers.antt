@@ -5,11 +5,11 @@ use Rattle.file_line.proofs.File.{same_output, none_refused, room, file_done}
 use Rattle.file_line.proofs.file_of_text.Goals as goal
 
 pub put_file-requires : goal.put_file-requires
-put_file-requires c = room _ _ _ _ c.table-w.ensures c.in-Done.is
+put_file-requires c = room _ _ _ _ c.table.ensures c.in-Ok.is
 
-pub returns-in-Done : goal.returns-in-Done
-returns-in-Done c =
-    file_done _ _ _ _ c.table-w.ensures c.in-Done.is _ c.put_file-arg-1.given.0.1 c.put_file.ensures.0 c.put_file.ensures.1
+pub returns-in-Ok : goal.returns-in-Ok
+returns-in-Ok c =
+    file_done _ _ _ _ c.table.ensures c.in-Ok.is _ c.put_file-arg-1.given.0.1 c.put_file.ensures.0 c.put_file.ensures.1
 
-pub returns-in-Refused : goal.returns-in-Refused
-returns-in-Refused c = same_output _ (sym (none_refused _ _ _ _ c.table-w.ensures _ c.in-Refused.is)) (refl, refl)
+pub returns-in-Err : goal.returns-in-Err
+returns-in-Err c = same_output _ (sym (none_refused _ _ _ _ c.table.ensures _ c.in-Err.is)) (refl, refl)

@@ -1,19 +1,11 @@
--- A copy of the file's variables, each being the number at its place
--- (Stored.antt; crate table_literals, Written.antt).
-use Rattle.table_literals.proofs.Written.{copy_begun, same_turn, same_done}
-use Rattle.file_numbers.proofs.Stored.{variables_count, variable_at}
-use Prim.Native.Nat.{◌-◌}
-use native.Mathlib.Omega.{arith}
-use borrow.Author.Rules.{rules}
+-- A turn reads the file's next variable, the number at its place,
+-- and there are as many as the part that they go to has places (Stored.antt).
+use Rattle.std.proofs.Common.{rules}
+use Rattle.file_numbers.proofs.Stored.{read_turn, read_done}
 use Rattle.file_numbers.proofs.read_numbers.Goals as goal
 
-pub loop-e-init : goal.loop-e-init
-loop-e-init c = copy_begun (variables_count c.requires.0)
-
 pub loop-e-preserved : goal.loop-e-preserved
-loop-e-preserved c =
-    same_turn c.loop-e.invariant (omega (arith, c.loop-e.invariant.whole, c.loop-e-test.true)) (omega arith)
-    (variable_at c.requires.0 c.loop-e.e (search rules) c.number_at.ensures)
+loop-e-preserved c = read_turn c.requires.0 _ _ (search rules) (search rules) c.number_at.ensures c.loop-e.invariant
 
 pub returns : goal.returns
-returns c = same_done c.loop-e.invariant (omega (arith, c.loop-e-test.false))
+returns c = read_done c.requires.0 _ _ c.requires.1 (search rules) (search rules) c.loop-e.invariant

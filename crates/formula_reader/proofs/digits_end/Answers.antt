@@ -1,22 +1,20 @@
--- `digits_end` goes on while digits stand: at each turn the place so far and the digits from there on
--- make the same end as from the beginning, and at the end there are none.
-use native.Mathlib.Omega.{arith}
-use borrow.Author.Rules.{rules}
-use mathlib.Core.Path.{◌≡◌, refl, sym, ◌∙◌}
-use Prim.Native.Nat.{◌+◌, ◌-◌, ◌≤◌}
-use Rattle.formula_reader.proofs.Parts.{digit_more, digit_none, digit_end}
+-- The bytes so far are digits: they and the digits from there on are those from the beginning (Parts.antt).
+use Rattle.std.proofs.Common.{◌∙◌, sym, ℕ, ◌-◌, List, length, take, drop, length-take, length-drop, arith, rules}
+use Rattle.formula_reader.proofs.Parts.{digit_more, digit_none, digit_end, digits_from}
 use Rattle.formula_reader.proofs.digits_end.Goals as goal
-
-pub loop-i-init : goal.loop-i-init
-loop-i-init c = (search rules, refl)
 
 pub returns-then-not-is_digit : goal.returns-then-not-is_digit
 returns-then-not-is_digit c =
-    omega (arith, digit_none c.args.text.now c.loop-i.i (search rules) (sym c.is_digit.ensures ∙ c.if-not-is_digit.true))
+    let a = c.args in
+    omega (arith, digits_from a.text.now a.at, c.loop-n.invariant, digit_none (take (length a.text.now - a.at) (drop a.at a.text.now)) c.loop-n.n (search rules) (sym c.is_digit.ensures ∙ c.if-not-is_digit.true))
 
-pub loop-i-preserved : goal.loop-i-preserved
-loop-i-preserved c =
-    (search rules, omega (arith, digit_more c.args.text.now c.loop-i.i (search rules) (sym c.is_digit.ensures ∙ c.if-not-is_digit.false)))
+pub loop-n-preserved : goal.loop-n-preserved
+loop-n-preserved c =
+    let a = c.args in
+    omega (arith, c.loop-n.invariant, digit_more (take (length a.text.now - a.at) (drop a.at a.text.now)) c.loop-n.n (search rules) (sym c.is_digit.ensures ∙ c.if-not-is_digit.false))
 
 pub returns : goal.returns
-returns c = omega (arith, digit_end c.args.text.now c.loop-i.i (search rules))
+returns c =
+    let a = c.args in
+    let q : List ℕ = take (length a.text.now - a.at) (drop a.at a.text.now) in
+    omega (arith, digits_from a.text.now a.at, c.loop-n.invariant, digit_end q c.loop-n.n (search rules), c.loop-n-test.false, c.requires, length-drop a.at a.text.now, length-take (length a.text.now - a.at) (drop a.at a.text.now))

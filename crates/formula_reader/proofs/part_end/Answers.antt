@@ -6,8 +6,8 @@ use Rattle.formula_reader.proofs.part_end.Goals as goal
 pub returns-then-at-text : goal.returns-then-at-text
 returns-then-at-text c = end_past _ _ _ c.if-at-text.true
 
-pub returns-in-Good : goal.returns-in-Good
-returns-in-Good c = end_good _ _ _ _ _ c.read_part-g.ensures c.in-Good.is
+pub returns-in-Ok : goal.returns-in-Ok
+returns-in-Ok c = end_good _ _ _ _ _ c.read_part.ensures c.in-Ok.is
 
-pub returns-in-Bad : goal.returns-in-Bad
-returns-in-Bad c = end_bad _ _ _ _ _ c.read_part-g.ensures c.in-Bad.is
+pub returns-in-Err : goal.returns-in-Err
+returns-in-Err c = end_bad _ _ _ _ _ c.read_part.ensures c.in-Err.is

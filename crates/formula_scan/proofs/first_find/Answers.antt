@@ -1,22 +1,22 @@
 -- `first_find` skips finds until none is left to skip: at each turn the finds from the place so far on,
--- less those still to skip, are those of the whole text, less all to skip.
-use borrow.Author.Rules.{rules}
-use Prim.Native.Nat.{◌-◌}
-use Rattle.formula_scan.proofs.Loops.{left_begun, left_on, left_found, left_none}
+-- less those still to skip, are those of the whole text, less all to skip (Loops.antt).
+use Rattle.formula_scan.proofs.Loops.{left_begun, left_on, left_less, left_found, left_none}
 use Rattle.formula_scan.proofs.first_find.Goals as goal
+use Rattle.formula_scan.proofs.first_find.Goals.{in-Some+else-left-eq0, in_default}
 
 pub loop-i-init : goal.loop-i-init
 loop-i-init c = left_begun _ _ _
 
-pub returns-then-h-left : goal.returns-then-h-left
-returns-then-h-left c =
-    let f = c.find_at-h.ensures in
-    (left_found _ _ _ _ _ c.loop-i.invariant _ c.loop-i-test.true f.0 f.1 c.if-h-left.true, search rules)
+pub returns-then-left-eq0 : goal.returns-then-left-eq0
+returns-then-left-eq0 c = (left_found _ _ _ c.loop-i.invariant c.loop-i-test.true c.in-Some.ensures.0 c.if-left-eq0.true, c.in-Some.ensures.1)
 
 pub loop-i-preserved : goal.loop-i-preserved
 loop-i-preserved c =
-    let f = c.find_at-h.ensures in
-    left_on _ _ _ _ _ c.loop-i.invariant _ c.loop-i-test.true f.0 f.1 c.if-h-left.false
+    let i = c.loop-i.invariant in
+    elim c.match-find_at.branch [
+      | in-Some+else-left-eq0 w ↦ rw w.left-is (left_less _ _ _ i c.loop-i-test.true w.in-Some.ensures.0 w.if-left-eq0.false)
+      | in_default w ↦ rw w.left-is (left_on _ _ _ i c.loop-i-test.true w.in_default.ensures.0)
+    ]
 
 pub returns : goal.returns
-returns c = (left_none _ _ _ _ _ c.loop-i.invariant c.loop-i-test.false, search rules)
+returns c = (left_none _ _ _ c.loop-i.invariant c.loop-i-test.false, tt)

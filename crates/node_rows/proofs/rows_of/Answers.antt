@@ -1,7 +1,7 @@
 -- `rows_of` keeps: the rows from x on are their nodes', and those before it are begun.
 -- Before the loop all are begun; each turn finds the one before, whose parts come later; at 0 all are found.
 use borrow.Author.Rules.{rules}
-use Rattle.node_rows.proofs.Found.{found_none, found_room, found_code, found_fits, found_more, found_all}
+use Rattle.node_rows.proofs.Found.{found_none, found_room, found_code, found_fits, found_more}
 use Rattle.node_rows.proofs.rows_of.Goals as goal
 
 pub loop-x-init : goal.loop-x-init
@@ -48,6 +48,3 @@ pub loop-x-preserved : goal.loop-x-preserved
 loop-x-preserved c =
     let a = c.requires in
     found_more a.0 a.1 _ a.2 _ _ c.loop-x.invariant c.loop-x-test.true _ c.row_at-row.ensures
-
-pub returns : goal.returns
-returns c = found_all _ _ _ c.loop-x.invariant c.loop-x-test.false

@@ -1,22 +1,14 @@
--- At every turn, what is left to take back gives what the whole gives at the start;
--- the last of it is taken back next (Trail.antt).
-use mathlib.Core.Path.{◌≡◌, sym, ◌∙◌}
-use Prim.Native.Nat.{◌-◌, ◌≤◌}
-use native.Mathlib.Omega.{arith}
-use lib.ListN.{length-set}
-use Rattle.search_closing.proofs.Trail.{undone_none, undone_last}
+-- A turn takes back the last that is left (Trail.antt).
+use Rattle.std.proofs.Common.{ℕ, ap, sym, ◌∙◌, arith}
+use Rattle.search_closing.specs.Values.{undone}
+use Rattle.search_closing.proofs.Trail.{undone_none, undone_last, but_last}
 use Rattle.search_closing.proofs.undo.Goals as goal
 
-pub place-x-requires : goal.place-x-requires
-place-x-requires c = (c.requires.2.each (c.loop-j.j - 1) (omega arith) (omega arith)).0
-
-pub bounds-values-x : goal.bounds-values-x
-bounds-values-x c = omega (arith, c.requires.2.each (c.loop-j.j - 1) (omega arith) (omega arith))
-
-pub loop-j-preserved : goal.loop-j-preserved
-loop-j-preserved c =
-    let l = c.loop-j in
-    (omega arith, omega arith, length-set l.values _ _ ∙ l.invariant.2, undone_last _ _ _ _ _ (omega (arith, c.loop-j-test.true)) c.place-x.ensures ∙ l.invariant.3)
+pub loop-v-preserved : goal.loop-v-preserved
+loop-v-preserved c =
+    let i = c.loop-v.invariant in
+    let (n, places, last) = but_last _ _ _ c.in-Some.ensures.steps i.places in
+    record { left = omega (arith, n, i.left); places = places; back = undone_last _ _ _ _ _ (c.place.ensures ∙ last) ∙ ap (λ (n : ℕ). undone c.args.trail.now c.args.from n c.loop-v.values) (sym n) ∙ i.back }
 
 pub returns : goal.returns
-returns c = sym (undone_none _ _ _ _ (omega arith)) ∙ c.loop-j.invariant.3
+returns c = sym (undone_none _ _ _ _ c.in-None.ensures.steps.0) ∙ c.loop-v.invariant.back

@@ -1,14 +1,12 @@
--- At every turn, what is left to take back gives what the whole gives at the start;
--- the last of it is taken back next (Trail.antt).
-use mathlib.Core.Path.{◌≡◌, ◌∙◌}
-use Prim.Native.Nat.{◌-◌, ◌≤◌}
-use lib.ListN.{length}
+-- What is left to take back are the first places of the part, and taking them back gives what the whole gives at the start.
+use Rattle.std.proofs.Common.{◌≡◌, ℕ, ◌+◌, ◌-◌, ◌≤◌, ◌<◌, length, get_or}
 use Rattle.search_closing.specs.Values.{undone}
 use Rattle.search_closing.proofs.undo.Given as goal
 
-abbrev pub invariant-loop-j : goal.invariant-loop-j
-invariant-loop-j l =
-    (l.from ≤ l.j) × (l.j ≤ l.to) × (length l.values ≡ length l.initial.values) × (undone l.trail l.from (l.j - l.from) l.values ≡ undone l.trail l.from (l.to - l.from) l.initial.values)
-
-abbrev pub decreases-loop-j : goal.decreases-loop-j
-decreases-loop-j l = l.j - l.from
+abbrev pub invariant-loop-v : goal.invariant-loop-v
+invariant-loop-v l =
+    let rest = l.v-iterator.iter.rest.now in record {
+      left : length rest ≤ l.to - l.from;
+      places : (j : ℕ) → j < length rest → get_or rest j 0 ≡ get_or l.trail (l.from + j) 0;
+      back : undone l.trail l.from (length rest) l.values ≡ undone l.trail l.from (l.to - l.from) l.initial.values;
+    }

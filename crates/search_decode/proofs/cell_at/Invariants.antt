@@ -1,6 +1,6 @@
 -- What is left and the lines taken off it make the place,
 -- and it is less at each turn.
-use mathlib.Core.Path.{◌≡◌, ◌∙◌}
+use mathlib.Core.Path.{◌≡◌}
 use Prim.Native.Nat.{◌+◌, ◌*◌, ◌≤◌}
 use Rattle.search_decode.proofs.cell_at.Given as goal
 

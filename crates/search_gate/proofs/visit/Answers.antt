@@ -1,7 +1,6 @@
 -- Each gate but one is a pattern over its variables; the other has clauses one after another (`search_visits::visit_any`).
 -- What a pattern settles is visited.
 use mathlib.Core.Path.{refl, subst}
-use native.Mathlib.Omega.{arith}
 use Rattle.table_gates.specs.Within.{Within}
 use Rattle.table_gates.specs.Mentioned.{InputsIn}
 use Rattle.search_visits.proofs.Parts.{settled_visited}
@@ -10,15 +9,15 @@ use Rattle.search_gate.proofs.Known.{constant_known, visited_known}
 use Rattle.search_gate.proofs.visit.Goals as goal
 
 pub settle_by-requires : goal.settle_by-requires
-settle_by-requires c = record { trailing = (c.requires.0, (constant_known 1 c.constant.ensures).0); four = (c.requires.1, c.requires.1, c.requires.1, c.requires.1) }
+settle_by-requires c = record { trailing = c.requires.0; four = (c.requires.1, c.requires.1, c.requires.1, c.requires.1) }
 
 pub settle_by-requires-in-Copy : goal.settle_by-requires-in-Copy
 settle_by-requires-in-Copy c =
-    let i = subst (InputsIn _) c.in-Copy.is c.requires.2 in record { trailing = (c.requires.0, omega arith); four = (c.requires.1, i, c.requires.1, c.requires.1) }
+    let i = subst (InputsIn _) c.in-Copy.is c.requires.2 in record { trailing = c.requires.0; four = (c.requires.1, i, c.requires.1, c.requires.1) }
 
 pub settle_by-requires-in-Inverse : goal.settle_by-requires-in-Inverse
 settle_by-requires-in-Inverse c =
-    let i = subst (InputsIn _) c.in-Inverse.is c.requires.2 in record { trailing = (c.requires.0, omega arith); four = (c.requires.1, i, c.requires.1, c.requires.1) }
+    let i = subst (InputsIn _) c.in-Inverse.is c.requires.2 in record { trailing = c.requires.0; four = (c.requires.1, i, c.requires.1, c.requires.1) }
 
 pub settle_both-requires : goal.settle_both-requires
 settle_both-requires c =
@@ -26,7 +25,7 @@ settle_both-requires c =
 
 pub settle_by-requires-in-Either : goal.settle_by-requires-in-Either
 settle_by-requires-in-Either c =
-    let i = subst (InputsIn _) c.in-Either.is c.requires.2 in record { trailing = (c.requires.0, omega arith); four = (c.requires.1, i.0, i.1, c.requires.1) }
+    let i = subst (InputsIn _) c.in-Either.is c.requires.2 in record { trailing = c.requires.0; four = (c.requires.1, i.0, i.1, c.requires.1) }
 
 pub visit_any-requires : goal.visit_any-requires
 visit_any-requires c =
@@ -38,7 +37,7 @@ settle_step-requires c =
 
 pub returns-in-Constant : goal.returns-in-Constant
 returns-in-Constant c =
-    visited_known _ c.in-Constant.is (constant_known _ c.constant.ensures).1 (settled_visited c.settle_by.ensures)
+    visited_known _ c.in-Constant.is (constant_known _ c.constant.ensures) (settled_visited c.settle_by.ensures)
 
 pub returns-in-Copy : goal.returns-in-Copy
 returns-in-Copy c =

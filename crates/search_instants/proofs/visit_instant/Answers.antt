@@ -1,7 +1,6 @@
 -- At turn i the intervals that start before i are visited, on all their levels.
 -- After the last turn all that end a step after the instant are.
-use mathlib.Core.Path.{◌≡◌, refl, ◌∙◌}
-use Prim.Native.Nat.{◌+◌, ◌-◌, ◌≤◌}
+use mathlib.Core.Path.{refl, ◌∙◌}
 use native.Mathlib.Omega.{arith}
 use Rattle.search_visits.proofs.Loops.{loop_begun, loop_turn, loop_stop, loop_done}
 use Rattle.search_walks.proofs.Places.{stands}
@@ -16,7 +15,7 @@ loop-i-init c = (refl, refl, omega arith, loop_begun _ c.requires.0.trailing)
 pub visit_rise-r-requires : goal.visit_rise-r-requires
 visit_rise-r-requires c =
     let i = c.loop-i.invariant in
-    (stands c.requires.0 i.0 i.3.grown.trailing, c.requires.1, c.requires.2, omega (arith, c.loop-i-test.true), c.requires.3, c.requires.4)
+    (stands c.requires.0 i.0 i.3.grown.trailing, c.requires.1, omega (arith, c.loop-i-test.true), c.requires.2)
 
 pub returns-then-r : goal.returns-then-r
 returns-then-r c =
@@ -24,7 +23,7 @@ returns-then-r c =
 
 pub overflow_step-i : goal.overflow_step-i
 overflow_step-i c =
-    omega (arith, c.requires.3, c.requires.0.bounded.steps, c.loop-i-test.true)
+    omega (arith, c.requires.2, c.requires.0.bounded.steps, c.loop-i-test.true)
 
 pub loop-i-preserved : goal.loop-i-preserved
 loop-i-preserved c =

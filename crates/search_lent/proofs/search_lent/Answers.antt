@@ -4,7 +4,7 @@ use mathlib.Core.Path.{refl, sym}
 use native.Mathlib.Omega.{arith}
 use lib.Seq.{length-take-le}
 use Rattle.interval.proofs.Laws.{counts_at_32}
-use Rattle.search_lent.proofs.Arrays.{root_rows, parts_fit, search_known}
+use Rattle.search_lent.proofs.Arrays.{root_rows, on_ground, parts_fit, search_known}
 use Rattle.search_lent.proofs.search_lent.Goals as goal
 
 pub put_seats-requires : goal.put_seats-requires
@@ -38,11 +38,13 @@ slice_bounds-draw-end-6 c = sym (length-take-le _ _ c.requires.variables_in_boun
 
 pub draw-requires : goal.draw-requires
 draw-requires c =
-    let p = c.requires.c_le_max_channels in let h = c.requires.variables_in_bounds in
-    let both = parts_fit _ _ p.3.0 p.3.1.is c.requires.measured c.args.values.now c.args.trail.now c.args.recording.now h.0 h.1 h.2
-    (omega (arith, c.struct_known-1.given)) p.3.1.letters p.0 p.1 p.2 c.put_seats.ensures c.put_parents.ensures
-    c.put_tables.ensures in
-    record { ground_of = both.0; values_in_bounds = both.1 }
+    let p = c.requires.c_le_max_channels in let h = c.requires.variables_in_bounds in let a = c.args in
+    record {
+      on_ground = on_ground _ _ p.3.0 p.3.1.is c.requires.measured a.values.now a.trail.now a.recording.now h.0 h.1 h.2 p.3.1.letters p.0 p.1 p.2
+          c.put_seats.ensures c.put_parents.ensures;
+      values_in_bounds = parts_fit _ _ p.3.0 p.3.1.is c.requires.measured a.values.now a.trail.now a.recording.now h.0 h.1 h.2
+          (omega arith);
+    }
 
 pub returns : goal.returns
 returns c =

@@ -9,21 +9,21 @@ use Rattle.search_letters.proofs.reach_letter.Goals as goal
 
 pub visit_line-requires : goal.visit_line-requires
 visit_line-requires c =
-    let a = c.args in
-    let n = node_at a.x c.requires.on_ground.0 refl c.requires.x_lt_count.0 c.block_of-block.ensures.value (c.block_of-block.ensures.by_index a.c c.requires.on_ground.0.channels) c.requires.on_ground.1 in
-    let l = speaks_line a.c a.k c.block_of-block.result a.e c.block_of-block.result.rule
-    (letter_speaks a.c a.k a.kinds.now a.numbers.now a.sizes.now a.firsts.now a.t a.e a.x
+    let a = c.args in let w = a.wiring.now in let g = c.requires.on_ground.0 in
+    let n = node_at a.x g refl c.requires.x_lt_count.0 c.block_of-block.ensures.value (c.block_of-block.ensures.by_index w.c g.channels) c.requires.on_ground.1 in
+    let l = speaks_line w.c w.k c.block_of-block.result a.e c.block_of-block.result.rule
+    (letter_speaks w.c w.k w.table.kinds w.table.numbers w.table.sizes w.firsts a.t a.e a.x
     (c.speaks_of.ensures ∙ ap (speaks a.e) c.rule_of-rule.ensures) c.if-speaks_of.true c.block_of-block.ensures.value) n.laid.voiced in
     (n, l.0, omega (arith, l.1, c.requires.x_lt_count.1))
 
 pub returns-then-speaks_of : goal.returns-then-speaks_of
 returns-then-speaks_of c =
-    let a = c.args in
-    letter_visited a.c a.k a.kinds.now a.numbers.now a.sizes.now a.firsts.now a.t a.e a.x
+    let a = c.args in let w = a.wiring.now in
+    letter_visited w.c w.k w.table.kinds w.table.numbers w.table.sizes w.firsts a.t a.e a.x
     (c.speaks_of.ensures ∙ ap (speaks a.e) c.rule_of-rule.ensures) c.if-speaks_of.true c.block_of-block.ensures.value c.visit_line.ensures
 
 pub returns : goal.returns
 returns c =
-    let a = c.args in
-    visited_done c.done.ensures (letter_passed a.c a.k a.kinds.now a.numbers.now a.sizes.now a.firsts.now a.t a.e a.x
+    let a = c.args in let w = a.wiring.now in
+    visited_done c.done.ensures (letter_passed w.c w.k w.table.kinds w.table.numbers w.table.sizes w.firsts a.t a.e a.x
     (c.speaks_of.ensures ∙ ap (speaks a.e) c.rule_of-rule.ensures) c.if-speaks_of.false c.requires.on_ground.1)

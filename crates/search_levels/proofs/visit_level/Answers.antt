@@ -13,14 +13,14 @@ use Rattle.search_levels.proofs.visit_level.Goals.{Then-is_throughout}
 
 -- the rule is that of `[S]`, by the first test
 is_whole : (c : Then-is_throughout) → c.args.block.rule ≡ Throughout
-is_whole c = whole_rule c.is_throughout.ensures c.requires.standing.2 c.if-is_throughout.true
+is_whole c = whole_rule c.is_throughout.ensures c.requires.standing.1 c.if-is_throughout.true
 
 pub overflow_add-v : goal.overflow_add-v
 overflow_add-v c = omega (arith, place_small c.requires.standing.0 c.requires.placed, c.requires.standing.0.bounded.first)
 
 pub settle_by-requires : goal.settle_by-requires
 settle_by-requires c =
-    let v = variable_here c.requires.standing.0 c.requires.placed in record { trailing = (c.requires.standing.0.trailing, omega arith); four = (v, v, v, v) }
+    let v = variable_here c.requires.standing.0 c.requires.placed in record { trailing = c.requires.standing.0.trailing; four = (v, v, v, v) }
 
 pub returns-then-d-eq0 : goal.returns-then-d-eq0
 returns-then-d-eq0 c =
@@ -34,7 +34,7 @@ pub settle_by-requires-then-d-lt2 : goal.settle_by-requires-then-d-lt2
 settle_by-requires-then-d-lt2 c =
     let v = variable_here c.requires.standing.0 c.requires.placed in
     let u = inputs_here c.requires.standing.0 c.requires.placed (whole_one _ _ _ _ _ _ _ (is_whole (goal.at.settle_by-requires-then-d-lt2 c).Then-is_throughout) c.if-d-eq0.false (omega (arith, c.if-d-lt2.true)) refl) in
-    record { trailing = (c.requires.standing.0.trailing, omega arith); four = (v, u, v, v) }
+    record { trailing = c.requires.standing.0.trailing; four = (v, u, v, v) }
 
 pub returns-then-d-lt2 : goal.returns-then-d-lt2
 returns-then-d-lt2 c =
@@ -61,29 +61,29 @@ returns-then-is_throughout c =
 
 pub settle_by-requires-then-a-eq0 : goal.settle_by-requires-then-a-eq0
 settle_by-requires-then-a-eq0 c =
-    let v = variable_here c.requires.standing.0 c.requires.placed in record { trailing = (c.requires.standing.0.trailing, omega arith); four = (v, v, v, v) }
+    let v = variable_here c.requires.standing.0 c.requires.placed in record { trailing = c.requires.standing.0.trailing; four = (v, v, v, v) }
 
 pub returns-then-a-eq0 : goal.returns-then-a-eq0
 returns-then-a-eq0 c =
-    visited_here c.requires.standing.0 c.requires.placed (level_true _ _ _ _ _ _ _ (level_rule c.is_throughout.ensures c.requires.standing.2 c.if-is_throughout.false).1 c.if-a-eq0.true)
+    visited_here c.requires.standing.0 c.requires.placed (level_true _ _ _ _ _ _ _ (level_rule c.is_throughout.ensures c.requires.standing.1 c.if-is_throughout.false).1 c.if-a-eq0.true)
     (settled_named (patterns _ 0 0 0).6 c.settle_by-then-a-eq0.ensures)
 
 pub settle_by-requires-then-d-eq0-2 : goal.settle_by-requires-then-d-eq0-2
 settle_by-requires-then-d-eq0-2 c =
-    let v = variable_here c.requires.standing.0 c.requires.placed in record { trailing = (c.requires.standing.0.trailing, omega arith); four = (v, v, v, v) }
+    let v = variable_here c.requires.standing.0 c.requires.placed in record { trailing = c.requires.standing.0.trailing; four = (v, v, v, v) }
 
 pub returns-then-d-eq0-2 : goal.returns-then-d-eq0-2
 returns-then-d-eq0-2 c =
-    visited_here c.requires.standing.0 c.requires.placed (level_empty _ _ _ _ _ _ _ (level_rule c.is_throughout.ensures c.requires.standing.2 c.if-is_throughout.false).1 c.if-a-eq0.false c.if-d-eq0-2.true)
+    visited_here c.requires.standing.0 c.requires.placed (level_empty _ _ _ _ _ _ _ (level_rule c.is_throughout.ensures c.requires.standing.1 c.if-is_throughout.false).1 c.if-a-eq0.false c.if-d-eq0-2.true)
     (settled_named (patterns _ 0 0 0).5 c.settle_by-then-d-eq0-2.ensures)
 
 pub overflow_sub-q : goal.overflow_sub-q
 overflow_sub-q c =
     omega (
       arith,
-      (level_position c.requires.placed (level_rule c.is_throughout.ensures c.requires.standing.2 c.if-is_throughout.false).1).1 (omega (arith, c.if-a-eq0.false))
+      (level_position c.requires.placed (level_rule c.is_throughout.ensures c.requires.standing.1 c.if-is_throughout.false).1).1 (omega (arith, c.if-a-eq0.false))
           (omega (arith, c.if-d-eq0-2.false)),
-      c.requires.standing.1,
+      c.args.wiring.now.every,
     )
 
 pub overflow_add-first : goal.overflow_add-first
@@ -96,7 +96,7 @@ pub overflow_add-i : goal.overflow_add-i
 overflow_add-i c =
     omega (
       arith,
-      (level_position c.requires.placed (level_rule c.is_throughout.ensures c.requires.standing.2 c.if-is_throughout.false).1).0,
+      (level_position c.requires.placed (level_rule c.is_throughout.ensures c.requires.standing.1 c.if-is_throughout.false).1).0,
       c.requires.standing.0.bounded.steps,
       c.requires.standing.0.bounded.left,
     )
@@ -105,7 +105,7 @@ pub overflow_add-left-2 : goal.overflow_add-left-2
 overflow_add-left-2 c =
     omega (
       arith,
-      (level_position c.requires.placed (level_rule c.is_throughout.ensures c.requires.standing.2 c.if-is_throughout.false).1).0,
+      (level_position c.requires.placed (level_rule c.is_throughout.ensures c.requires.standing.1 c.if-is_throughout.false).1).0,
       c.requires.standing.0.bounded.steps,
       c.requires.standing.0.bounded.left,
     )
@@ -114,11 +114,11 @@ pub settle_step-requires : goal.settle_step-requires
 settle_step-requires c = (
   c.requires.standing.0.trailing,
   variable_here c.requires.standing.0 c.requires.placed,
-  inputs_here c.requires.standing.0 c.requires.placed (level_gate_lem _ _ _ _ _ _ _ (level_rule c.is_throughout.ensures c.requires.standing.2 c.if-is_throughout.false).1 c.if-a-eq0.false
-      c.if-d-eq0-2.false refl (omega (arith, c.requires.standing.1)) refl),
+  inputs_here c.requires.standing.0 c.requires.placed (level_gate_lem _ _ _ _ _ _ _ (level_rule c.is_throughout.ensures c.requires.standing.1 c.if-is_throughout.false).1 c.if-a-eq0.false
+      c.if-d-eq0-2.false refl (omega (arith, c.args.wiring.now.every)) refl),
 )
 
 pub returns : goal.returns
 returns c =
-    visited_here c.requires.standing.0 c.requires.placed (level_gate_lem _ _ _ _ _ _ _ (level_rule c.is_throughout.ensures c.requires.standing.2 c.if-is_throughout.false).1 c.if-a-eq0.false c.if-d-eq0-2.false refl
-    (omega (arith, c.requires.standing.1)) refl) c.settle_step.ensures
+    visited_here c.requires.standing.0 c.requires.placed (level_gate_lem _ _ _ _ _ _ _ (level_rule c.is_throughout.ensures c.requires.standing.1 c.if-is_throughout.false).1 c.if-a-eq0.false c.if-d-eq0-2.false refl
+    (omega (arith, c.args.wiring.now.every)) refl) c.settle_step.ensures

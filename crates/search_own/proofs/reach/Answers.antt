@@ -13,32 +13,32 @@ pub reach_chop-requires : goal.reach_chop-requires
 reach_chop-requires c =
     let b = c.args.block in
     let e = chop_rule b.rule (sym c.is_chop.ensures ∙ c.if-is_chop.true) in
-    (c.requires.0, c.requires.1, e, c.requires.2, own_chop c.args.k b c.requires.3 (omega (arith, c.requires.3)) e)
+    (c.requires.0, e, own_chop c.args.wiring.now.k b c.requires.1 (omega (arith, c.requires.1)) e)
 
 pub returns-then-is_chop : goal.returns-then-is_chop
 returns-then-is_chop c =
-    reached_there (omega (arith, c.requires.3)) c.reach_chop.ensures
+    reached_there (omega (arith, c.requires.1)) c.reach_chop.ensures
 
 pub visit_line-requires : goal.visit_line-requires
 visit_line-requires c =
     let b = c.args.block in
     let e = sym c.form_of.ensures ∙ c.in-Line.is in
-    (c.requires.0, e, line_below c.args.k b c.requires.3 (omega (arith, c.requires.3)) e)
+    (c.requires.0, e, line_below c.args.wiring.now.k b c.requires.1 (omega (arith, c.requires.1)) e)
 
 pub reach_level-requires : goal.reach_level-requires
 reach_level-requires c =
-    let b = c.args.block in record { node = (c.requires.0, c.requires.1, subst (InBlock c.args.k b) (omega (arith, c.requires.3)) c.requires.3); rule_value = (sym c.form_of.ensures ∙ c.in-Intervals.is, sym c.is_chop.ensures ∙ c.if-is_chop.false, c.requires.2.room, c.requires.2.intervals_to) }
+    let b = c.args.block in record { node = (c.requires.0, subst (InBlock c.args.wiring.now.k b) (omega (arith, c.requires.1)) c.requires.1); rule_value = (sym c.form_of.ensures ∙ c.in-Intervals.is, sym c.is_chop.ensures ∙ c.if-is_chop.false) }
 
 pub returns-in-Line : goal.returns-in-Line
 returns-in-Line c =
-    let a = c.args in let b = a.block in let e = sym c.form_of.ensures ∙ c.in-Line.is in
-    reached (own_suffices a.c a.k a.u b _ (line_below a.k b c.requires.3 (omega (arith, c.requires.3)) e) e c.requires.0.laid (omega (arith, c.requires.3))) c.visit_line.ensures
+    let a = c.args in let w = a.wiring.now in let b = a.block in let e = sym c.form_of.ensures ∙ c.in-Line.is in
+    reached (own_suffices w.c w.k a.u b _ (line_below w.k b c.requires.1 (omega (arith, c.requires.1)) e) e c.requires.0.laid (omega (arith, c.requires.1))) c.visit_line.ensures
 
 pub returns-in-Intervals : goal.returns-in-Intervals
 returns-in-Intervals c =
-    reached_there (omega (arith, c.requires.3)) c.reach_level.ensures
+    reached_there (omega (arith, c.requires.1)) c.reach_level.ensures
 
 pub returns-in-Triples : goal.returns-in-Triples
 returns-in-Triples c =
-    no_triples c.args.k c.args.block c.args.block.rule (sym c.form_of.ensures ∙ c.in-Triples.is)
+    no_triples c.args.wiring.now.k c.args.block c.args.block.rule (sym c.form_of.ensures ∙ c.in-Triples.is)
     c.requires.0.laid.apart

@@ -10,26 +10,26 @@ use Rattle.search_fanout.proofs.Stands.{intervals_stand}
 use Rattle.search_own_chop.proofs.Places.{interval_here, before_at, interval_clauses}
 use Rattle.search_own_chop.proofs.reach_interval.Goals as goal
 
-pub place-requires : goal.place-requires
-place-requires c =
+pub triple_place-requires : goal.triple_place-requires
+triple_place-requires c =
     let o = c.interval_at-v.ensures.0 in
-    (omega arith, omega (arith, o.starts, o.ends), c.requires.0.fine.bounded.steps, c.requires.3.rows_of, c.requires.3.starts_of)
+    (omega arith, omega (arith, o.starts, o.ends), c.requires.0.fine.bounded.steps)
 
 pub visit_at-requires : goal.visit_at-requires
 visit_at-requires c =
-    let a = c.args in
+    let a = c.args in let w = a.wiring.now in
     let v = c.interval_at-v.result in let o = c.interval_at-v.ensures in
     let b = a.block in
-    let h = halves b c.beyond.ensures refl c.intervals_of-whole.ensures in record {
-      standing = (intervals_stand c.requires.0 c.requires.2 h, c.requires.1, c.requires.3.rows_of);
+    let h = halves b c.beyond-w.ensures refl c.intervals_of-whole.ensures in record {
+      standing = intervals_stand c.requires.0 c.requires.1 h;
       placed = (
-        interval_here a.k b c.beyond.result c.intervals_of-whole.ensures v o,
-        before_at a.k b c.beyond.result c.intervals_of-whole.ensures v o.0 c.place.ensures.0,
+        interval_here w.k b c.beyond-w.result c.intervals_of-whole.ensures v o,
+        before_at w.k b c.beyond-w.result c.intervals_of-whole.ensures v o.0 c.triple_place.ensures.0,
       );
     }
 
 pub returns : goal.returns
 returns c =
-    let a = c.args in
-    reached (interval_suffices a.c a.k _ a.block c.requires.2 c.requires.0.laid refl c.requires.4)
-    (visited_named (interval_clauses a.c a.k a.block a.x c.beyond.ensures c.intervals_of-whole.ensures) c.visit_at.ensures)
+    let a = c.args in let w = a.wiring.now in
+    reached (interval_suffices w.c w.k _ a.block c.requires.1 c.requires.0.laid refl c.requires.2)
+    (visited_named (interval_clauses w.c w.k a.block a.x c.beyond-w.ensures c.intervals_of-whole.ensures) c.visit_at.ensures)

@@ -7,14 +7,14 @@ use Rattle.search_own_level.proofs.After.{interval_here, longer_placed, above_pl
 use Rattle.search_own_level.proofs.visit_after.Goals as goal
 
 pub visit_level-r-requires : goal.visit_level-r-requires
-visit_level-r-requires c = record { standing = (c.requires.standing.0, c.requires.standing.1, (_, c.requires.standing.2)); placed = c.requires.placed }
+visit_level-r-requires c = record { standing = (c.requires.standing.0, (_, c.requires.standing.1)); placed = c.requires.placed }
 
 pub returns-then-r : goal.returns-then-r
 returns-then-r c =
     let R = after_first _ _ _ _ _ c.args.p in visited_named R.1 (visited_stop c.visit_level-r.ensures R.0 c.if-r.true)
 
 pub overflow_add-i : goal.overflow_add-i
-overflow_add-i c = omega (arith, interval_here c.requires.standing.2 c.requires.placed, c.requires.standing.0.bounded.steps)
+overflow_add-i c = omega (arith, interval_here c.requires.standing.1 c.requires.placed, c.requires.standing.0.bounded.steps)
 
 pub returns-then-i-d : goal.returns-then-i-d
 returns-then-i-d c = visited_named (after_one _ _ _ _ _ c.args.p c.if-i-d.true) c.visit_level-r.ensures
@@ -24,7 +24,7 @@ overflow_add-next c = omega (arith, place_small c.requires.standing.0 c.requires
 
 pub visit_level-s-requires : goal.visit_level-s-requires
 visit_level-s-requires c =
-    record { standing = (stands c.requires.standing.0 c.visit_level-r.auto.values c.visit_level-r.ensures.grown.trailing, c.requires.standing.1, (_, c.requires.standing.2)); placed = longer_placed c.requires.standing.2 c.requires.placed c.if-i-d.false }
+    record { standing = (stands c.requires.standing.0 c.visit_level-r.auto.values c.visit_level-r.ensures.grown.trailing, (_, c.requires.standing.1)); placed = longer_placed c.requires.standing.1 c.requires.placed c.if-i-d.false }
 
 pub returns-then-s : goal.returns-then-s
 returns-then-s c =
@@ -36,15 +36,15 @@ returns-then-a-levels c =
     visited_named (after_two _ _ _ _ _ c.args.p c.if-i-d.false c.if-a-levels.true)
     (visited_then c.visit_level-r.ensures _ c.if-r.false c.visit_level-s.ensures)
 
-pub overflow_add-next-2 : goal.overflow_add-next-2
-overflow_add-next-2 c =
-    omega (arith, place_small c.requires.standing.0 (above_placed c.requires.standing.2 c.requires.placed c.if-i-d.false c.requires.standing.1 c.if-a-levels.false))
+pub overflow_add-above : goal.overflow_add-above
+overflow_add-above c =
+    omega (arith, place_small c.requires.standing.0 (above_placed c.requires.standing.1 c.requires.placed c.if-i-d.false c.args.wiring.now.every c.if-a-levels.false))
 
 pub visit_level-t-requires : goal.visit_level-t-requires
 visit_level-t-requires c =
-    record { standing = (stands (stands c.requires.standing.0 c.visit_level-r.auto.values c.visit_level-r.ensures.grown.trailing) c.visit_level-s.auto.values c.visit_level-s.ensures.grown.trailing, c.requires.standing.1, (_, c.requires.standing.2)); placed = above_placed c.requires.standing.2 c.requires.placed c.if-i-d.false c.requires.standing.1 c.if-a-levels.false }
+    record { standing = (stands (stands c.requires.standing.0 c.visit_level-r.auto.values c.visit_level-r.ensures.grown.trailing) c.visit_level-s.auto.values c.visit_level-s.ensures.grown.trailing, (_, c.requires.standing.1)); placed = above_placed c.requires.standing.1 c.requires.placed c.if-i-d.false c.args.wiring.now.every c.if-a-levels.false }
 
 pub returns : goal.returns
 returns c =
-    visited_named (after_three _ _ _ _ _ c.args.p c.if-i-d.false c.requires.standing.1 c.if-a-levels.false)
+    visited_named (after_three _ _ _ _ _ c.args.p c.if-i-d.false c.args.wiring.now.every c.if-a-levels.false)
     (visited_then (visited_then c.visit_level-r.ensures _ c.if-r.false c.visit_level-s.ensures) _ c.if-s.false c.visit_level-t.ensures)

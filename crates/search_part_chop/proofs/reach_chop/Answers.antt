@@ -16,57 +16,52 @@ overflow_sub-u c = omega (arith, c.among.ensures.here c.if-among.true)
 
 pub interval_at-v-requires : goal.interval_at-v-requires
 interval_at-v-requires c =
-    (omega (arith, c.among.ensures.here c.if-among.true, c.requires.node.1), c.requires.tables.room, c.requires.tables.intervals_to)
+    omega (arith, c.among.ensures.here c.if-among.true, c.args.wiring.now.every)
 
 pub visit_first-requires : goal.visit_first-requires
 visit_first-requires c =
     let o = c.interval_at-v.ensures.0 in (
-      triples_stand c.requires.node.0 c.requires.node.2 (halves c.args.block c.beyond.ensures c.triples_of-triples.ensures refl),
-      c.requires.tables.rows_of,
-      cut_rule c.beyond.result c.args.block c.triples_of-triples.ensures,
+      triples_stand c.requires.0 c.requires.1 (halves c.args.block c.beyond-w.ensures c.triples_of-triples.ensures refl),
+      cut_rule c.beyond-w.result c.args.block c.triples_of-triples.ensures,
       o.starts,
       o.ends,
-      c.requires.tables.starts_of,
     )
 
 pub returns-then-among : goal.returns-then-among
 returns-then-among c =
-    let b = c.args.block in let v = c.interval_at-v.result in
+    let b = c.args.block in let w = c.args.wiring.now in let v = c.interval_at-v.result in
     let o = c.interval_at-v.ensures in
-    reached (first_suffices c.args.c c.args.k c.args.u b c.requires.node.2 c.requires.node.0.laid v.i v.j o.0.starts o.0.ends
+    reached (first_suffices w.c w.k c.args.u b c.requires.1 c.requires.0.laid v.i v.j o.0.starts o.0.ends
     (omega (arith, c.among.ensures.here c.if-among.true, o.1)))
-    (visited_named (first_named c.args.c c.args.k b v.i v.j c.beyond.ensures c.triples_of-triples.ensures) c.visit_first.ensures)
+    (visited_named (first_named w.c w.k b v.i v.j c.beyond-w.ensures c.triples_of-triples.ensures) c.visit_first.ensures)
 
 pub overflow_sub-u-then-among-2 : goal.overflow_sub-u-then-among-2
 overflow_sub-u-then-among-2 c = omega (arith, c.among-2.ensures.here c.if-among-2.true)
 
 pub interval_at-v-requires-then-among-2 : goal.interval_at-v-requires-then-among-2
 interval_at-v-requires-then-among-2 c =
-    (omega (arith, c.among-2.ensures.here c.if-among-2.true, c.requires.node.1), c.requires.tables.room, c.requires.tables.intervals_to)
+    omega (arith, c.among-2.ensures.here c.if-among-2.true, c.args.wiring.now.every)
 
 pub visit_second-requires : goal.visit_second-requires
 visit_second-requires c =
     let o = c.interval_at-v-then-among-2.ensures.0 in (
-      triples_stand c.requires.node.0 c.requires.node.2 (halves c.args.block c.beyond.ensures c.triples_of-triples.ensures refl),
-      c.requires.node.1,
-      cut_rule c.beyond.result c.args.block c.triples_of-triples.ensures,
+      triples_stand c.requires.0 c.requires.1 (halves c.args.block c.beyond-w.ensures c.triples_of-triples.ensures refl),
+      cut_rule c.beyond-w.result c.args.block c.triples_of-triples.ensures,
       o.starts,
       o.ends,
-      c.requires.tables.rows_of,
-      c.requires.tables.starts_of,
     )
 
 pub returns-then-among-2 : goal.returns-then-among-2
 returns-then-among-2 c =
-    let a = c.args in let b = a.block in let v = c.interval_at-v-then-among-2.result in
+    let a = c.args in let w = a.wiring.now in let b = a.block in let v = c.interval_at-v-then-among-2.result in
     let o = c.interval_at-v-then-among-2.ensures in
-    reached (second_suffices a.c a.k a.u b c.requires.node.2 c.requires.node.0.laid v.i v.j o.0.starts o.0.ends
+    reached (second_suffices w.c w.k a.u b c.requires.1 c.requires.0.laid v.i v.j o.0.starts o.0.ends
     (omega (arith, c.among-2.ensures.here c.if-among-2.true, o.1)))
-    (visited_named (second_named a.c a.k b v.i v.j c.beyond.ensures c.triples_of-triples.ensures) c.visit_second.ensures)
+    (visited_named (second_named w.c w.k b v.i v.j c.beyond-w.ensures c.triples_of-triples.ensures) c.visit_second.ensures)
 
 pub returns : goal.returns
 returns c =
-    let b = c.args.block in let a : c.args.all ≡ count_of c.args.k = c.requires.node.1 in
-    stopped c.done.ensures (unread (chop_away c.args.c c.args.k c.args.u b c.requires.node.0.laid c.requires.node.3 c.requires.node.2
+    let b = c.args.block in let w = c.args.wiring.now in let a : w.all ≡ count_of w.k = c.args.wiring.now.every in
+    stopped c.done.ensures (unread (chop_away w.c w.k c.args.u b c.requires.0.laid c.requires.2 c.requires.1
     (λ f. c.among.ensures.away c.if-among.false (omega (arith, f, a))) (λ f. c.among-2.ensures.away c.if-among-2.false (omega (arith, f, a))))
-    c.requires.node.0.trailing)
+    c.requires.0.trailing)

@@ -7,13 +7,13 @@ use Rattle.search_parts.proofs.reach.Goals as goal
 
 pub reach_chop-requires : goal.reach_chop-requires
 reach_chop-requires c =
-    record { node = (c.requires.node.0, c.requires.node.1, chop_rule c.args.block.rule (sym c.is_chop.ensures ∙ c.if-is_chop.true), c.requires.node.2, c.requires.node.3); tables = c.requires.tables }
+    (c.requires.0, chop_rule c.args.block.rule (sym c.is_chop.ensures ∙ c.if-is_chop.true), c.requires.1, c.requires.2)
 
 pub reach_instant-requires : goal.reach_instant-requires
 reach_instant-requires c =
-    record { node = c.requires.node; rule_value = (sym c.form_of.ensures ∙ c.in-Intervals.is, sym c.is_chop.ensures ∙ c.if-is_chop.false, c.requires.tables.rows_of) }
+    record { node = c.requires; rule_value = (sym c.form_of.ensures ∙ c.in-Intervals.is, sym c.is_chop.ensures ∙ c.if-is_chop.false) }
 
 pub returns-in-Triples : goal.returns-in-Triples
 returns-in-Triples c =
     let a = c.args in
-    no_triples a.k a.block a.block.rule (sym c.form_of.ensures ∙ c.in-Triples.is) c.requires.node.0.laid.apart
+    no_triples a.wiring.now.k a.block a.block.rule (sym c.form_of.ensures ∙ c.in-Triples.is) c.requires.0.laid.apart

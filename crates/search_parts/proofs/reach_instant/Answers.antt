@@ -13,19 +13,19 @@ use Rattle.search_parts.proofs.reach_instant.Goals as goal
 pub returns-then-not-among : goal.returns-then-not-among
 returns-then-not-among c =
     let b = c.args.block in
-    stopped c.done.ensures (unread (level_away c.args.c c.args.k c.args.u b c.requires.node.0.laid c.requires.node.2 b.rule refl c.requires.rule_value.0 c.requires.rule_value.1
+    stopped c.done.ensures (unread (level_away c.args.wiring.now.c c.args.wiring.now.k c.args.u b c.requires.node.0.laid c.requires.node.1 b.rule refl c.requires.rule_value.0 c.requires.rule_value.1
     (c.among.ensures.away c.if-not-among.true)) c.requires.node.0.trailing)
 
-pub overflow_sub-u : goal.overflow_sub-u
-overflow_sub-u c = omega (arith, c.among.ensures.here c.if-not-among.false)
+pub overflow_sub-t : goal.overflow_sub-t
+overflow_sub-t c = omega (arith, c.among.ensures.here c.if-not-among.false)
 
 pub visit_instant-requires : goal.visit_instant-requires
 visit_instant-requires c =
     let f = c.among.ensures.here c.if-not-among.false in
-    (whole_stands c.requires.node.0 c.requires.rule_value.1, c.requires.node.1, rising_known c.args.block.rule c.requires.rule_value.0 c.requires.rule_value.1 c.rise_of-rise.ensures, omega (arith, f), c.requires.rule_value.2)
+    (whole_stands c.requires.node.0 c.requires.rule_value.1, rising_known c.args.block.rule c.requires.rule_value.0 c.requires.rule_value.1 c.rise_of-rise.ensures, omega (arith, f))
 
 pub returns : goal.returns
 returns c =
     let b = c.args.block in let f = c.among.ensures.here c.if-not-among.false in
-    reached (instant_suffices c.args.c c.args.k c.args.u b (rising_known b.rule c.requires.rule_value.0 c.requires.rule_value.1 c.rise_of-rise.ensures) c.requires.node.0.laid
+    reached (instant_suffices c.args.wiring.now.c c.args.wiring.now.k c.args.u b (rising_known b.rule c.requires.rule_value.0 c.requires.rule_value.1 c.rise_of-rise.ensures) c.requires.node.0.laid
     (omega (arith, f)) (omega (arith, f))) c.visit_instant.ensures

@@ -1,63 +1,62 @@
 -- Each pattern's table is compared with what its clauses force, entry by entry (Table.antt).
--- The patterns are 0 to 7, so the last arm is 7.
+-- Only a step's goes by the fourth value.
 use mathlib.Core.Path.{refl}
-use native.Mathlib.Omega.{arith}
-use Rattle.search_patterns.proofs.Table.{copy_table, inverse_table, both_table, either_table, step_table, low_table, high_table, raised_table, forced_three, forced_four, last_gate}
+use Rattle.search_patterns.specs.declared.Pattern.TheVariants.{Copy, Inverse, Both, Either, Step, Low, High, Raised}
+use Rattle.search_patterns.proofs.Table.{table_for, forced_three, forced_four}
 use Rattle.search_patterns.proofs.forced.Goals as goal
 
-pub returns-in-0 : goal.returns-in-0
-unfolding copy_table
-returns-in-0 c =
+pub returns-in-Copy : goal.returns-in-Copy
+unfolding table_for
+returns-in-Copy c =
     let s = c.args in
-    forced_three 0 s.a s.b s.c s.d (omega arith) c.requires.1 c.requires.2 c.requires.3 c.requires.4 c.in-0.is refl c.wide.ensures c.wide-2.ensures
+    forced_three Copy s.a s.b s.c s.d c.requires.0 c.requires.1 c.requires.2 c.requires.3 c.in-Copy.is refl c.wide.ensures c.wide-2.ensures
     c.wide-3.ensures
 
-pub returns-in-1 : goal.returns-in-1
-unfolding inverse_table
-returns-in-1 c =
+pub returns-in-Inverse : goal.returns-in-Inverse
+unfolding table_for
+returns-in-Inverse c =
     let s = c.args in
-    forced_three 1 s.a s.b s.c s.d (omega arith) c.requires.1 c.requires.2 c.requires.3 c.requires.4 c.in-1.is refl c.wide.ensures c.wide-2.ensures
+    forced_three Inverse s.a s.b s.c s.d c.requires.0 c.requires.1 c.requires.2 c.requires.3 c.in-Inverse.is refl c.wide.ensures c.wide-2.ensures
     c.wide-3.ensures
 
-pub returns-in-2 : goal.returns-in-2
-unfolding both_table
-returns-in-2 c =
+pub returns-in-Both : goal.returns-in-Both
+unfolding table_for
+returns-in-Both c =
     let s = c.args in
-    forced_three 2 s.a s.b s.c s.d (omega arith) c.requires.1 c.requires.2 c.requires.3 c.requires.4 c.in-2.is refl c.wide.ensures c.wide-2.ensures
+    forced_three Both s.a s.b s.c s.d c.requires.0 c.requires.1 c.requires.2 c.requires.3 c.in-Both.is refl c.wide.ensures c.wide-2.ensures
     c.wide-3.ensures
 
-pub returns-in-3 : goal.returns-in-3
-unfolding either_table
-returns-in-3 c =
+pub returns-in-Either : goal.returns-in-Either
+unfolding table_for
+returns-in-Either c =
     let s = c.args in
-    forced_three 3 s.a s.b s.c s.d (omega arith) c.requires.1 c.requires.2 c.requires.3 c.requires.4 c.in-3.is refl c.wide.ensures c.wide-2.ensures
+    forced_three Either s.a s.b s.c s.d c.requires.0 c.requires.1 c.requires.2 c.requires.3 c.in-Either.is refl c.wide.ensures c.wide-2.ensures
     c.wide-3.ensures
 
-pub returns-in-4 : goal.returns-in-4
-unfolding step_table
-returns-in-4 c =
+pub returns-in-Step : goal.returns-in-Step
+unfolding table_for
+returns-in-Step c =
     let s = c.args in
-    forced_four 4 s.a s.b s.c s.d (omega arith) c.requires.1 c.requires.2 c.requires.3 c.requires.4 c.in-4.is refl c.wide.ensures c.wide-2.ensures
-    c.wide-3.ensures c.wide-in-4.ensures
+    forced_four Step s.a s.b s.c s.d c.requires.0 c.requires.1 c.requires.2 c.requires.3 c.in-Step.is refl c.wide.ensures c.wide-2.ensures
+    c.wide-3.ensures c.wide-in-Step.ensures
 
-pub returns-in-5 : goal.returns-in-5
-unfolding low_table
-returns-in-5 c =
+pub returns-in-Low : goal.returns-in-Low
+unfolding table_for
+returns-in-Low c =
     let s = c.args in
-    forced_three 5 s.a s.b s.c s.d (omega arith) c.requires.1 c.requires.2 c.requires.3 c.requires.4 c.in-5.is refl c.wide.ensures c.wide-2.ensures
+    forced_three Low s.a s.b s.c s.d c.requires.0 c.requires.1 c.requires.2 c.requires.3 c.in-Low.is refl c.wide.ensures c.wide-2.ensures
     c.wide-3.ensures
 
-pub returns-in-6 : goal.returns-in-6
-unfolding high_table
-returns-in-6 c =
+pub returns-in-High : goal.returns-in-High
+unfolding table_for
+returns-in-High c =
     let s = c.args in
-    forced_three 6 s.a s.b s.c s.d (omega arith) c.requires.1 c.requires.2 c.requires.3 c.requires.4 c.in-6.is refl c.wide.ensures c.wide-2.ensures
+    forced_three High s.a s.b s.c s.d c.requires.0 c.requires.1 c.requires.2 c.requires.3 c.in-High.is refl c.wide.ensures c.wide-2.ensures
     c.wide-3.ensures
 
-pub returns-in_default : goal.returns-in_default
-unfolding raised_table
-returns-in_default c =
+pub returns-in-Raised : goal.returns-in-Raised
+unfolding table_for
+returns-in-Raised c =
     let s = c.args in
-    forced_three 7 s.a s.b s.c s.d (omega arith) c.requires.1 c.requires.2 c.requires.3 c.requires.4
-    (let q = c.in_default.in_default-own.rest in last_gate c.requires.0 q.0.0.0.0.0.0.1 q.0.0.0.0.0.1 q.0.0.0.0.1 q.0.0.0.1 q.0.0.1 q.0.1
-    q.1) refl c.wide.ensures c.wide-2.ensures c.wide-3.ensures
+    forced_three Raised s.a s.b s.c s.d c.requires.0 c.requires.1 c.requires.2 c.requires.3 c.in-Raised.is refl c.wide.ensures c.wide-2.ensures
+    c.wide-3.ensures

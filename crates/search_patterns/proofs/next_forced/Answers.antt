@@ -8,8 +8,7 @@ use Rattle.search_patterns.proofs.next_forced.Goals as goal
 
 pub forced-e-requires : goal.forced-e-requires
 forced-e-requires c =
-    let f = c.requires.by_index.0 in (
-      c.requires.by_index.1,
+    let f = c.requires.by_index in (
       omega (arith, c.value-a.ensures, f (c.args.v - 1)),
       omega (arith, c.value-b.ensures, f (c.args.x - 1)),
       omega (arith, c.value-c.ensures, f (c.args.y - 1)),

@@ -1,6 +1,6 @@
 -- Each turn adds a literal of the closure that was not there, until none is forced or one is opposed (Steps.antt).
 -- There are no more variables than values, so it ends.
-use mathlib.Core.Path.{◌≡◌, ◌∙◌}
+use mathlib.Core.Path.{◌≡◌}
 use Prim.Native.Nat.{◌-◌}
 use lib.ListN.{length}
 use Rattle.search_patterns.specs.Patterns.{pattern_of, among, renamed}

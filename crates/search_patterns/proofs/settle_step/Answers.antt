@@ -3,6 +3,7 @@
 use mathlib.Core.Path.{refl}
 use Prim.Native.Nat.{◌-◌}
 use native.Mathlib.Omega.{arith}
+use Rattle.search_patterns.specs.declared.Pattern.TheVariants.{Step}
 use Rattle.search_patterns.proofs.Steps.{known, nothing_forced, visits_none, settled, patterns, settled_named, ended_named}
 use Rattle.search_patterns.proofs.settle_step.Goals as goal
 
@@ -20,8 +21,8 @@ pub returns-then-step_quiet : goal.returns-then-step_quiet
 returns-then-step_quiet c =
     let a = c.args in
     settled_named (patterns a.v a.p a.q a.s).4
-    (settled (visits_none _ c.requires.0) (nothing_forced _ a.v a.p a.q a.s c.requires.1.0 c.requires.2.0.0 c.requires.2.1.0 c.requires.2.2.0 4
-    (known 4 c.value-a.ensures c.value-b.ensures c.value-c.ensures c.value-d.ensures refl)
+    (settled (visits_none _ c.requires.0) (nothing_forced _ a.v a.p a.q a.s c.requires.1.0 c.requires.2.0.0 c.requires.2.1.0 c.requires.2.2.0 Step
+    (known Step c.value-a.ensures c.value-b.ensures c.value-c.ensures c.value-d.ensures refl)
     (c.step_quiet.ensures c.if-step_quiet.true)))
 
 pub returns : goal.returns

@@ -1,7 +1,7 @@
 -- After every literal taken what is held has the closure that it had at the start,
 -- and what is due is due since the literals still to take.
-use mathlib.Core.Path.{◌≡◌, refl, ◌∙◌}
-use Prim.Native.Nat.{◌-◌, ◌<◌}
+use mathlib.Core.Path.{refl, ◌∙◌}
+use Prim.Native.Nat.{◌<◌}
 use native.Mathlib.Omega.{arith}
 use borrow.Author.Rules.{rules}
 use lib.ListN.{length}
@@ -10,11 +10,8 @@ use Rattle.search_fanout.proofs.Pending.{next_variable, pending_step, pending_fi
 use Rattle.search_fanout.proofs.Ground.{ground_still}
 use Rattle.search_queue.proofs.close.Goals as goal
 
-pub all-all-requires : goal.all-all-requires
-all-all-requires c = let p = c.requires.on_ground in (p.0.steps, p.1.rows_of)
-
 pub loop-h-init : goal.loop-h-init
-loop-h-init c = let p = c.requires.pending in (refl, refl, grown_none p.since.trailing, refl, p, c.all-all.ensures.0)
+loop-h-init c = let p = c.requires.pending in (refl, refl, grown_none p.since.trailing, refl, p)
 
 pub offset_bounds-trail-h : goal.offset_bounds-trail-h
 offset_bounds-trail-h c =
@@ -27,7 +24,7 @@ bounds-trail-h c = let i = c.loop-h.invariant in omega (arith, i.1, pending_fits
 pub reach-r-requires : goal.reach-r-requires
 reach-r-requires c =
     let i = c.loop-h.invariant in
-    record { on_ground = (ground_still i.0 c.requires.on_ground.0, i.2.trailing); tables = (c.requires.on_ground.1, i.5, next_variable i.4 (omega (arith, c.loop-h-test.true))) }
+    record { on_ground = (ground_still i.0 c.requires.on_ground, i.2.trailing); variable = next_variable i.4 (omega (arith, c.loop-h-test.true)) }
 
 pub returns-then-r : goal.returns-then-r
 returns-then-r c = let i = c.loop-h.invariant in queue_clash i.2 i.3 c.reach-r.ensures c.if-r.true
@@ -46,7 +43,6 @@ loop-h-preserved c =
       grown_more i.2 e.grown,
       e.same ∙ i.3,
       pending_step i.4 (omega (arith, c.loop-h-test.true)) e c.if-r.false,
-      i.5,
     )
 
 pub returns : goal.returns

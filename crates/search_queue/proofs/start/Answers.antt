@@ -5,14 +5,16 @@ use Rattle.search_fanout.proofs.Ground.{ground_still}
 use Rattle.search_queue.proofs.start.Goals as goal
 
 pub sweep-r-requires : goal.sweep-r-requires
-sweep-r-requires c = let g = c.requires.on_ground.0 in record { c_le_max_channels = (g.channels, g.steps, g.few, g.low, c.requires.trailing, c.requires.on_ground.1.rows_of); variable = g.root; by_index = g.mentioned }
+sweep-r-requires c =
+    let g = c.requires.on_ground in
+    record { limits = (g.channels, g.steps, g.few, g.low, c.requires.trailing); variable = g.root; by_index = g.mentioned }
 
 pub returns-then-r : goal.returns-then-r
 returns-then-r c = swept_clash c.sweep-r.ensures c.if-r.true
 
 pub close-requires : goal.close-requires
 close-requires c =
-    let p = c.requires.on_ground in record { on_ground = (ground_still c.sweep-r.auto.values p.0, p.1); pending = swept_pending c.sweep-r.ensures c.if-r.false }
+    record { on_ground = ground_still c.sweep-r.auto.values c.requires.on_ground; pending = swept_pending c.sweep-r.ensures c.if-r.false }
 
 pub returns : goal.returns
 returns c =

@@ -1,7 +1,7 @@
 -- The gate at the cursor is that of the definition in its place, whose clauses the turn visits (Walk.antt of search_clauses).
 -- After the last turn all of the block is visited.
-use mathlib.Core.Path.{◌≡◌, refl, sym, ap, ◌∙◌}
-use Prim.Native.Nat.{ℕ, ◌-◌, ◌≤◌}
+use mathlib.Core.Path.{refl, sym, ap, ◌∙◌}
+use Prim.Native.Nat.{ℕ}
 use native.Mathlib.Omega.{arith}
 use Rattle.lists.specs.Listing.{rows}
 use Rattle.table_blocks.specs.Blocks.{defined_by}
@@ -13,7 +13,7 @@ use Rattle.search_clauses.proofs.Walk.{clauses_at_lem, asks_at, whole_block, sti
 use Rattle.search_sweep_node.proofs.sweep_block.Goals as goal
 
 pub start-cursor-requires : goal.start-cursor-requires
-start-cursor-requires c = let s = c.requires.bounded in (walkable s.0.0 s.0.1, s.2)
+start-cursor-requires c = let s = c.requires.bounded in (walkable s.0.0 s.0.1, c.args.wiring.now.tables.rows_of)
 
 pub loop-cursor-init : goal.loop-cursor-init
 loop-cursor-init c =
@@ -22,12 +22,12 @@ loop-cursor-init c =
       refl,
       omega (arith, e.1),
       e.0,
-      visited_named (ap (λ (n : ℕ). rows n (clauses_at (defined_by c.args.c c.args.k c.args.block))) (sym e.1))
+      visited_named (ap (λ (n : ℕ). rows n (clauses_at (defined_by c.args.wiring.now.c c.args.wiring.now.k c.args.block))) (sym e.1))
           (loop_begun _ c.requires.bounded.1),
     )
 
 pub gate_at-gate-requires : goal.gate_at-gate-requires
-gate_at-gate-requires c = let both = gate_asked c.requires.bounded.0.0 c.loop-cursor.invariant.3 c.loop-cursor-test.true c.requires.bounded.2 in record { bounded = both.0; placed = both.1 }
+gate_at-gate-requires c = let both = gate_asked c.requires.bounded.0.0 c.loop-cursor.invariant.3 c.loop-cursor-test.true c.args.wiring.now.tables.rows_of in record { bounded = both.0; placed = both.1 }
 
 pub overflow_add-block : goal.overflow_add-block
 overflow_add-block c = omega (arith, c.loop-cursor.invariant.3.few, c.loop-cursor-test.true, c.requires.bounded.0.0.first)
@@ -35,8 +35,8 @@ overflow_add-block c = omega (arith, c.loop-cursor.invariant.3.few, c.loop-curso
 pub visit-r-requires : goal.visit-r-requires
 visit-r-requires c =
     let i = c.loop-cursor.invariant in
-    let D = defined_by c.args.c c.args.k c.args.block in
-    let a = asks_at (gate_defined c.requires.bounded.0.0 i.3 c.loop-cursor-test.true c.gate_at-gate.ensures) (omega (arith, all_defined c.args.c i.3, c.loop-cursor-test.true))
+    let D = defined_by c.args.wiring.now.c c.args.wiring.now.k c.args.block in
+    let a = asks_at (gate_defined c.requires.bounded.0.0 i.3 c.loop-cursor-test.true c.gate_at-gate.ensures) (omega (arith, all_defined c.args.wiring.now.c i.3, c.loop-cursor-test.true))
     (still D i.0 c.requires.all_mentioned) in
     (i.4.grown.trailing, a.0, a.1, a.2)
 
@@ -59,7 +59,7 @@ loop-cursor-preserved c =
       c.visit-r.auto.trail ∙ i.1,
       omega (arith, c.loop-cursor-test.true, i.3.whole, e.0.whole, e.1),
       e.0,
-      visited_named (ap (λ (n : ℕ). rows n (clauses_at (defined_by s.c s.k s.block))) (sym e.1))
+      visited_named (ap (λ (n : ℕ). rows n (clauses_at (defined_by s.wiring.now.c s.wiring.now.k s.block))) (sym e.1))
           (loop_turn _ _ i.4 (clauses_at_lem (gate_defined c.requires.bounded.0.0 i.3 c.loop-cursor-test.true c.gate_at-gate.ensures)) c.visit-r.ensures c.if-r.false),
     )
 

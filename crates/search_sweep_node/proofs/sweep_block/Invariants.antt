@@ -1,6 +1,6 @@
 -- The gate at the cursor is that of the definition in its place, whose clauses the turn visits (Walk.antt of search_clauses).
 -- After the last turn all of the block is visited.
-use mathlib.Core.Path.{◌≡◌, ◌∙◌}
+use mathlib.Core.Path.{◌≡◌}
 use mathlib.Core.Bool.{false}
 use Prim.Native.Nat.{◌-◌, ◌≤◌}
 use lib.ListN.{length}
@@ -13,8 +13,8 @@ use Rattle.search_sweep_node.proofs.sweep_block.Given as goal
 
 abbrev pub invariant-loop-cursor : goal.invariant-loop-cursor
 invariant-loop-cursor l =
-    (length l.values ≡ length l.initial.values) × (length l.trail ≡ length l.initial.trail) × (l.cursor.place ≤ l.cursor.end) × Walks l.k l.block l.cursor
-    × Visited (rows l.cursor.place (clauses_at (defined_by l.c l.k l.block))) l.initial.values l.initial.trail l.top l.values l.trail (record { clash = false; top = l.t })
+    (length l.values ≡ length l.initial.values) × (length l.trail ≡ length l.initial.trail) × (l.cursor.place ≤ l.cursor.end) × Walks l.wiring.k l.block l.cursor
+    × Visited (rows l.cursor.place (clauses_at (defined_by l.wiring.c l.wiring.k l.block))) l.initial.values l.initial.trail l.top l.values l.trail (record { clash = false; top = l.t })
 
 abbrev pub decreases-loop-cursor : goal.decreases-loop-cursor
 decreases-loop-cursor l = l.cursor.end - l.cursor.place

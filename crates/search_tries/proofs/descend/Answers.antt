@@ -1,6 +1,6 @@
 -- The loop stands at a set of the tree (Standing.antt), with the tries made so far; a try is one more of them.
 -- The tree ends where the loop does: found, dead with no try high left to make, or with a try that the limit does not allow.
-use mathlib.Core.Path.{◌≡◌, refl, ◌∙◌}
+use mathlib.Core.Path.{refl, ◌∙◌}
 use Prim.Native.Nat.{◌-◌, ◌*◌, ◌<◌}
 use native.Mathlib.Omega.{arith}
 use borrow.Author.Rules.{rules}
@@ -8,27 +8,29 @@ use lib.ListN.{length-set}
 use Rattle.interval.specs.Limits.{max_steps}
 use Rattle.paper_grammar.specs.Limits.{max_channels}
 use Rattle.table_layout.proofs.Measure.{channels_few}
-use Rattle.search_fanout.proofs.Ground.{ground_still, few_channels}
+use Rattle.search_fanout.proofs.Ground.{ground_still}
 use Rattle.search_tries.proofs.Standing.{standing, low_found, low_spent, low_ready, low_room, low_on, high_dead, high_spent, high_room, high_ready, high_on}
 use Rattle.search_tries.proofs.descend.Goals as goal
 use Rattle.search_tries.proofs.descend.Goals.{Else-n-limit, Else-n-limit-2}
 
-pub overflow_mul-channels : goal.overflow_mul-channels
-overflow_mul-channels c = few_channels c.requires.ground_of.0
+pub channels-channels-requires : goal.channels-channels-requires
+channels-channels-requires c = let g = c.requires.on_ground in (g.channels, g.steps)
 
 pub loop-last-init : goal.loop-last-init
-loop-last-init c = (refl, refl, standing _ _ _ _ c.requires.holding refl (omega (arith, c.requires.ground_of.0.total)) _)
+loop-last-init c = (refl, refl, standing _ _ _ _ c.requires.holding refl (omega (arith, c.requires.on_ground.total)) _)
 
 pub returns-then-depth-eq0 : goal.returns-then-depth-eq0
-returns-then-depth-eq0 c = high_dead _ _ _ _ c.loop-last.invariant.2 c.if-last.true c.if-depth-eq0.true
+returns-then-depth-eq0 c =
+    rw (← c.channels-channels.ensures) (high_dead _ _ _ _ c.loop-last.invariant.2 c.if-last.true c.if-depth-eq0.true)
 
 pub returns-then-n-limit : goal.returns-then-n-limit
-returns-then-n-limit c = high_spent _ _ _ _ c.loop-last.invariant.2 c.if-last.true c.if-depth-eq0.false c.if-n-limit.true
+returns-then-n-limit c =
+    rw (← c.channels-channels.ensures) (high_spent _ _ _ _ c.loop-last.invariant.2 c.if-last.true c.if-depth-eq0.false c.if-n-limit.true)
 
 -- there is a level for every channel variable
 high_level : (c : Else-n-limit) → c.loop-last.depth - 1 < max_steps * max_channels
 high_level c =
-    let g = c.requires.ground_of.0 in omega (arith, high_room _ _ _ _ c.loop-last.invariant.2 c.if-last.true c.if-depth-eq0.false, channels_few _ _ g.channels g.steps)
+    let g = c.requires.on_ground in omega (arith, high_room _ _ _ _ c.loop-last.invariant.2 c.if-last.true c.if-depth-eq0.false, channels_few _ _ g.channels g.steps)
 
 pub offset_bounds-levels-depth : goal.offset_bounds-levels-depth
 offset_bounds-levels-depth c = record { fits = omega (arith, high_level (goal.at.offset_bounds-levels-depth c).Else-n-limit) }
@@ -38,7 +40,7 @@ bounds-levels-depth c = omega (arith, high_level (goal.at.bounds-levels-depth c)
 
 pub try_high-last-requires : goal.try_high-last-requires
 try_high-last-requires c =
-    let s = c.loop-last.invariant.2 in record { on_ground = (ground_still s.long c.requires.ground_of.0, c.requires.ground_of.1); undoable = high_ready _ _ _ _ s c.if-last.true c.if-depth-eq0.false }
+    let s = c.loop-last.invariant.2 in record { on_ground = ground_still s.long c.requires.on_ground; undoable = high_ready _ _ _ _ s c.if-last.true c.if-depth-eq0.false }
 
 pub loop-last-preserved-then-last : goal.loop-last-preserved-then-last
 loop-last-preserved-then-last c =
@@ -49,15 +51,15 @@ lowest_open-v-requires c = let s = c.loop-last.invariant.2 in (omega (arith, s.f
 
 pub returns-then-v-eq0 : goal.returns-then-v-eq0
 returns-then-v-eq0 c =
-    low_found _ _ _ _ c.loop-last.invariant.2 c.if-last.false c.lowest_open-v.ensures c.if-v-eq0.true
+    rw (← c.channels-channels.ensures) (low_found _ _ _ _ c.loop-last.invariant.2 c.if-last.false c.lowest_open-v.ensures c.if-v-eq0.true)
 
 pub returns-then-n-limit-2 : goal.returns-then-n-limit-2
 returns-then-n-limit-2 c =
-    low_spent _ _ _ _ c.loop-last.invariant.2 c.if-last.false c.lowest_open-v.ensures c.if-v-eq0.false c.if-n-limit-2.true
+    rw (← c.channels-channels.ensures) (low_spent _ _ _ _ c.loop-last.invariant.2 c.if-last.false c.lowest_open-v.ensures c.if-v-eq0.false c.if-n-limit-2.true)
 
 low_level : (c : Else-n-limit-2) → c.loop-last.depth < max_steps * max_channels
 low_level c =
-    let g = c.requires.ground_of.0 in
+    let g = c.requires.on_ground in
     omega (arith, low_room _ _ _ _ c.loop-last.invariant.2 c.if-last.false c.lowest_open-v.ensures c.if-v-eq0.false, channels_few _ _ g.channels g.steps)
 
 pub offset_bounds-levels-depth-in-loop-last : goal.offset_bounds-levels-depth-in-loop-last
@@ -72,7 +74,7 @@ overflow_add-depth c = record { fits = omega (arith, low_level (goal.at.overflow
 pub try_literal-last-requires : goal.try_literal-last-requires
 try_literal-last-requires c =
     let s = c.loop-last.invariant.2 in
-    record { on_ground = (ground_still s.long c.requires.ground_of.0, c.requires.ground_of.1); ready = low_ready _ _ _ _ s c.if-last.false c.lowest_open-v.ensures c.if-v-eq0.false }
+    record { on_ground = ground_still s.long c.requires.on_ground; ready = low_ready _ _ _ _ s c.if-last.false c.lowest_open-v.ensures c.if-v-eq0.false }
 
 pub overflow_add-n-in-loop-last : goal.overflow_add-n-in-loop-last
 overflow_add-n-in-loop-last c =

@@ -1,7 +1,6 @@
 -- At turn e the code has the variables of the triple (i, m, m + e) and of its two parts (Cuts.antt).
 -- The next triple of the same start and cut stands after all of this length.
-use mathlib.Core.Path.{◌≡◌, refl, ◌∙◌}
-use Prim.Native.Nat.{◌+◌, ◌-◌, ◌≤◌}
+use mathlib.Core.Path.{refl, ◌∙◌}
 use native.Mathlib.Omega.{arith}
 use Rattle.interval.proofs.Laws.{counts_at_32}
 use Rattle.search_visits.proofs.Parts.{settled_visited}
@@ -11,19 +10,19 @@ use Rattle.search_triples.proofs.Cuts.{first_begun, first_clauses_lem, first_ask
 use Rattle.search_triples.proofs.visit_first.Goals as goal
 
 pub place-requires : goal.place-requires
-place-requires c = (omega (arith, c.requires), c.requires.0.bounded.steps, c.requires.1)
+place-requires c = (omega (arith, c.requires), c.requires.0.bounded.steps)
 
 pub overflow_add-x : goal.overflow_add-x
 overflow_add-x c = omega (arith, c.place.ensures.1, c.requires.0.bounded.left)
 
 pub place-start-requires : goal.place-start-requires
-place-start-requires c = (omega (arith, c.requires), c.requires.0.bounded.steps, c.requires.1)
+place-start-requires c = (omega (arith, c.requires), c.requires.0.bounded.steps)
 
-pub place-requires-2 : goal.place-requires-2
-place-requires-2 c = (omega arith, omega (arith, c.requires), c.requires.0.bounded.steps, c.requires.1, c.requires.5)
+pub triple_place-requires : goal.triple_place-requires
+triple_place-requires c = (omega arith, omega (arith, c.requires), c.requires.0.bounded.steps)
 
 pub overflow_add-v : goal.overflow_add-v
-overflow_add-v c = omega (arith, c.place-2.ensures.1, c.requires.0.bounded.first, counts_at_32 c.args.k c.requires.0.bounded.steps)
+overflow_add-v c = omega (arith, c.triple_place.ensures.1, c.requires.0.bounded.first, counts_at_32 c.args.wiring.now.k c.requires.0.bounded.steps)
 
 pub overflow_add-e-end : goal.overflow_add-e-end
 overflow_add-e-end c = omega (arith, c.requires.0.bounded.steps)
@@ -33,7 +32,7 @@ loop-e-init c = (
   refl,
   refl,
   omega arith,
-  first_begun c.requires.2 c.requires.3 c.requires.4 c.place.ensures.0 c.place-start.ensures.0 c.place-2.ensures.0,
+  first_begun c.requires.1 c.requires.2 c.requires.3 c.place.ensures.0 c.place-start.ensures.0 c.triple_place.ensures.0,
   loop_begun _ c.requires.0.trailing,
 )
 

@@ -1,7 +1,6 @@
 -- At turn i the code has the variables of the triple (i, m, j) and of its two parts (Cuts.antt).
 -- The next start's triple stands after all that start at i.
-use mathlib.Core.Path.{◌≡◌, refl, ◌∙◌}
-use Prim.Native.Nat.{◌+◌, ◌-◌, ◌≤◌}
+use mathlib.Core.Path.{refl, ◌∙◌}
 use native.Mathlib.Omega.{arith}
 use Rattle.interval.proofs.Laws.{counts_at_32}
 use Rattle.search_visits.proofs.Parts.{settled_visited}
@@ -11,16 +10,16 @@ use Rattle.search_triples.proofs.Cuts.{second_begun, second_clauses_lem, second_
 use Rattle.search_triples.proofs.visit_second.Goals as goal
 
 pub place-start-requires : goal.place-start-requires
-place-start-requires c = (omega (arith, c.requires), c.requires.0.bounded.steps, c.requires.5)
+place-start-requires c = (omega (arith, c.requires), c.requires.0.bounded.steps)
 
 pub overflow_add-x : goal.overflow_add-x
 overflow_add-x c = omega (arith, c.requires, c.requires.0.bounded.steps, c.requires.0.bounded.left)
 
-pub place-requires : goal.place-requires
-place-requires c = (omega (arith, c.requires), omega (arith, c.requires), c.requires.0.bounded.steps, c.requires.5, c.requires.6)
+pub triple_place-requires : goal.triple_place-requires
+triple_place-requires c = (omega (arith, c.requires), omega (arith, c.requires), c.requires.0.bounded.steps)
 
 pub overflow_add-v : goal.overflow_add-v
-overflow_add-v c = omega (arith, c.place.ensures.1, c.requires.0.bounded.first, counts_at_32 c.args.k c.requires.0.bounded.steps)
+overflow_add-v c = omega (arith, c.triple_place.ensures.1, c.requires.0.bounded.first, counts_at_32 c.args.wiring.now.k c.requires.0.bounded.steps)
 
 pub overflow_add-i-end : goal.overflow_add-i-end
 overflow_add-i-end c = omega (arith, c.requires, c.requires.0.bounded.steps)
@@ -30,7 +29,7 @@ loop-i-init c = (
   refl,
   refl,
   omega arith,
-  second_begun c.requires.2 c.requires.3 c.requires.4 c.place-start.ensures.0 c.requires.1 c.place.ensures.0,
+  second_begun c.requires.1 c.requires.2 c.requires.3 c.place-start.ensures.0 c.args.wiring.now.every c.triple_place.ensures.0,
   loop_begun _ c.requires.0.trailing,
 )
 

@@ -1,7 +1,6 @@
 -- The clauses of two literals, one after another (Loops.antt).
 -- Each is the eighth pattern.
-use mathlib.Core.Path.{◌≡◌, refl, ◌∙◌}
-use Prim.Native.Nat.{◌-◌, ◌≤◌}
+use mathlib.Core.Path.{refl, ◌∙◌}
 use native.Mathlib.Omega.{arith}
 use Rattle.search_patterns.proofs.Steps.{there}
 use Rattle.search_visits.proofs.Parts.{settled_visited}
@@ -17,7 +16,7 @@ overflow_add-w c = omega (arith, c.requires.2.0, c.loop-e-test.true)
 pub settle_by-r-requires : goal.settle_by-r-requires
 settle_by-r-requires c =
     let i = c.loop-e.invariant in let v = there i.0 c.requires.1 in
-    record { trailing = (i.3.grown.trailing, omega arith); four = (v, there i.0 (c.requires.2.1 _ c.loop-e-test.true), v, v) }
+    record { trailing = i.3.grown.trailing; four = (v, there i.0 (c.requires.2.1 _ c.loop-e-test.true), v, v) }
 
 pub returns-then-r : goal.returns-then-r
 returns-then-r c =

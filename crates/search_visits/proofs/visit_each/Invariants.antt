@@ -1,6 +1,6 @@
 -- The clauses of two literals, one after another (Loops.antt).
 -- Each is the eighth pattern.
-use mathlib.Core.Path.{◌≡◌, ◌∙◌}
+use mathlib.Core.Path.{◌≡◌}
 use mathlib.Core.Bool.{false}
 use Prim.Native.Nat.{◌-◌, ◌≤◌}
 use lib.ListN.{length}

@@ -2,7 +2,6 @@
 -- A second one ends the count, since nothing is forced then.
 use mathlib.Core.Path.{sym, ◌∙◌}
 use mathlib.Core.Logic.{⊎_elim, inl, inr}
-use Prim.Native.Nat.{◌-◌, ◌≤◌}
 use native.Mathlib.Omega.{arith}
 use Rattle.search_visits.proofs.Long.{reading_none, reading_same, reading_first, reading_two, reading_all, reading_free, reading_moved, tallied_more}
 use Rattle.search_visits.proofs.visit_long.Goals as goal

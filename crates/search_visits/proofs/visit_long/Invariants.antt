@@ -1,6 +1,5 @@
 -- The literals of the clause that are not opposed are counted up to two (Long.antt).
 -- A second one ends the count, since nothing is forced then.
-use mathlib.Core.Path.{◌∙◌}
 use Prim.Native.Nat.{◌-◌, ◌≤◌}
 use Rattle.search_visits.proofs.Long.{Reading}
 use Rattle.search_visits.proofs.visit_long.Given as goal

@@ -10,7 +10,7 @@ pub overflow_add-w : goal.overflow_add-w
 overflow_add-w c = omega (arith, c.requires.2.0, c.requires.3)
 
 pub settle_by-r-requires : goal.settle_by-r-requires
-settle_by-r-requires c = record { trailing = (c.requires.0, omega arith); four = (c.requires.1, c.requires.2.1 _ c.requires.3, c.requires.1, c.requires.1) }
+settle_by-r-requires c = record { trailing = c.requires.0; four = (c.requires.1, c.requires.2.1 _ c.requires.3, c.requires.1, c.requires.1) }
 
 pub returns-then-r : goal.returns-then-r
 returns-then-r c = visited_stop (visited_named (raised_pattern _ _ _) (settled_visited c.settle_by-r.ensures)) _ c.if-r.true

@@ -1,11 +1,10 @@
 -- By the rule the gate is a pattern over its variable and its inputs (Gates.antt);
--- the other rules have no block of one line.
-use mathlib.Core.Bool.{false≢true}
+-- the other rules have no block of one line, which is found without an answer.
 use native.Mathlib.Omega.{arith}
 use Rattle.table_blocks.proofs.Positions.{gate_by_lem, channel_fits, letter_fits}
 use Rattle.search_patterns.proofs.Steps.{patterns}
 use Rattle.search_gate.proofs.Known.{constant_known}
-use Rattle.search_walks.proofs.Gates.{goes_by, no_line}
+use Rattle.search_walks.proofs.Gates.{goes_by}
 use Rattle.search_walks.proofs.inputs_of.Goals as goal
 
 pub overflow_mul-result : goal.overflow_mul-result
@@ -23,36 +22,24 @@ overflow_add-result-in-Letter c =
 pub returns-in-Fixed : goal.returns-in-Fixed
 returns-in-Fixed c =
     let s = c.args in let g = constant_known s.v c.constant.ensures in
-    goes_by _ _ _ _ _ (gate_by_lem s.c s.k s.block s.x 0 0 s.x c.in-Fixed.is) _ g.0 g.1 (λ l v i. (v, v))
+    goes_by _ _ _ _ _ (gate_by_lem s.c s.k s.block s.x 0 0 s.x c.in-Fixed.is) _ g (λ l v i. (v, v))
 
 pub returns-in-Letter : goal.returns-in-Letter
 returns-in-Letter c =
     let s = c.args in
-    goes_by _ _ _ _ _ (gate_by_lem s.c s.k s.block s.x 0 0 s.x c.in-Letter.is) _ (omega arith) (patterns _ _ 0 0).0 (λ l v i. (i, v))
+    goes_by _ _ _ _ _ (gate_by_lem s.c s.k s.block s.x 0 0 s.x c.in-Letter.is) _ (patterns _ _ 0 0).0 (λ l v i. (i, v))
 
 pub returns-in-Negation : goal.returns-in-Negation
 returns-in-Negation c =
     let s = c.args in
-    goes_by _ _ _ _ _ (gate_by_lem s.c s.k s.block s.x 0 0 s.x c.in-Negation.is) _ (omega arith) (patterns _ _ 0 0).1 (λ l v i. (i, v))
+    goes_by _ _ _ _ _ (gate_by_lem s.c s.k s.block s.x 0 0 s.x c.in-Negation.is) _ (patterns _ _ 0 0).1 (λ l v i. (i, v))
 
 pub returns-in-And : goal.returns-in-And
 returns-in-And c =
     let s = c.args in
-    goes_by _ _ _ _ _ (gate_by_lem s.c s.k s.block s.x 0 0 s.x c.in-And.is) _ (omega arith) (patterns _ _ _ 0).2 (λ l v i. i)
+    goes_by _ _ _ _ _ (gate_by_lem s.c s.k s.block s.x 0 0 s.x c.in-And.is) _ (patterns _ _ _ 0).2 (λ l v i. i)
 
 pub returns-in-Or : goal.returns-in-Or
 returns-in-Or c =
     let s = c.args in
-    goes_by _ _ _ _ _ (gate_by_lem s.c s.k s.block s.x 0 0 s.x c.in-Or.is) _ (omega arith) (patterns _ _ _ 0).3 (λ l v i. i)
-
-pub returns-in-Chop : goal.returns-in-Chop
-returns-in-Chop c = no_line c.in-Chop.is c.requires.2 (λ e. absurd (false≢true cc))
-
-pub returns-in-Duration : goal.returns-in-Duration
-returns-in-Duration c = no_line c.in-Duration.is c.requires.2 (λ e. absurd (false≢true cc))
-
-pub returns-in-Throughout : goal.returns-in-Throughout
-returns-in-Throughout c = no_line c.in-Throughout.is c.requires.2 (λ e. absurd (false≢true cc))
-
-pub returns-in-Cut : goal.returns-in-Cut
-returns-in-Cut c = no_line c.in-Cut.is c.requires.2 (λ e. absurd (false≢true cc))
+    goes_by _ _ _ _ _ (gate_by_lem s.c s.k s.block s.x 0 0 s.x c.in-Or.is) _ (patterns _ _ _ 0).3 (λ l v i. i)

@@ -17,7 +17,7 @@ pub settle_by-requires : goal.settle_by-requires
 settle_by-requires c =
     let g = c.inputs_of-i.ensures in
     let v = variable_here c.requires.standing.0 c.requires.placed in let i = g.inputs _ v (inputs_here c.requires.standing.0 c.requires.placed refl) in
-    record { trailing = (c.requires.standing.0.trailing, g.gate); four = (v, i.0, i.1, v) }
+    record { trailing = c.requires.standing.0.trailing; four = (v, i.0, i.1, v) }
 
 pub returns : goal.returns
 returns c =

@@ -1,13 +1,10 @@
 -- The columns are filled one after another,
 -- each with what it shows.
-use Prim.Native.Nat.{◌-◌}
-use lib.ListN.{length}
-use Rattle.lists.proofs.Filled.{Filled}
+use mathlib.Core.Path.{◌≡◌}
+use Prim.Native.Nat.{ℕ, ◌<◌}
+use lib.ListN.{length, get_or}
 use Rattle.strip.specs.Strip.{column_of}
 use Rattle.strip_lines.proofs.put_columns.Given as goal
 
 abbrev pub invariant-loop-t : goal.invariant-loop-t
-invariant-loop-t l = Filled (column_of (length l.recording) l.recording l.line) (length l.initial.columns) l.t l.columns
-
-abbrev pub decreases-loop-t : goal.decreases-loop-t
-decreases-loop-t l = l.t-end - l.t
+invariant-loop-t l = (y : ℕ) → y < l.t → get_or l.columns y 0 ≡ column_of (length l.recording) l.recording l.line y

@@ -1,26 +1,14 @@
 -- The bytes around the columns are stored one by one, and the columns are handed the part between them;
 -- once that is back, the line stands in its part (Lines.antt).
-use mathlib.Core.Path.{sym, ap, ◌∙◌}
+use mathlib.Core.Path.{ap, ◌∙◌}
 use Prim.Native.Nat.{◌+◌}
 use native.Mathlib.Omega.{arith}
 use lib.ListN.{length, length-set}
 use borrow.Rule.Slice.PartMut.{mid_len}
 use Rattle.interval.specs.Limits.{max_steps}
-use Rattle.strip.proofs.Laws.{count_length, line_length}
+use Rattle.strip.proofs.Laws.{count_length}
 use Rattle.strip_lines.proofs.Lines.{around, line_stored}
 use Rattle.strip_lines.proofs.put_line.Goals as goal
-
-pub bounds-part-end-3 : goal.bounds-part-end-3
-bounds-part-end-3 c = simp length-set (omega arith)
-
-pub bounds-part-end-4 : goal.bounds-part-end-4
-bounds-part-end-4 c = simp length-set (omega arith)
-
-pub bounds-part-end-5 : goal.bounds-part-end-5
-bounds-part-end-5 c = simp length-set (omega arith)
-
-pub slice_bounds-put_columns-end : goal.slice_bounds-put_columns-end
-slice_bounds-put_columns-end c = simp length-set (omega arith)
 
 pub returns : goal.returns
 returns c =
@@ -29,6 +17,3 @@ returns c =
     line_stored (length a.recording.now) a.recording.now a.line a.part.now c.requires.0 c.letter_of.ensures count.ensures
     (ap length count.ensures ∙ count_length _ _ c.requires.1 a.line) (mid_len 2 (2 + max_steps) columns (simp length-set (omega arith)))
     c.put_columns.ensures
-
-pub shape_of-part : goal.shape_of-part
-shape_of-part c = ap length (returns c) ∙ line_length _ _ c.requires.1 c.args.line ∙ sym c.requires.0

@@ -6,4 +6,4 @@ use Rattle.table_calls.proofs.put_sizes.Goals as goal
 
 pub returns : goal.returns
 returns c =
-    let a = c.args in stored_over (five_of a.s) a.sizes.now c.put_numbers.ensures c.requires
+    let a = c.args in stored_over (five_of a.s) a.sizes.now c.store.ensures c.requires

@@ -6,6 +6,3 @@ use Rattle.table_layout.proofs.layout_of.Goals as goal
 
 pub sizes_of-sizes-requires : goal.sizes_of-sizes-requires
 sizes_of-sizes-requires c = (c.requires.0, c.requires.1, c.requires.2, refl, zeros_low)
-
-pub returns : goal.returns
-returns c = c.sizes_of-sizes.ensures

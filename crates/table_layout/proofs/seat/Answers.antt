@@ -3,21 +3,15 @@
 use Rattle.table_layout.proofs.Rows.{seat_lasting, seat_other, level_low}
 use native.Mathlib.Omega.{arith}
 use borrow.Author.Rules.{rules}
+use mathlib.Core.Path.{◌∙◌}
 use Rattle.table_layout.proofs.seat.Goals as goal
-
-pub overflow_mul-result : goal.overflow_mul-result
-overflow_mul-result c = omega (arith, level_low c.byte_at-n.result c.count.result (search rules) (search rules))
-
-pub overflow_add-result : goal.overflow_add-result
-overflow_add-result c =
-    omega (arith, level_low c.byte_at-n.result c.count.result (search rules) (search rules), c.number_at-first.ensures, c.requires.1 c.args.y)
 
 pub returns-then-byte_at-eq-FORMULA_DURATION : goal.returns-then-byte_at-eq-FORMULA_DURATION
 returns-then-byte_at-eq-FORMULA_DURATION c = (
-  seat_lasting _ _ _ _ _ c.number_at-first.ensures c.byte_at.ensures c.if-byte_at-eq-FORMULA_DURATION.true c.byte_at-n.ensures c.count.ensures.0,
+  seat_lasting _ _ _ _ _ c.number_at-first.ensures c.byte_at.ensures c.if-byte_at-eq-FORMULA_DURATION.true (c.from-n.ensures ∙ c.byte_at-then-byte_at-eq-FORMULA_DURATION.ensures) c.count.ensures.0,
   omega (
     arith,
-    level_low c.byte_at-n.result c.count.result (search rules) (search rules),
+    level_low c.from-n.result c.count.result (search rules) (search rules),
     c.number_at-first.ensures,
     c.requires.1 c.args.y,
   ),

@@ -1,10 +1,9 @@
 -- After e turns the first e clauses are written;
 -- a turn writes the next (Written.antt).
 use mathlib.Core.Path.{refl}
-use Rattle.table_literals.proofs.Written.{begun, turn, room, done}
+use Rattle.table_literals.proofs.Written.{begun, turn, room}
 use native.Mathlib.Omega.{arith}
 use Rattle.table_literals.specs.Written.{raised_of}
-use Prim.Native.Nat.{◌-◌}
 use borrow.Author.Rules.{rules}
 use Rattle.table_literals.proofs.put_raised.Goals as goal
 
@@ -19,6 +18,3 @@ put-b-requires c =
 pub loop-e-preserved : goal.loop-e-preserved
 loop-e-preserved c =
     turn c.loop-e.invariant (search rules) refl (c.put-b.ensures (raised_of _ _ _) refl refl)
-
-pub returns : goal.returns
-returns c = done c.loop-e.invariant (search rules)

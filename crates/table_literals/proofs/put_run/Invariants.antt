@@ -1,11 +1,7 @@
--- After e turns the first e variables are written;
--- a turn writes one place of both arrays (Written.antt).
-use Rattle.table_literals.specs.Written.{Sofar, run_of}
-use Prim.Native.Nat.{◌-◌}
+-- The first e variables of the part are written.
+use Rattle.std.proofs.Common.{◌≡◌, ◌+◌, take}
+use Rattle.lists.specs.Listing.{tab}
 use Rattle.table_literals.proofs.put_run.Given as goal
 
 abbrev pub invariant-loop-e : goal.invariant-loop-e
-invariant-loop-e l = Sofar l.initial.variables l.initial.marks l.at (run_of l.w l.mark) l.n l.variables l.marks l.b l.e
-
-abbrev pub decreases-loop-e : goal.decreases-loop-e
-decreases-loop-e l = l.n - l.e
+invariant-loop-e l = take l.e l.v-items ≡ tab l.e (λ e. l.w + e)

@@ -1,15 +1,13 @@
 -- `chop_row` goes on by one m where P is false on [i, m]; where it is true, it adds row m of Q's table and goes on at the next row
 -- that has more, since those between add nothing (Chop.antt).
-use Rattle.truth_chop.proofs.Chop.{fewer, begun, turn_no, turn_yes, done}
-use lib.ListN.{length}
-use borrow.Rule.Slice.PartMut.{mid_len}
+use Rattle.truth_chop.proofs.Chop.{begun, turn_no, turn_yes, done}
 use Prim.Native.Nat.{◌≤◌, suc, ◌+◌, ◌-◌}
 use Rattle.interval.specs.Places.{count_of}
 use Rattle.interval.specs.Rows.{start_of}
 use Rattle.truth_table.proofs.Rows.{row_starts}
 use borrow.Author.Rules.{rules}
 use native.Mathlib.Omega.{arith}
-use mathlib.Core.Path.{◌≡◌, sym, ◌∙◌}
+use mathlib.Core.Path.{◌≡◌}
 use Rattle.truth_chop.proofs.chop_row.Goals as goal
 use Rattle.truth_chop.proofs.chop_row.Goals.{After-place-at}
 
@@ -23,38 +21,13 @@ loop-d-init c =
     let o = c.requires.k_le_max_steps in
     begun _ _ _ _ _ _ _ o.1 o.2 o.3 o.4
 
-pub loop-d-smaller-then-p-start-eq0 : goal.loop-d-smaller-then-p-start-eq0
-loop-d-smaller-then-p-start-eq0 c = omega arith
-
 pub loop-d-preserved-then-p-start-eq0 : goal.loop-d-preserved-then-p-start-eq0
 loop-d-preserved-then-p-start-eq0 c =
     let l = c.loop-d in
     turn_no _ _ _ _ _ _ _ _ l.invariant (omega arith) c.if-p-start-eq0.true
 
-pub place-at-requires : goal.place-at-requires
-place-at-requires c = (omega arith, c.requires.k_le_max_steps.0, c.requires.k_in_bounds.3)
-
-pub overflow_add-end-in-loop-d : goal.overflow_add-end-in-loop-d
-overflow_add-end-in-loop-d c = omega (arith, row (goal.at.overflow_add-end-in-loop-d c).After-place-at)
-
-pub slice_bounds-or_onto-start-in-loop-d : goal.slice_bounds-or_onto-start-in-loop-d
-slice_bounds-or_onto-start-in-loop-d c = omega (arith, row (goal.at.slice_bounds-or_onto-start-in-loop-d c).After-place-at, c.requires)
-
 pub slice_bounds-or_onto-end-in-loop-d : goal.slice_bounds-or_onto-end-in-loop-d
 slice_bounds-or_onto-end-in-loop-d c = omega (arith, row (goal.at.slice_bounds-or_onto-end-in-loop-d c).After-place-at, c.requires)
-
-pub or_onto-requires : goal.or_onto-requires
-or_onto-requires c =
-    let a = c.args in let l = c.loop-d in let at = c.place-at.result in
-    let end = at + (a.k + 1 - (a.i + l.d)) in let e : length l.row - l.d ≡ end - at = omega (arith, l.invariant.whole) in
-    mid_len l.d (length l.row) l.row (omega arith) ∙ e ∙ sym (mid_len at end a.q.now (omega (arith, row (goal.at.or_onto-requires c).After-place-at, c.requires)))
-
-pub overflow_sub-d : goal.overflow_sub-d
-overflow_sub-d c = omega (arith, c.requires.k_in_bounds.2.later (c.args.i + c.loop-d.d) (omega arith))
-
-pub loop-d-smaller : goal.loop-d-smaller
-loop-d-smaller c =
-    fewer (suc c.args.k - c.args.i) _ _ _ (omega arith) (c.requires.k_in_bounds.2.later (c.args.i + c.loop-d.d) (omega arith))
 
 pub loop-d-preserved : goal.loop-d-preserved
 loop-d-preserved c =

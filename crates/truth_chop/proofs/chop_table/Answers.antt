@@ -1,6 +1,6 @@
 -- `chop_table` fills one row a turn, each from the place where the last one ended,
 -- and after k + 1 rows every interval's place is in one of them (Rows.antt).
-use Rattle.truth_table.proofs.Rows.{filled_begun, row_length, row_zeros, filled_turn, rows_turn, rows_done}
+use Rattle.truth_table.proofs.Rows.{filled_begun, row_length, filled_turn, rows_turn}
 use Rattle.paper_meaning.specs.Meaning.{chops}
 use Rattle.interval.proofs.Counts.{count_le}
 use Rattle.interval.specs.Places.{count_of}
@@ -22,19 +22,6 @@ unfolding count_of
 loop-i-init c =
     (omega arith, filled_begun max_count _ _ (count_le max_steps _ c.requires.0) c.all_of-t.ensures, λ f g P Q. record { at = λ v o h. omega arith })
 
-pub chop_row-requires : goal.chop_row-requires
-chop_row-requires c =
-    let l = c.loop-i in
-    let w = l.invariant.1 in record {
-      k_le_max_steps = (search rules, omega arith, w.starts, row_length max_count _ _ _ _ _ w (omega arith), row_zeros max_count _ _ _ _ _ w);
-      k_in_bounds = (
-        omega (arith, w.room),
-        omega (arith, w.room),
-        c.next_rows-nexts.ensures.0,
-        c.requires.1,
-      );
-    }
-
 pub loop-i-preserved : goal.loop-i-preserved
 loop-i-preserved c =
     let a = c.args in let l = c.loop-i in
@@ -47,6 +34,3 @@ loop-i-preserved c =
       λ f g P Q. rows_turn max_count _ _ _ end _ row h w (omega arith) long (chops f g)
           (c.chop_row.ensures f g P Q (c.next_rows-nexts.ensures.1 g Q)) (l.invariant.2 f g P Q),
     )
-
-pub returns : goal.returns
-returns c = λ f g P Q. rows_done _ _ _ _ (omega (arith, c.loop-i.invariant.0, c.loop-i-test.false)) (c.loop-i.invariant.2 f g P Q)

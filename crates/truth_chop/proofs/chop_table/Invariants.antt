@@ -5,7 +5,7 @@ use Rattle.truth_table.specs.Table.{TableOf}
 use Rattle.paper_meaning.specs.Meaning.{chops}
 use Rattle.interval.specs.declared.Interval.{Interval}
 use Rattle.interval.specs.Limits.{max_count}
-use Prim.Native.Nat.{suc, ◌+◌, ◌-◌, ◌≤◌}
+use Prim.Native.Nat.{suc, ◌-◌}
 use mathlib.Core.Bool.{Bool}
 use mathlib.Core.Path.{◌≡◌}
 use Rattle.truth_chop.proofs.chop_table.Given as goal

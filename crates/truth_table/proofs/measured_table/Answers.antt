@@ -1,24 +1,18 @@
 -- `measured_table` fills one row a turn, each from the place where the last one ended,
 -- and after k + 1 rows every interval's place is in one of them (Rows.antt).
-use Rattle.truth_table.proofs.Rows.{filled_begun, row_length, filled_turn, rows_turn, rows_done}
+use Rattle.truth_table.proofs.Rows.{filled_begun, filled_turn, rows_turn}
 use Rattle.interval.proofs.Counts.{count_le}
 use Rattle.interval.specs.Places.{count_of}
 use Rattle.interval.specs.Limits.{max_steps, max_count}
 use native.Mathlib.Omega.{arith}
 use borrow.Author.Rules.{rules}
 use Prim.Native.Nat.{◌+◌, ◌-◌}
-use mathlib.Core.Path.{◌≡◌}
 use Rattle.truth_table.proofs.measured_table.Goals as goal
 
 pub loop-i-init : goal.loop-i-init
 unfolding count_of
 loop-i-init c =
     (omega arith, filled_begun max_count _ _ (count_le max_steps _ c.requires) c.all_of-t.ensures, record { at = λ v o h. omega arith })
-
-pub measured_row-requires : goal.measured_row-requires
-measured_row-requires c =
-    let a = c.args in let l = c.loop-i in
-    (omega (arith, row_length max_count _ _ _ (l.start + (a.k + 1 - l.i)) _ l.invariant.1 (omega arith), c.requires), c.lows-lows.ensures)
 
 pub loop-i-preserved : goal.loop-i-preserved
 loop-i-preserved c =
@@ -29,6 +23,3 @@ loop-i-preserved c =
       filled_turn max_count _ _ _ end _ row (omega arith) w (omega arith) (search rules),
       rows_turn max_count _ _ _ end _ row (omega arith) w (omega arith) (search rules) _ c.measured_row.ensures l.invariant.2,
     )
-
-pub returns : goal.returns
-returns c = rows_done _ _ _ _ (omega (arith, c.loop-i.invariant.0, c.loop-i-test.false)) c.loop-i.invariant.2

@@ -4,7 +4,7 @@ use Rattle.truth_table.proofs.Rows.{Filled, RowsTo}
 use Rattle.truth_table.specs.Table.{measured}
 use Rattle.paper_meaning.specs.Meaning.{bit_at}
 use Rattle.interval.specs.Limits.{max_count}
-use Prim.Native.Nat.{suc, ◌+◌, ◌-◌}
+use Prim.Native.Nat.{suc, ◌-◌}
 use mathlib.Core.Path.{◌≡◌}
 use Rattle.truth_table.proofs.measured_table.Given as goal
 

@@ -1,6 +1,6 @@
--- `put_clauses` writes one literal a turn, from the first to the last: no more clauses end than there are literals, so their number fits.
-use Rattle.std.proofs.Common.{◌≤◌}
+-- `put_clauses` writes one literal a turn: no more clauses start than there are literals, so their number fits.
+use Rattle.std.proofs.Common.{◌≤◌, length}
 use Rattle.exercise.proofs.clauses.put_clauses.Given as goal
 
-abbrev pub invariant-loop-at : goal.invariant-loop-at
-invariant-loop-at g l = l.before ≤ l.at
+abbrev pub invariant-loop-variable : goal.invariant-loop-variable
+invariant-loop-variable g l = l.clause ≤ length l.yielded

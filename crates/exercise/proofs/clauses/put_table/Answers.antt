@@ -4,4 +4,4 @@ use Rattle.file_line.proofs.File.{room}
 use Rattle.exercise.proofs.clauses.put_table.Goals as goal
 
 pub put_written-requires : goal.put_written-requires
-put_written-requires g c = room _ _ _ _ c.table-written.ensures c.in-Done.is
+put_written-requires g c = room _ _ _ _ c.table-written.ensures c.in-Ok.is

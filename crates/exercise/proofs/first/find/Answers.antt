@@ -1,4 +1,4 @@
--- The arrays are as long as they were made, by a law: the prover needs seconds to count their places.
+-- The arrays are as long as they were made, by a law: to count so many places is more than the prover can.
 -- All else the search closes.
 use Rattle.std.proofs.Common.{ℕ, sym}
 use Rattle.std.proofs.lemmas.List.{length-replicate}

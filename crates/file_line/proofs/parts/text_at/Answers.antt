@@ -5,10 +5,10 @@ use borrow.Author.Rules.{rules}
 use Rattle.file_line.proofs.parts.text_at.Goals as goal
 
 pub returns-then-input-end-eq10 : goal.returns-then-input-end-eq10
-returns-then-input-end-eq10 c = (text_good _ _ _ _ c.if-at-input.true c.if-input-end-eq10.true, search rules)
+returns-then-input-end-eq10 c = (text_good _ _ _ _ c.if-first-input.true c.if-input-end-eq10.true, search rules)
 
 pub returns-else-input-end-eq10 : goal.returns-else-input-end-eq10
-returns-else-input-end-eq10 c = (text_no_feed _ _ _ _ c.if-at-input.true c.if-input-end-eq10.false, search rules)
+returns-else-input-end-eq10 c = (text_no_feed _ _ _ _ c.if-first-input.true c.if-input-end-eq10.false, search rules)
 
-pub returns-else-at-input : goal.returns-else-at-input
-returns-else-at-input c = (text_end _ _ _ _ c.if-at-input.false, search rules)
+pub returns-else-first-input : goal.returns-else-first-input
+returns-else-first-input c = (text_end _ _ _ _ c.if-first-input.false, search rules)
