@@ -1,7 +1,7 @@
 -- A question answered with yes has all its tests true: so a file is as long as its sizes say, and arrays are as long as the sizes
 -- that come with them, which makes the bytes to be written 20 + 5L.
-use mathlib.Core.Path.{◌≡◌, refl, sym, ap, ap₂, ◌∙◌}
-use mathlib.Core.Bool.{Bool, true, false≢true, ◌&&◌}
+use mathlib.Core.Path.{◌≡◌, refl, sym, ap, ◌∙◌}
+use mathlib.Core.Bool.{true, false≢true}
 use mathlib.Core.List.{List, ◌∷◌}
 use Prim.Native.Nat.{ℕ, ◌≤◌}
 use native.Mathlib.Omega.{arith}
@@ -9,21 +9,15 @@ use lib.Dec.{eqb, leb}
 use lib.ListN.{length}
 use borrow.Author.Tests.{leb-true, eqb-true}
 use Rattle.std.specs.Prelude.{Err, Ok}
-use Rattle.refusal.specs.Asked.{question, asked, Reply, ok}
+use Rattle.refusal.specs.Asked.{asked, Reply, ok}
 use Rattle.lists.proofs.Tests.{both}
 use Rattle.refusal.proofs.Laws.{test_yes}
 use Rattle.table_calls.specs.Table.{five_of}
 use Rattle.table_layout.specs.declared.Sizes.{Sizes}
 use Rattle.file_numbers.specs.File.{file_of, file_length, sizes_at, variables_at, marks_at}
 use Rattle.file_numbers.specs.Held.{Held}
-use Rattle.file_questions.specs.Questions.{all_pass, ask_file, ask_arrays, in_limits, is_variable, is_mark, ask_entries, ask_file_room, entry_questions, array_questions, file_questions}
+use Rattle.file_questions.specs.Questions.{ask_file, ask_arrays, ask_file_room, entry_questions, array_questions, file_questions}
 use Rattle.file_numbers.proofs.Stored.{length_file}
-
--- question 16, by its three tests
-pub entries_asked : (s : Sizes) (variables marks : List ℕ) {a b c : Bool} {r : Reply} → a ≡ in_limits s → b ≡ all_pass (is_variable s.variables) variables
-    → c ≡ all_pass is_mark marks → r ≡ question 16 0 (a && b && c) → r ≡ ask_entries s variables marks
-unfolding ask_entries
-entries_asked s variables marks p q u e = e ∙ ap (question 16 0) (ap₂ ◌&&◌ (ap₂ ◌&&◌ p q) u)
 
 -- the first of the questions that were all answered with yes
 pub first_yes : (q : Reply) (Q : List Reply) → asked (q ∷ Q) Err ok ≡ ok → q ≡ ok

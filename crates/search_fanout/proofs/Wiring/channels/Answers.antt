@@ -5,4 +5,4 @@ use Rattle.table_sizes.proofs.Weights.{product_fits}
 use Rattle.search_fanout.proofs.Wiring.channels.Goals as goal
 
 pub overflow_mul-result : goal.overflow_mul-result
-overflow_mul-result c = let w = c.args.self.now in product_fits w.k w.c (omega (arith, c.requires.1)) (omega (arith, c.requires.0))
+overflow_mul-result c = let r = c.requires in product_fits _ _ (omega (arith, r.0, r.1)) (omega (arith, r.0, r.1))
