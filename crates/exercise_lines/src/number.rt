@@ -19,7 +19,7 @@ pub enum NumberError {
 // A number, written like a formula's n. The engine's own reader reads it, as it does for the file program, so that both take the same:
 // all above n's limit are one above it here, too much for the channels and for the steps alike.
 pub fn decimal(text: &[u8]) -> Result<u32, NumberError> {
-    let end = formula_reader::numbered_by(text, 0).map_err(|_| NumberError::Digits)?;
+    let end = formula_reader::numbered_by(text, Ok(0)).map_err(|_| NumberError::Digits)?;
     match text.get(end) {
         None => Ok(formula_scan::number_at(text, 0) as u32),
         // Of digits only a 0 ends before the last.

@@ -24,8 +24,8 @@ pub struct Parts {
 fn item_at(input: &[u8], at: usize) -> Option<Item>
     ensures { taken_by input.now result ≡ capped_taken (blank (number (drop at input.now))) }
 {
-    let end = formula_reader::numbered_by(input, at).ok()?;
-    let next = formula_reader::signed_by(input, b' ', end).ok()?;
+    let end = formula_reader::numbered_by(input, Ok(at)).ok()?;
+    let next = formula_reader::signed_by(input, b' ', Ok(end)).ok()?;
     let value = formula_scan::number_at(input, at) as u32;
     Some(Item { value, next })
 }

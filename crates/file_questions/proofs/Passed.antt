@@ -1,15 +1,15 @@
--- What a chain says of all entries, or of how many, in the definitions' terms: a test that passes at every entry, or fails at one,
--- answers for all; and the entries that pass are counted from the front.
+-- A loop that asks a test of each entry has asked the first e after e turns: all of them passed, or so many did. One entry more is
+-- the last case of `every` and of `highs`, which count from the front.
 use mathlib.Core.Path.{◌≡◌, refl, sym, ap, ap₂, ◌∙◌}
-use mathlib.Core.Bool.{Bool, true, false, cond, ◌&&◌}
-use mathlib.Core.List.{List, ◌∷◌}
-use Prim.Native.Nat.{ℕ, zero, suc, ◌+◌, ◌<◌}
+use mathlib.Core.Bool.{Bool, true, false, ◌&&◌}
+use mathlib.Core.List.{List}
+use Prim.Native.Nat.{ℕ, zero, suc, ◌+◌, ◌≤◌, ◌<◌}
 use native.Mathlib.Nat.{not-suc-le-zero, zero-add}
+use native.Mathlib.Numerals.{add-one}
 use native.Mathlib.Omega.{arith}
 use lib.ListN.{length, get_or}
-use Rattle.std.specs.List.{count_by}
+use mir.Val.{bool_byte}
 use Rattle.paper_meaning.specs.Meaning.{bit, every, highs}
-use Rattle.std.proofs.lemmas.List.Recursion.{is_count_by}
 use Rattle.lists.proofs.Listing.{below_suc}
 use Rattle.file_questions.specs.Questions.{all_pass, how_many}
 
@@ -18,11 +18,6 @@ and_false true = refl
 and_false false = refl
 
 module _ (f : ℕ → Bool) where
-  every_yes : (n : ℕ) → ((e : ℕ) → e < n → f e ≡ true) → every f 0 n ≡ true
-  unfolding every
-  every_yes zero h = refl
-  every_yes (suc n) h = ap₂ ◌&&◌ (every_yes n (λ e l. h e (omega arith))) (ap f (zero-add n) ∙ h n (omega arith))
-
   -- one that fails
   every_no : (n e : ℕ) → e < n → f e ≡ false → every f 0 n ≡ false
   unfolding every
@@ -32,21 +27,51 @@ module _ (f : ℕ → Bool) where
       (λ l q. ap (λ (b : Bool). b && f (0 + n)) (every_no n e l q))
       (λ q. ap (λ (b : Bool). every f 0 n && b) (ap f (zero-add n) ∙ q) ∙ and_false (every f 0 n)) p
 
--- the answer for all of them
-pub all_by : (test : ℕ → Bool) (l : List ℕ) (b : Bool) → (b ≡ true → (e : ℕ) → e < length l → test (get_or l e 0) ≡ true)
-    → (b ≡ false → (e : ℕ) × (e < length l) × (test (get_or l e 0) ≡ false)) → b ≡ all_pass test l
-all_by test l true p q = sym (every_yes (λ e. test (get_or l e 0)) (length l) (p refl))
-all_by test l false p q = let w = q refl in sym (every_no (λ e. test (get_or l e 0)) (length l) w.0 w.1 w.2)
+-- a truth value as the code adds it
+pub byte_bit : (b : Bool) → bool_byte b ≡ bit b
+byte_bit true = refl
+byte_bit false = refl
 
--- one entry more at the front
-highs_first : (f : ℕ → Bool) (n : ℕ) → highs f 0 (suc n) ≡ bit (f 0) + highs (λ e. f (suc e)) 0 n
-unfolding highs
-highs_first f zero = omega arith
-highs_first f (suc n) = let e : 0 + suc n ≡ suc (0 + n) = omega arith in omega (arith, highs_first f n, ap (λ (i : ℕ). bit (f i)) e)
+pub byte_most : (b : Bool) → bool_byte b ≤ 1
+byte_most true = omega arith
+byte_most false = omega arith
 
-pub counted : (test : ℕ → Bool) (l : List ℕ) → how_many test l ≡ count_by test l
-counted test = is_count_by (how_many test) test (unfold highs in refl) (λ x l. highs_first (λ e. test (get_or (x ∷ l) e 0)) (length l) ∙ one (test x) _)
-  where
-    one : (b : Bool) (n : ℕ) → bit b + n ≡ cond b (1 + n) n
-    one true n = refl
-    one false n = omega arith
+module _ (test : ℕ → Bool) (l : List ℕ) where
+  abbrev at : ℕ → Bool
+  at e = test (get_or l e 0)
+
+  -- the first e entries pass, or so many of them
+  pub record Passed (e : ℕ) : Type 0 where
+    pub all : every at 0 e ≡ true
+
+  pub record Counted (e m : ℕ) : Type 0 where
+    pub most : m ≤ e
+    pub count : m ≡ highs at 0 e
+
+  pub none_failed : Passed 0
+  unfolding every
+  none_failed = record { all = refl }
+
+  pub one_passed : {e : ℕ} → Passed e → true ≡ at e → Passed (e + 1)
+  unfolding every
+  one_passed {e} p t = record { all = rw (add-one e) (ap₂ ◌&&◌ p.all (ap at (zero-add e) ∙ sym t)) }
+
+  pub one_failed : {e : ℕ} → Passed e → e < length l → false ≡ at e → false ≡ all_pass test l
+  one_failed {e} p h t = sym (every_no at (length l) e h (sym t))
+
+  pub all_passed : {e : ℕ} → Passed e → e ≡ length l → true ≡ all_pass test l
+  all_passed p h = sym (ap (every at 0) (sym h) ∙ p.all)
+
+  pub none_counted : Counted 0 0
+  unfolding highs
+  none_counted = record { most = omega arith; count = refl }
+
+  pub one_counted : {e m b : ℕ} → Counted e m → b ≡ bool_byte (at e) → Counted (e + 1) (m + b)
+  unfolding highs
+  one_counted {e} c t = record {
+    most = omega (arith, c.most, t, byte_most (at e));
+    count = rw (add-one e) (ap₂ ◌+◌ c.count (t ∙ byte_bit (at e) ∙ ap (λ (i : ℕ). bit (at i)) (sym (zero-add e))));
+  }
+
+  pub all_counted : {e m : ℕ} → Counted e m → e ≡ length l → m ≡ how_many test l
+  all_counted c h = c.count ∙ ap (highs at 0) h

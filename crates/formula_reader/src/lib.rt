@@ -3,14 +3,15 @@
 
 ghost use Rattle.std.specs.Prelude.{◌≡◌, ◌+◌, ◌≤◌, length, drop};
 ghost use Rattle.paper_grammar.specs.Reader.{is_joint};
-ghost use Rattle.formula_reader.specs.Parts.{test_at, is_sign, number_at, digit_count, PartAt, end_of, parse_text};
+ghost use Rattle.formula_reader.specs.Parts.{test_at, is_sign, number_at, digit_count, on_good, PartAt, end_of, parse_text};
 
 use paper_grammar::{Lead, Sort};
 
-// The byte v at a place: the place after it, or that place, where the read stops.
-pub fn signed_by(text: &[u8], v: u8, at: usize) -> Result<usize, usize>
-    ensures { result ≡ test_at (is_sign v) at (drop at text.now) }
+// A good read with the byte v after it: the place after that, or where the read stops.
+pub fn signed_by(text: &[u8], v: u8, before: Result<usize, usize>) -> Result<usize, usize>
+    ensures { result ≡ on_good text.now (test_at (is_sign v)) before }
 {
+    let at = before?;
     if at < text.len() && text[at] == v {
         Ok(at + 1)
     } else {
@@ -18,7 +19,7 @@ pub fn signed_by(text: &[u8], v: u8, at: usize) -> Result<usize, usize>
     }
 }
 
-// A joint of the sort, likewise.
+// A joint of the sort at a place, likewise.
 fn joined_by(text: &[u8], s: Sort, at: usize) -> Result<usize, usize>
     ensures { result ≡ test_at (is_joint s) at (drop at text.now) }
 {
@@ -42,21 +43,22 @@ fn digits_end(text: &[u8], at: usize) -> usize
     text.len()
 }
 
-// A number, likewise.
-pub fn numbered_by(text: &[u8], at: usize) -> Result<usize, usize>
-    ensures { result ≡ number_at at (drop at text.now) }
+// A good read with a number after it, likewise.
+pub fn numbered_by(text: &[u8], before: Result<usize, usize>) -> Result<usize, usize>
+    ensures { result ≡ on_good text.now number_at before }
 {
-    if at >= text.len() {
-        return Err(at);
+    let first = before?;
+    if first >= text.len() {
+        return Err(first);
     }
-    let b = text[at];
+    let b = text[first];
     if b == b'0' {
-        return Ok(at + 1);
+        return Ok(first + 1);
     }
     if formula_bytes::is_digit(b) {
-        return Ok(digits_end(text, at + 1));
+        return Ok(digits_end(text, first + 1));
     }
-    Err(at)
+    Err(first)
 }
 
 // A part of the sort from a place on. It calls itself on its parts; the bytes that remain fall.
@@ -74,19 +76,13 @@ fn read_part(text: &[u8], s: Sort, at: usize) -> Result<usize, usize>
         Lead::Open => {
             let first = read_part(text, s, next)?;
             let joint = joined_by(text, s, first)?;
-            let second = read_part(text, s, joint)?;
-            signed_by(text, b')', second)
+            signed_by(text, b')', read_part(text, s, joint))
         }
         Lead::Measure => {
-            let state = read_part(text, Sort::State, next)?;
-            let above = signed_by(text, b'>', state)?;
-            let equals = signed_by(text, b'=', above)?;
-            numbered_by(text, equals)
+            let above = signed_by(text, b'>', read_part(text, Sort::State, next));
+            numbered_by(text, signed_by(text, b'=', above))
         }
-        Lead::Enter => {
-            let state = read_part(text, Sort::State, next)?;
-            signed_by(text, b']', state)
-        }
+        Lead::Enter => signed_by(text, b']', read_part(text, Sort::State, next)),
         Lead::Other => Err(at),
     }
 }

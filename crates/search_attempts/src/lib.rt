@@ -4,7 +4,7 @@
 
 ghost use Rattle.std.specs.Prelude.{◌≡◌, ℕ, ◌≤◌, length, get_or};
 ghost use Rattle.paper_clauses.specs.Entries.{entry, literal_of};
-ghost use Rattle.search_fanout.specs.Wiring.{OnGround, clauses_in};
+ghost use Rattle.search_fanout.specs.Wiring.{OnGround, clauses_in, Tabled};
 ghost use Rattle.search_attempts.specs.Attempts.{Openness, Ready, Undoable, TriesLiteral, TriesHigh};
 
 // The crates above reach the queue through this one: rt goes every way that leads down, and there are fewer then.
@@ -42,6 +42,7 @@ pub fn try_literal(
     mark: u8,
 ) -> Closed
     requires on_ground { OnGround wiring.now (length values.old) }
+    requires tabled { Tabled wiring.now }
     requires ready { Ready (clauses_in wiring.now) values.old trail.old top v }
     ensures { TriesLiteral (clauses_in wiring.now) (literal_of (entry v mark)) values trail top result }
 {
@@ -58,6 +59,7 @@ pub fn try_high(
     wiring: &Wiring,
 ) -> Closed
     requires on_ground { OnGround wiring.now (length values.old) }
+    requires tabled { Tabled wiring.now }
     requires undoable { Undoable (clauses_in wiring.now) values.old trail.old from to }
     ensures { TriesHigh (clauses_in wiring.now) values trail from to result }
 {

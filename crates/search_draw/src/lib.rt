@@ -3,7 +3,7 @@
 
 ghost use Rattle.std.specs.Prelude.{◌≡◌, ◌*◌, ◌^◌, ◌≤◌, ◌<◌, length, Ok};
 ghost use Rattle.paper_closure.specs.Tree.{tree};
-ghost use Rattle.search_fanout.specs.Wiring.{OnGround, clauses_in};
+ghost use Rattle.search_fanout.specs.Wiring.{OnGround, clauses_in, Tabled};
 ghost use Rattle.paper_search.specs.Search.{limited};
 ghost use Rattle.paper_search.specs.Left.{left};
 
@@ -20,6 +20,7 @@ pub fn draw(
     limit: u32,
 ) -> Answer
     requires on_ground { OnGround wiring.now (length values.old) }
+    requires tabled { Tabled wiring.now }
     requires values_in_bounds { (length values.old ≤ length trail.old) × (length values.old < 2 ^ 32) × (length recording.old ≡ wiring.now.k) }
     ensures { let w = wiring.now in
         left (Ok result) recording ≡ limited w.c w.k limit recording.old (tree (clauses_in w) (length values.old) (w.k * w.c)) }

@@ -1,9 +1,11 @@
 -- What the queue goes by, as one value: the clauses that it stands for, and what stays as it is while a formula is searched. Nothing here
 -- need be believed: no call open to others cites it.
-use Rattle.std.specs.Prelude.{List, ℕ, ◌+◌}
+use Rattle.std.specs.Prelude.{◌≡◌, List, ℕ, ◌+◌}
+use Rattle.interval.specs.Places.{count_of}
 use Rattle.paper_clauses.specs.Clauses.{Clause}
 use Rattle.table_blocks.specs.declared.Block.{Block}
 use Rattle.table_layout.specs.Rows.{seat_by, block_by}
+use Rattle.search_decode.specs.Decode.{Tables}
 use Rattle.search_clauses.specs.Clauses.{nodes_by, table_by}
 use Rattle.search_fanout.specs.Fanout.{Ground, letter_at}
 use Rattle.search_fanout.specs.declared.Wiring.{Wiring}
@@ -31,3 +33,7 @@ letter_in w t e x = letter_at w.c w.k w.table.kinds w.table.numbers w.table.size
 -- its rows are a ground, `all` being how many variables there are
 abbrev pub OnGround : Wiring → ℕ → Type 0
 OnGround w all = Ground w.c w.k w.table.kinds w.table.numbers w.table.sizes w.firsts w.seats w.parents w.table.count all
+
+-- its tables are those of k steps, and `all` is how many intervals there are
+abbrev pub Tabled : Wiring → Type 0
+Tabled w = Tables w.k w.intervals.now w.starts.now w.rows.now × (w.all ≡ count_of w.k)

@@ -2,6 +2,8 @@
 #![tactic(auto)]
 
 ghost use Rattle.std.specs.Prelude.{◌≡◌, ◌≤◌, ◌<◌};
+ghost use Rattle.interval.specs.Places.{count_of};
+ghost use Rattle.interval.specs.Rows.{RowsOf};
 ghost use Rattle.search_visits.specs.Visits.{Visits};
 ghost use Rattle.search_fanout.specs.Fanout.{Rising};
 ghost use Rattle.search_fanout.specs.Walks.{Standing, rise_clauses, instant_clauses};
@@ -23,7 +25,8 @@ fn visit_rise(
     t: u32,
     i: u32,
 ) -> Closed
-    requires { Standing wiring.now.c wiring.now.k block values.old trail.old top × Rising block.rule a n × (i ≤ t) × (t < wiring.now.k) }
+    requires { let w = wiring.now in Standing w.c w.k block values.old trail.old top × Rising block.rule a n × (i ≤ t) × (t < w.k)
+        × (w.all ≡ count_of w.k) × RowsOf w.k w.rows.now }
     ensures { Visits (rise_clauses wiring.now.c wiring.now.k block a n t i) values trail top result }
 {
     let first = block.first + wiring.place(i, t + 1 - i);
@@ -63,7 +66,8 @@ pub fn visit_instant(
     n: u32,
     t: u32,
 ) -> Closed
-    requires { Standing wiring.now.c wiring.now.k block values.old trail.old top × Rising block.rule a n × (t < wiring.now.k) }
+    requires { let w = wiring.now in Standing w.c w.k block values.old trail.old top × Rising block.rule a n × (t < w.k)
+        × (w.all ≡ count_of w.k) × RowsOf w.k w.rows.now }
     ensures { Visits (instant_clauses wiring.now.c wiring.now.k block a n t) values trail top result }
 {
     let mut end = top;

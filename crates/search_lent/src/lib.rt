@@ -35,7 +35,6 @@ pub fn search_lent(
     ensures { (f : Tree Formula) → table ≡ node_table_of f
         → left (Ok result) recording ≡ limited c k limit recording.old (tree_of c k f) }
 {
-    // Before the wiring, whose type says what they are.
     let mut intervals = [0; Interval::MAX_COUNT];
     let mut starts = [0; Interval::MAX_ENDS];
     let mut rows = [0; Interval::MAX_ROWS];
@@ -46,12 +45,12 @@ pub fn search_lent(
         firsts,
         seats: [0; MAX_NODES],
         parents: [0; MAX_NODES],
-        intervals,
-        starts,
-        rows,
+        intervals: &intervals,
+        starts: &starts,
+        rows: &rows,
         c,
         k,
-        all: Interval::count(k as usize) as u32,
+        all: Interval::all(&rows, k),
     };
     let w = &mut wiring;
     table_layout::put_seats(&w.table.kinds, &w.table.numbers, &w.firsts, k, &mut w.seats);

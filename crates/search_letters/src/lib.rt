@@ -2,6 +2,7 @@
 #![tactic(auto)]
 
 ghost use Rattle.std.specs.Prelude.{◌≡◌, ◌*◌, ◌≤◌, ◌<◌, length};
+ghost use Rattle.interval.specs.Places.{count_of};
 ghost use Rattle.lists.specs.Listing.{rows};
 ghost use Rattle.search_closing.specs.Values.{Trailing};
 ghost use Rattle.search_visits.specs.Visits.{Visits};
@@ -30,7 +31,7 @@ fn reach_letter(
     e: u32,
 ) -> Closed
     requires on_ground { OnGround wiring.now (length values.old) × Trailing values.old trail.old top }
-    requires x_lt_count { (x < wiring.now.table.count) × (t < wiring.now.k) }
+    requires x_lt_count { (x < wiring.now.table.count) × (t < wiring.now.k) × (wiring.now.all ≡ count_of wiring.now.k) }
     ensures { Visits (letter_in wiring.now t e x) values trail top result }
 {
     let rule = table_blocks::rule_of(wiring.table.kinds[x], wiring.table.numbers[x]);
@@ -51,7 +52,7 @@ fn reach_letters(
     e: u32,
 ) -> Closed
     requires on_ground { OnGround wiring.now (length values.old) × Trailing values.old trail.old top }
-    requires t_lt_k { t < wiring.now.k }
+    requires t_lt_k { (t < wiring.now.k) × (wiring.now.all ≡ count_of wiring.now.k) }
     ensures { Visits (rows wiring.now.table.count (letter_in wiring.now t e)) values trail top result }
 {
     let mut last = top;
@@ -74,7 +75,7 @@ pub fn reach_channel(
     u: u32,
 ) -> Closed
     requires on_ground { OnGround wiring.now (length values.old) × Trailing values.old trail.old top }
-    requires le_u { (1 ≤ u) × (u ≤ wiring.now.k * wiring.now.c) }
+    requires le_u { (1 ≤ u) × (u ≤ wiring.now.k * wiring.now.c) × (wiring.now.all ≡ count_of wiring.now.k) }
     ensures { Reaches (clauses_in wiring.now) u values trail top result }
 {
     let at = search_decode::cell_at(u - 1, wiring.c);

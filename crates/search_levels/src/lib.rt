@@ -2,6 +2,7 @@
 #![tactic(auto)]
 
 ghost use Rattle.std.specs.Prelude.{◌≡◌};
+ghost use Rattle.interval.specs.Places.{count_of};
 ghost use Rattle.table_blocks.specs.Blocks.{defined_by, Placed};
 ghost use Rattle.search_visits.specs.Visits.{Visits};
 ghost use Rattle.search_clauses.specs.Clauses.{clauses_at};
@@ -32,7 +33,7 @@ pub fn visit_level(
     i: u32,
     d: u32,
 ) -> Closed
-    requires standing { Standing wiring.now.c wiring.now.k block values.old trail.old top × Leveled block.rule }
+    requires standing { let w = wiring.now in Standing w.c w.k block values.old trail.old top × Leveled block.rule × (w.all ≡ count_of w.k) }
     requires placed { Placed block.points wiring.now.k block.rule x a i d }
     ensures { Visits (clauses_at (defined_by wiring.now.c wiring.now.k block) x) values trail top result }
 {

@@ -2,6 +2,7 @@
 #![tactic(auto)]
 
 ghost use Rattle.std.specs.Prelude.{◌≡◌, false, ◌+◌};
+ghost use Rattle.search_fanout.specs.Wiring.{Tabled};
 ghost use Rattle.table_blocks.specs.Blocks.{is_chop, form_of};
 ghost use Rattle.table_blocks.specs.declared.Form.TheVariants.{Line, Intervals};
 ghost use Rattle.search_fanout.specs.Fanout.{Reaches, node_clauses, Node, InBlock};
@@ -19,7 +20,7 @@ fn reach_level(
     block: Block,
     x: u32,
 ) -> Closed
-    requires node { Node wiring.now.c wiring.now.k block values.old trail.old top × InBlock wiring.now.k block (block.first + x) }
+    requires node { Node wiring.now.c wiring.now.k block values.old trail.old top × InBlock wiring.now.k block (block.first + x) × Tabled wiring.now }
     requires rule_value { (form_of block.rule ≡ Intervals) × (is_chop block.rule ≡ false) }
     ensures { Reaches (node_clauses wiring.now.c wiring.now.k block) (block.first + x) values trail top result }
 {
@@ -47,7 +48,7 @@ pub fn reach(
     block: Block,
     u: u32,
 ) -> Closed
-    requires { Node wiring.now.c wiring.now.k block values.old trail.old top × InBlock wiring.now.k block u }
+    requires { Node wiring.now.c wiring.now.k block values.old trail.old top × InBlock wiring.now.k block u × Tabled wiring.now }
     ensures { Reaches (node_clauses wiring.now.c wiring.now.k block) u values trail top result }
 {
     let rule = block.rule;

@@ -3,6 +3,7 @@
 #![tactic(auto)]
 
 ghost use Rattle.std.specs.Prelude.{◌≡◌, ◌+◌, ◌<◌};
+ghost use Rattle.search_fanout.specs.Wiring.{Tabled};
 ghost use Rattle.interval.specs.Places.{count_of, triple_count_of};
 ghost use Rattle.table_blocks.specs.declared.Rule.TheVariants.{Chop};
 ghost use Rattle.search_fanout.specs.Fanout.{Reaches, node_clauses, Node};
@@ -20,7 +21,7 @@ fn reach_interval(
     block: Block,
     x: u32,
 ) -> Closed
-    requires { Node wiring.now.c wiring.now.k block values.old trail.old top × (block.rule ≡ Chop) × (x < count_of wiring.now.k) }
+    requires { Node wiring.now.c wiring.now.k block values.old trail.old top × (block.rule ≡ Chop) × (x < count_of wiring.now.k) × Tabled wiring.now }
     ensures { Reaches (node_clauses wiring.now.c wiring.now.k block) (block.first + x) values trail top result }
 {
     let v = wiring.interval_at(x);
@@ -32,7 +33,7 @@ fn reach_interval(
         cell: d,
         before: wiring.triple_place(i, d, 0),
     };
-    let w = table_nodes::beyond(block.first, &wiring.rows, wiring.k);
+    let w = table_nodes::beyond(block.first, wiring.rows, wiring.k);
     let whole = table_nodes::intervals_of(w, block);
     search_walks::visit_at(values, trail, top, wiring, whole, x, p)
 }
@@ -46,14 +47,14 @@ fn reach_triple(
     block: Block,
     x: u32,
 ) -> Closed
-    requires { Node wiring.now.c wiring.now.k block values.old trail.old top × (block.rule ≡ Chop) × (x < triple_count_of wiring.now.k) }
+    requires { Node wiring.now.c wiring.now.k block values.old trail.old top × (block.rule ≡ Chop) × (x < triple_count_of wiring.now.k) × Tabled wiring.now }
     ensures { Reaches (node_clauses wiring.now.c wiring.now.k block) (block.first + count_of wiring.now.k + x) values trail top result }
 {
     let t = wiring.triple_at(x);
     let i = t.i as u32;
     let d = t.j as u32 - i;
     let e = t.m as u32 - i;
-    let w = table_nodes::beyond(block.first, &wiring.rows, wiring.k);
+    let w = table_nodes::beyond(block.first, wiring.rows, wiring.k);
     let triples = table_nodes::triples_of(w, block);
     let r = search_walks::visit_cut(values, trail, top, wiring, triples, x, i, d, e);
     if r.clash {
@@ -73,7 +74,7 @@ pub fn reach_chop(
     x: u32,
 ) -> Closed
     requires { Node wiring.now.c wiring.now.k block values.old trail.old top × (block.rule ≡ Chop)
-        × (x < count_of wiring.now.k + triple_count_of wiring.now.k) }
+        × (x < count_of wiring.now.k + triple_count_of wiring.now.k) × Tabled wiring.now }
     ensures { Reaches (node_clauses wiring.now.c wiring.now.k block) (block.first + x) values trail top result }
 {
     if x < wiring.all {

@@ -3,6 +3,7 @@
 #![tactic(auto)]
 
 ghost use Rattle.std.specs.Prelude.{◌≡◌};
+ghost use Rattle.interval.specs.Places.{count_of};
 ghost use Rattle.table_blocks.specs.Blocks.{Placed};
 ghost use Rattle.search_visits.specs.Visits.{Visits};
 ghost use Rattle.search_fanout.specs.Fanout.{Levels};
@@ -24,7 +25,7 @@ pub fn visit_after(
     p: Position,
     levels: u32,
 ) -> Closed
-    requires standing { Standing wiring.now.c wiring.now.k block values.old trail.old top × Levels block.rule levels }
+    requires standing { let w = wiring.now in Standing w.c w.k block values.old trail.old top × Levels block.rule levels × (w.all ≡ count_of w.k) }
     requires placed { Placed block.points wiring.now.k block.rule x p.row p.line p.cell }
     ensures { Visits (after_clauses wiring.now.c wiring.now.k block levels x p) values trail top result }
 {

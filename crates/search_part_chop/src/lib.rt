@@ -2,6 +2,7 @@
 #![tactic(auto)]
 
 ghost use Rattle.std.specs.Prelude.{◌≡◌, ◌*◌, ◌<◌};
+ghost use Rattle.search_fanout.specs.Wiring.{Tabled};
 ghost use Rattle.table_blocks.specs.declared.Rule.TheVariants.{Chop};
 ghost use Rattle.search_fanout.specs.Fanout.{Reaches, node_clauses, Node, InBlock};
 ghost use Rattle.search_part_chop.specs.Among.{Among};
@@ -30,12 +31,12 @@ pub fn reach_chop(
     u: u32,
 ) -> Closed
     requires { Node wiring.now.c wiring.now.k block values.old trail.old top × (block.rule ≡ Chop)
-        × (InBlock wiring.now.k block u → ⊥) × (wiring.now.k * wiring.now.c < u) }
+        × (InBlock wiring.now.k block u → ⊥) × (wiring.now.k * wiring.now.c < u) × Tabled wiring.now }
     ensures { Reaches (node_clauses wiring.now.c wiring.now.k block) u values trail top result }
 {
     let left = block.left;
     let right = block.right;
-    let w = table_nodes::beyond(block.first, &wiring.rows, wiring.k);
+    let w = table_nodes::beyond(block.first, wiring.rows, wiring.k);
     let triples = table_nodes::triples_of(w, block);
     if among(left, wiring.all, u) {
         let v = wiring.interval_at(u - left);

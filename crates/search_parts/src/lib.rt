@@ -2,6 +2,7 @@
 #![tactic(auto)]
 
 ghost use Rattle.std.specs.Prelude.{◌≡◌, false, ◌*◌, ◌<◌};
+ghost use Rattle.search_fanout.specs.Wiring.{Tabled};
 ghost use Rattle.table_blocks.specs.Blocks.{is_chop, form_of};
 ghost use Rattle.table_blocks.specs.declared.Form.TheVariants.{Line, Intervals};
 ghost use Rattle.search_fanout.specs.Fanout.{Reaches, node_clauses, Node, InBlock};
@@ -59,7 +60,7 @@ fn reach_instant(
     u: u32,
 ) -> Closed
     requires node { Node wiring.now.c wiring.now.k block values.old trail.old top
-        × (InBlock wiring.now.k block u → ⊥) × (wiring.now.k * wiring.now.c < u) }
+        × (InBlock wiring.now.k block u → ⊥) × (wiring.now.k * wiring.now.c < u) × Tabled wiring.now }
     requires rule_value { (form_of block.rule ≡ Intervals) × (is_chop block.rule ≡ false) }
     ensures { Reaches (node_clauses wiring.now.c wiring.now.k block) u values trail top result }
 {
@@ -83,7 +84,7 @@ pub fn reach(
     u: u32,
 ) -> Closed
     requires { Node wiring.now.c wiring.now.k block values.old trail.old top
-        × (InBlock wiring.now.k block u → ⊥) × (wiring.now.k * wiring.now.c < u) }
+        × (InBlock wiring.now.k block u → ⊥) × (wiring.now.k * wiring.now.c < u) × Tabled wiring.now }
     ensures { Reaches (node_clauses wiring.now.c wiring.now.k block) u values trail top result }
 {
     let rule = block.rule;

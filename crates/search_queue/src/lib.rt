@@ -6,7 +6,7 @@ ghost use Rattle.std.specs.Prelude.{length};
 ghost use Rattle.search_closing.specs.Values.{Trailing};
 ghost use Rattle.search_closing.specs.Closing.{Closes};
 ghost use Rattle.search_fanout.specs.Fanout.{Pending};
-ghost use Rattle.search_fanout.specs.Wiring.{OnGround, clauses_in};
+ghost use Rattle.search_fanout.specs.Wiring.{OnGround, clauses_in, Tabled};
 
 use search_closing::Closed;
 use search_fanout::Wiring;
@@ -21,6 +21,7 @@ pub fn close(
     wiring: &Wiring,
 ) -> Closed
     requires on_ground { OnGround wiring.now (length values.old) }
+    requires tabled { Tabled wiring.now }
     requires pending { Pending (clauses_in wiring.now) values.old trail.old head top }
     ensures { Closes (clauses_in wiring.now) values trail top result }
 {
@@ -47,6 +48,7 @@ pub fn close(
 // From values that are all open: every gate visited once, and then the whole trail.
 pub fn start(values: &mut [u8], trail: &mut [u32], wiring: &Wiring) -> Closed
     requires on_ground { OnGround wiring.now (length values.old) }
+    requires tabled { Tabled wiring.now }
     requires trailing { Trailing values.old trail.old 0 }
     ensures { Closes (clauses_in wiring.now) values trail 0 result }
 {

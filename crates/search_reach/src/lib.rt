@@ -5,7 +5,7 @@ ghost use Rattle.std.specs.Prelude.{◌*◌, ◌≤◌, ◌<◌, length};
 ghost use Rattle.table_gates.specs.Mentioned.{Variable};
 ghost use Rattle.search_closing.specs.Values.{Trailing};
 ghost use Rattle.search_fanout.specs.Fanout.{Reaches};
-ghost use Rattle.search_fanout.specs.Wiring.{OnGround, clauses_in};
+ghost use Rattle.search_fanout.specs.Wiring.{OnGround, clauses_in, Tabled};
 
 use paper_circuit::Gate;
 use search_closing::Closed;
@@ -15,6 +15,7 @@ use search_fanout::Wiring;
 fn reach_row(values: &mut [u8], trail: &mut [u32], top: usize, wiring: &Wiring, u: u32) -> Closed
     requires on_ground { OnGround wiring.now (length values.old) × Trailing values.old trail.old top }
     requires beyond { (wiring.now.k * wiring.now.c < u) × (u ≤ length values.old) }
+    requires tabled { Tabled wiring.now }
     ensures { Reaches (clauses_in wiring.now) u values trail top result }
 {
     let z = search_decode::last_from(&wiring.firsts, wiring.table.count, u);
@@ -39,6 +40,7 @@ fn reach_row(values: &mut [u8], trail: &mut [u32], top: usize, wiring: &Wiring, 
 pub fn reach(values: &mut [u8], trail: &mut [u32], top: usize, wiring: &Wiring, u: u32) -> Closed
     requires on_ground { OnGround wiring.now (length values.old) × Trailing values.old trail.old top }
     requires variable { Variable (length values.old) u }
+    requires tabled { Tabled wiring.now }
     ensures { Reaches (clauses_in wiring.now) u values trail top result }
 {
     if u <= wiring.channels() {

@@ -2,6 +2,7 @@
 #![tactic(auto)]
 
 ghost use Rattle.std.specs.Prelude.{◌+◌, ◌≤◌, ◌<◌, length};
+ghost use Rattle.interval.specs.Rows.{RowsOf};
 ghost use Rattle.interval.specs.Limits.{max_count};
 ghost use Rattle.interval.specs.Places.{count_of};
 ghost use Rattle.table_blocks.specs.Blocks.{is_chop, defined_by, Bounded};
@@ -24,16 +25,17 @@ fn sweep_block(
     wiring: &Wiring,
     block: Block,
 ) -> Closed
-    requires bounded { (Bounded wiring.now.c wiring.now.k block × (block.points ≤ max_count)) × Trailing values.old trail.old top }
+    requires bounded { (Bounded wiring.now.c wiring.now.k block × (block.points ≤ max_count)) × Trailing values.old trail.old top
+        × RowsOf wiring.now.k wiring.now.rows.now }
     requires all_mentioned { AllMentioned (length values.old) (defined_by wiring.now.c wiring.now.k block) }
     ensures { Visits (clauses_by (defined_by wiring.now.c wiring.now.k block)) values trail top result }
 {
-    let mut cursor = Cursor::start(&wiring.rows, wiring.k, block);
+    let mut cursor = Cursor::start(wiring.rows, wiring.k, block);
     let mut t = top;
     while cursor.place < cursor.end {
         let gate = table_blocks::gate_at(
             wiring.c,
-            &wiring.rows,
+            wiring.rows,
             wiring.k,
             cursor.all,
             block,
@@ -61,11 +63,11 @@ fn sweep_chop(
     wiring: &Wiring,
     block: Block,
 ) -> Closed
-    requires fine { Fine wiring.now.c wiring.now.k block × Trailing values.old trail.old top }
+    requires fine { Fine wiring.now.c wiring.now.k block × Trailing values.old trail.old top × RowsOf wiring.now.k wiring.now.rows.now }
     requires all_mentioned { AllMentioned (length values.old) (chopped_by wiring.now.c wiring.now.k (block.first + count_of wiring.now.k) block) }
     ensures { Visits (clauses_by (chopped_by wiring.now.c wiring.now.k (block.first + count_of wiring.now.k) block)) values trail top result }
 {
-    let w = table_nodes::beyond(block.first, &wiring.rows, wiring.k);
+    let w = table_nodes::beyond(block.first, wiring.rows, wiring.k);
     let triples = table_nodes::triples_of(w, block);
     let intervals = table_nodes::intervals_of(w, block);
     let r = sweep_block(values, trail, top, wiring, triples);
@@ -83,7 +85,7 @@ pub fn sweep_node(
     wiring: &Wiring,
     block: Block,
 ) -> Closed
-    requires fine { Fine wiring.now.c wiring.now.k block × Trailing values.old trail.old top }
+    requires fine { Fine wiring.now.c wiring.now.k block × Trailing values.old trail.old top × RowsOf wiring.now.k wiring.now.rows.now }
     requires all_mentioned { AllMentioned (length values.old) (node_by wiring.now.c wiring.now.k block (is_chop block.rule)) }
     ensures { Visits (clauses_by (node_by wiring.now.c wiring.now.k block (is_chop block.rule))) values trail top result }
 {

@@ -2,6 +2,7 @@
 #![tactic(auto)]
 
 ghost use Rattle.std.specs.Prelude.{ℕ, ◌≤◌, ◌<◌, length};
+ghost use Rattle.interval.specs.Rows.{RowsOf};
 ghost use Rattle.interval.specs.Limits.{max_steps};
 ghost use Rattle.paper_grammar.specs.Limits.{max_nodes, max_channels};
 ghost use Rattle.table_layout.specs.Rows.{Low, row_definitions};
@@ -17,7 +18,7 @@ use search_fanout::Wiring;
 // All nodes, in number order.
 fn sweep_nodes(values: &mut [u8], trail: &mut [u32], top: usize, wiring: &Wiring) -> Closed
     requires limits { let w = wiring.now in (w.c ≤ max_channels) × (w.k ≤ max_steps) × (w.table.count ≤ max_nodes)
-        × Low w.firsts × Trailing values.old trail.old top }
+        × Low w.firsts × Trailing values.old trail.old top × RowsOf w.k w.rows.now }
     requires by_index { let w = wiring.now in (x : ℕ) → x < w.table.count → AllMentioned (length values.old)
         (row_definitions w.c w.k w.table.kinds w.table.numbers w.table.sizes w.firsts x) }
     ensures { Visits (nodes_in wiring.now wiring.now.table.count) values trail top result }
@@ -48,7 +49,7 @@ fn sweep_nodes(values: &mut [u8], trail: &mut [u32], top: usize, wiring: &Wiring
 // All nodes, and the root.
 pub fn sweep(values: &mut [u8], trail: &mut [u32], top: usize, wiring: &Wiring) -> Closed
     requires limits { let w = wiring.now in (w.c ≤ max_channels) × (w.k ≤ max_steps) × (w.table.count ≤ max_nodes)
-        × Low w.firsts × Trailing values.old trail.old top }
+        × Low w.firsts × Trailing values.old trail.old top × RowsOf w.k w.rows.now }
     requires variable { Variable (length values.old) (root_in wiring.now) }
     requires by_index { let w = wiring.now in (x : ℕ) → x < w.table.count → AllMentioned (length values.old)
         (row_definitions w.c w.k w.table.kinds w.table.numbers w.table.sizes w.firsts x) }

@@ -4,7 +4,7 @@
 
 ghost use Rattle.std.specs.Prelude.{◌*◌, length};
 ghost use Rattle.paper_closure.specs.Closure.{nothing};
-ghost use Rattle.search_fanout.specs.Wiring.{OnGround, clauses_in};
+ghost use Rattle.search_fanout.specs.Wiring.{OnGround, clauses_in, Tabled};
 ghost use Rattle.search_attempts.specs.Attempts.{Holding};
 ghost use Rattle.search_tries.specs.Tries.{Started};
 
@@ -37,6 +37,7 @@ pub fn descend(
     limit: u32,
 ) -> Below
     requires on_ground { OnGround wiring.now (length values.old) }
+    requires tabled { Tabled wiring.now }
     requires holding { Holding (clauses_in wiring.now) nothing values.old trail.old closed }
     ensures { Started (clauses_in wiring.now) (length values.old) (wiring.now.k * wiring.now.c) limit values.new result }
 {

@@ -2,6 +2,8 @@
 #![tactic(auto)]
 
 ghost use Rattle.std.specs.Prelude.{◌≡◌, ◌≤◌};
+ghost use Rattle.interval.specs.Places.{count_of};
+ghost use Rattle.interval.specs.Rows.{RowsOf, StartsOf};
 ghost use Rattle.table_blocks.specs.declared.Rule.TheVariants.{Cut};
 ghost use Rattle.search_visits.specs.Visits.{Visits};
 ghost use Rattle.search_fanout.specs.Walks.{Standing, first_clauses, second_clauses};
@@ -21,7 +23,8 @@ pub fn visit_first(
     i: u32,
     m: u32,
 ) -> Closed
-    requires { Standing wiring.now.c wiring.now.k block values.old trail.old top × (block.rule ≡ Cut) × (i ≤ m) × (m ≤ wiring.now.k) }
+    requires { let w = wiring.now in Standing w.c w.k block values.old trail.old top × (block.rule ≡ Cut) × (i ≤ m) × (m ≤ w.k)
+        × RowsOf w.k w.rows.now × StartsOf w.k w.starts.now }
     ensures { Visits (first_clauses wiring.now.c wiring.now.k block i m) values trail top result }
 {
     let x = block.left + wiring.place(i, m - i);
@@ -54,7 +57,8 @@ pub fn visit_second(
     m: u32,
     j: u32,
 ) -> Closed
-    requires { Standing wiring.now.c wiring.now.k block values.old trail.old top × (block.rule ≡ Cut) × (m ≤ j) × (j ≤ wiring.now.k) }
+    requires { let w = wiring.now in Standing w.c w.k block values.old trail.old top × (block.rule ≡ Cut) × (m ≤ j) × (j ≤ w.k)
+        × (w.all ≡ count_of w.k) × RowsOf w.k w.rows.now × StartsOf w.k w.starts.now }
     ensures { Visits (second_clauses wiring.now.c wiring.now.k block m j) values trail top result }
 {
     let start = wiring.place(m, j - m);

@@ -2,6 +2,8 @@
 #![tactic(auto)]
 
 ghost use Rattle.std.specs.Prelude.{◌≡◌, ◌^◌, ◌<◌};
+ghost use Rattle.interval.specs.Places.{count_of};
+ghost use Rattle.interval.specs.Rows.{RowsOf};
 ghost use Rattle.table_blocks.specs.Blocks.{form_of, defined_by, Placed, Before, Bounded};
 ghost use Rattle.table_blocks.specs.declared.Form.TheVariants.{Line};
 ghost use Rattle.table_blocks.specs.declared.Rule.TheVariants.{Chop, Cut};
@@ -25,12 +27,12 @@ pub fn visit_at(
     x: u32,
     p: Position,
 ) -> Closed
-    requires standing { Standing wiring.now.c wiring.now.k block values.old trail.old top }
+    requires standing { let w = wiring.now in Standing w.c w.k block values.old trail.old top × (w.all ≡ count_of w.k) × RowsOf w.k w.rows.now }
     requires placed { Placed block.points wiring.now.k block.rule x p.row p.line p.cell × (block.rule ≡ Chop → Before block.points wiring.now.k Chop p) }
     ensures { Visits (clauses_at (defined_by wiring.now.c wiring.now.k block) x) values trail top result }
 {
     let first = block.first;
-    let gate = table_blocks::gate_at(wiring.c, &wiring.rows, wiring.k, wiring.all, block, x, p);
+    let gate = table_blocks::gate_at(wiring.c, wiring.rows, wiring.k, wiring.all, block, x, p);
     search_gate::visit(values, trail, top, first + x, gate)
 }
 
@@ -46,7 +48,7 @@ pub fn visit_cut(
     d: u32,
     e: u32,
 ) -> Closed
-    requires standing { Standing wiring.now.c wiring.now.k block values.old trail.old top × (block.rule ≡ Cut) }
+    requires standing { let w = wiring.now in Standing w.c w.k block values.old trail.old top × (block.rule ≡ Cut) × RowsOf w.k w.rows.now }
     requires placed { Placed block.points wiring.now.k block.rule x i d e }
     ensures { Visits (clauses_at (defined_by wiring.now.c wiring.now.k block) x) values trail top result }
 {

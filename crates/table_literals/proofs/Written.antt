@@ -5,8 +5,8 @@ use mathlib.Core.List.{List, [], ◌∷◌, ◌++◌, map, map-append}
 use Prim.Native.Nat.{ℕ, zero, suc, ◌+◌, ◌≤◌, ◌<◌}
 use native.Mathlib.Numerals.{add-one}
 use native.Mathlib.Omega.{arith}
-use lib.ListN.{length, take, set, replicate, length-append, length-map, length-replicate}
-use lib.Seq.{sets, length-sets, take-suc-set, take_all}
+use lib.ListN.{length, get_or, take, set, replicate, length-append, length-map, length-replicate}
+use lib.Seq.{sets, length-sets, length-take-le, take-suc, take-suc-set, take_all}
 use borrow.Rule.Slice.PartMut.{put_mid}
 use Rattle.std.proofs.lemmas.List.{replicate_more}
 use Rattle.lists.specs.Listing.{rows, tab}
@@ -14,6 +14,21 @@ use Rattle.lists.proofs.Listing.{rows_le, rows_next, map_rows, length_tab}
 use Rattle.paper_clauses.specs.Entries.{Entry, entry, variables_in, marks_in}
 use Rattle.lists.proofs.Stored.{sets_append, part_stored}
 use Rattle.table_literals.specs.Written.{Room, Wrote, Sofar, run_of}
+
+-- ---- a copy of items of any type: after e turns the first e are stored
+
+module _ {A : Type 0} where
+  one_more : (s : List A) (i : ℕ) (l : List A) (x : A) → set (sets s i l) (i + length l) x ≡ sets s i (l ++ x ∷ [])
+  one_more s i [] x = let e : i + 0 ≡ i = omega arith in ap (λ (j : ℕ). set s j x) e
+  one_more s i (a ∷ l) x =
+      let e : i + suc (length l) ≡ suc i + length l = omega arith in ap (λ (j : ℕ). set (sets s i (a ∷ l)) j x) e ∙ one_more (set s i a) (suc i) l x
+
+  pub store_turn : (s : List A) (i e : ℕ) (l : List A) (x : A) {t : List A} → e < length l → x ≡ get_or l e x → t ≡ sets s i (take e l)
+      → set t (i + e) x ≡ sets s i (take (e + 1) l)
+  store_turn s i e l x {t} h q p =
+      let n : i + e ≡ i + length (take e l) = omega (arith, length-take-le e l (omega arith)) in
+      let k : take e l ++ x ∷ [] ≡ take (e + 1) l = ap (λ (y : A). take e l ++ y ∷ []) q ∙ sym (take-suc l e x h) ∙ ap (λ (k : ℕ). take k l) (sym (add-one e)) in
+      ap (λ (t : List A). set t (i + e) x) p ∙ ap (λ (j : ℕ). set (sets s i (take e l)) j x) n ∙ one_more s i (take e l) x ∙ ap (sets s i) k
 
 -- ---- a run: variables one after another, all with one mark
 

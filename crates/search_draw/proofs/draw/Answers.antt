@@ -7,7 +7,7 @@ use Rattle.search_draw.proofs.Drawn.{drawn_none, drawn_found, drawn_spent}
 use Rattle.search_draw.proofs.draw.Goals as goal
 
 pub start-requires : goal.start-requires
-start-requires c = record { on_ground = c.requires.on_ground; values_in_bounds = (c.requires.values_in_bounds.0, c.requires.values_in_bounds.1) }
+start-requires c = record { on_ground = c.requires.on_ground; tabled = c.requires.tabled; values_in_bounds = (c.requires.values_in_bounds.0, c.requires.values_in_bounds.1) }
 
 pub put_recording-requires : goal.put_recording-requires
 put_recording-requires c =

@@ -15,7 +15,7 @@ loop-i-init c = (refl, refl, omega arith, loop_begun _ c.requires.0.trailing)
 pub visit_rise-r-requires : goal.visit_rise-r-requires
 visit_rise-r-requires c =
     let i = c.loop-i.invariant in
-    (stands c.requires.0 i.0 i.3.grown.trailing, c.requires.1, omega (arith, c.loop-i-test.true), c.requires.2)
+    (stands c.requires.0 i.0 i.3.grown.trailing, c.requires.1, omega (arith, c.loop-i-test.true), c.requires.2, c.requires.3, c.requires.4)
 
 pub returns-then-r : goal.returns-then-r
 returns-then-r c =

@@ -17,7 +17,7 @@ pub overflow_add-t : goal.overflow_add-t
 overflow_add-t c = omega (arith, c.requires, c.requires.0.bounded.steps)
 
 pub place-requires : goal.place-requires
-place-requires c = (omega (arith, c.requires, c.requires.0.bounded.steps), c.requires.0.bounded.steps)
+place-requires c = (omega (arith, c.requires, c.requires.0.bounded.steps), c.requires.0.bounded.steps, c.requires.5)
 
 pub overflow_add-first : goal.overflow_add-first
 overflow_add-first c = omega (arith, c.place.ensures.1, c.requires.0.bounded.first)
@@ -62,18 +62,18 @@ returns-then-a-eq0 c =
 
 pub overflow_add-v : goal.overflow_add-v
 overflow_add-v c =
-    omega (arith, begun_small c.requires.0.bounded.steps c.requires.2 c.requires.3 c.place.ensures.0 c.args.wiring.now.every, c.requires.0.bounded.first)
+    omega (arith, begun_small c.requires.0.bounded.steps c.requires.2 c.requires.3 c.place.ensures.0 c.requires.4, c.requires.0.bounded.first)
 
 pub loop-e-init : goal.loop-e-init
 loop-e-init c =
-    (refl, refl, omega arith, rise_begun c.requires.1 c.if-a-eq0.false c.requires.2 c.requires.3 c.place.ensures.0 c.args.wiring.now.every, loop_begun _ c.requires.0.trailing)
+    (refl, refl, omega arith, rise_begun c.requires.1 c.if-a-eq0.false c.requires.2 c.requires.3 c.place.ensures.0 c.requires.4, loop_begun _ c.requires.0.trailing)
 
 pub overflow_sub-p : goal.overflow_sub-p
-overflow_sub-p c = omega (arith, rise_small c.loop-e.invariant.3 c.args.wiring.now.every c.loop-e-test.true c.requires.0.bounded)
+overflow_sub-p c = omega (arith, rise_small c.loop-e.invariant.3 c.requires.4 c.loop-e-test.true c.requires.0.bounded)
 
 pub overflow_sub-q : goal.overflow_sub-q
 overflow_sub-q c =
-    omega (arith, rise_small c.loop-e.invariant.3 c.args.wiring.now.every c.loop-e-test.true c.requires.0.bounded)
+    omega (arith, rise_small c.loop-e.invariant.3 c.requires.4 c.loop-e-test.true c.requires.0.bounded)
 
 pub overflow_add-block : goal.overflow_add-block
 overflow_add-block c = omega (arith, c.requires, c.requires.0.bounded.steps, c.requires.0.bounded.left)
@@ -81,17 +81,17 @@ overflow_add-block c = omega (arith, c.requires, c.requires.0.bounded.steps, c.r
 pub settle_step-r-requires : goal.settle_step-r-requires
 settle_step-r-requires c =
     let i = c.loop-e.invariant in
-    let a = rise_asks i.3 c.args.wiring.now.every c.loop-e-test.true (stands c.requires.0 i.0 i.4.grown.trailing) in
+    let a = rise_asks i.3 c.requires.4 c.loop-e-test.true (stands c.requires.0 i.0 i.4.grown.trailing) in
     (i.4.grown.trailing, a.0, a.1)
 
 pub returns-then-r : goal.returns-then-r
 returns-then-r c =
     let i = c.loop-e.invariant in let h = c.loop-e-test.true in
-    loop_stop _ _ i.4 (rise_clauses_lem i.3 c.args.wiring.now.every h _) (settled_visited c.settle_step-r.ensures) _ h c.if-r.true
+    loop_stop _ _ i.4 (rise_clauses_lem i.3 c.requires.4 h _) (settled_visited c.settle_step-r.ensures) _ h c.if-r.true
 
 pub overflow_add-v-in-loop-e : goal.overflow_add-v-in-loop-e
 overflow_add-v-in-loop-e c =
-    omega (arith, rise_small c.loop-e.invariant.3 c.args.wiring.now.every c.loop-e-test.true c.requires.0.bounded)
+    omega (arith, rise_small c.loop-e.invariant.3 c.requires.4 c.loop-e-test.true c.requires.0.bounded)
 
 pub loop-e-preserved : goal.loop-e-preserved
 loop-e-preserved c =
@@ -99,8 +99,8 @@ loop-e-preserved c =
       c.settle_step-r.auto.values ∙ i.0,
       c.settle_step-r.auto.trail ∙ i.1,
       omega (arith, h),
-      rise_turn i.3 c.args.wiring.now.every,
-      loop_turn _ _ i.4 (rise_clauses_lem i.3 c.args.wiring.now.every h _) (settled_visited c.settle_step-r.ensures) c.if-r.false,
+      rise_turn i.3 c.requires.4,
+      loop_turn _ _ i.4 (rise_clauses_lem i.3 c.requires.4 h _) (settled_visited c.settle_step-r.ensures) c.if-r.false,
     )
 
 pub returns : goal.returns

@@ -42,6 +42,7 @@ draw-requires c =
     record {
       on_ground = on_ground _ _ p.3.0 p.3.1.is c.requires.measured a.values.now a.trail.now a.recording.now h.0 h.1 h.2 p.3.1.letters p.0 p.1 p.2
           c.put_seats.ensures c.put_parents.ensures;
+      tabled = (c.put_tables.ensures, c.all.ensures.0);
       values_in_bounds = parts_fit _ _ p.3.0 p.3.1.is c.requires.measured a.values.now a.trail.now a.recording.now h.0 h.1 h.2
           (omega arith);
     }

@@ -15,7 +15,7 @@ cell_at-at-requires c =
 pub reach_letters-requires : goal.reach_letters-requires
 reach_letters-requires c =
     let a = c.args in let w = a.wiring.now in
-    record { on_ground = c.requires.on_ground; t_lt_k = instant_below w.c w.k (a.u - 1) (omega (arith, c.requires.le_u.0, c.requires.le_u.1)) c.cell_at-at.ensures }
+    record { on_ground = c.requires.on_ground; t_lt_k = (instant_below w.c w.k (a.u - 1) (omega (arith, c.requires.le_u.0, c.requires.le_u.1)) c.cell_at-at.ensures, c.requires.le_u.2) }
 
 pub returns : goal.returns
 returns c =

@@ -13,7 +13,7 @@ loop-x-init c = (refl, refl, omega arith, loop_begun _ c.requires.on_ground.1)
 
 pub reach_letter-r-requires : goal.reach_letter-r-requires
 reach_letter-r-requires c =
-    let i = c.loop-x.invariant in record { on_ground = (ground_still i.0 c.requires.on_ground.0, i.3.grown.trailing); x_lt_count = (c.loop-x-test.true, c.requires.t_lt_k) }
+    let i = c.loop-x.invariant in record { on_ground = (ground_still i.0 c.requires.on_ground.0, i.3.grown.trailing); x_lt_count = (c.loop-x-test.true, c.requires.t_lt_k.0, c.requires.t_lt_k.1) }
 
 pub returns-then-r : goal.returns-then-r
 returns-then-r c =

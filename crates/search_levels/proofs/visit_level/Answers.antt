@@ -83,7 +83,7 @@ overflow_sub-q c =
       arith,
       (level_position c.requires.placed (level_rule c.is_throughout.ensures c.requires.standing.1 c.if-is_throughout.false).1).1 (omega (arith, c.if-a-eq0.false))
           (omega (arith, c.if-d-eq0-2.false)),
-      c.args.wiring.now.every,
+      c.requires.standing.2,
     )
 
 pub overflow_add-first : goal.overflow_add-first
@@ -115,10 +115,10 @@ settle_step-requires c = (
   c.requires.standing.0.trailing,
   variable_here c.requires.standing.0 c.requires.placed,
   inputs_here c.requires.standing.0 c.requires.placed (level_gate_lem _ _ _ _ _ _ _ (level_rule c.is_throughout.ensures c.requires.standing.1 c.if-is_throughout.false).1 c.if-a-eq0.false
-      c.if-d-eq0-2.false refl (omega (arith, c.args.wiring.now.every)) refl),
+      c.if-d-eq0-2.false refl (omega (arith, c.requires.standing.2)) refl),
 )
 
 pub returns : goal.returns
 returns c =
     visited_here c.requires.standing.0 c.requires.placed (level_gate_lem _ _ _ _ _ _ _ (level_rule c.is_throughout.ensures c.requires.standing.1 c.if-is_throughout.false).1 c.if-a-eq0.false c.if-d-eq0-2.false refl
-    (omega (arith, c.args.wiring.now.every)) refl) c.settle_step.ensures
+    (omega (arith, c.requires.standing.2)) refl) c.settle_step.ensures

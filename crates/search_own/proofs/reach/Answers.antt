@@ -13,7 +13,7 @@ pub reach_chop-requires : goal.reach_chop-requires
 reach_chop-requires c =
     let b = c.args.block in
     let e = chop_rule b.rule (sym c.is_chop.ensures ∙ c.if-is_chop.true) in
-    (c.requires.0, e, own_chop c.args.wiring.now.k b c.requires.1 (omega (arith, c.requires.1)) e)
+    (c.requires.0, e, own_chop c.args.wiring.now.k b c.requires.1 (omega (arith, c.requires.1)) e, c.requires.2)
 
 pub returns-then-is_chop : goal.returns-then-is_chop
 returns-then-is_chop c =
@@ -27,7 +27,7 @@ visit_line-requires c =
 
 pub reach_level-requires : goal.reach_level-requires
 reach_level-requires c =
-    let b = c.args.block in record { node = (c.requires.0, subst (InBlock c.args.wiring.now.k b) (omega (arith, c.requires.1)) c.requires.1); rule_value = (sym c.form_of.ensures ∙ c.in-Intervals.is, sym c.is_chop.ensures ∙ c.if-is_chop.false) }
+    let b = c.args.block in record { node = (c.requires.0, subst (InBlock c.args.wiring.now.k b) (omega (arith, c.requires.1)) c.requires.1, c.requires.2); rule_value = (sym c.form_of.ensures ∙ c.in-Intervals.is, sym c.is_chop.ensures ∙ c.if-is_chop.false) }
 
 pub returns-in-Line : goal.returns-in-Line
 returns-in-Line c =

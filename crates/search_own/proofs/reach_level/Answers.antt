@@ -12,11 +12,11 @@ use Rattle.search_lines.proofs.Places.{some_intervals, rise_small, rise_some, le
 use Rattle.search_own.proofs.reach_level.Goals as goal
 
 pub cell_at-level-requires : goal.cell_at-level-requires
-cell_at-level-requires c = omega (arith, c.args.wiring.now.every, some_intervals c.args.wiring.now.k)
+cell_at-level-requires c = omega (arith, c.requires.node.2.1, some_intervals c.args.wiring.now.k)
 
 pub interval_at-v-requires : goal.interval_at-v-requires
 interval_at-v-requires c =
-    omega (arith, c.cell_at-level.ensures.inside, c.args.wiring.now.every)
+    let t = c.requires.node.2 in (omega (arith, c.cell_at-level.ensures.inside, t.1), t.0.room, t.0.intervals_to)
 
 pub overflow_add-levels : goal.overflow_add-levels
 overflow_add-levels c =
@@ -29,7 +29,7 @@ overflow_sub-levels c =
 
 pub visit_after-requires : goal.visit_after-requires
 visit_after-requires c =
-    let b = c.args.block in record { standing = (whole_stands c.requires.node.0 c.requires.rule_value.1, levels_known b.rule c.requires.rule_value.0 c.requires.rule_value.1 c.rise_of-rise.ensures); placed = level_here c.args.wiring.now.k b c.args.x c.requires.rule_value.0 c.requires.rule_value.1 c.args.wiring.now.every c.requires.node.1 c.cell_at-level.result c.cell_at-level.ensures c.interval_at-v.result c.interval_at-v.ensures }
+    let b = c.args.block in record { standing = (whole_stands c.requires.node.0 c.requires.rule_value.1, levels_known b.rule c.requires.rule_value.0 c.requires.rule_value.1 c.rise_of-rise.ensures, c.requires.node.2.1); placed = level_here c.args.wiring.now.k b c.args.x c.requires.rule_value.0 c.requires.rule_value.1 c.requires.node.2.1 c.requires.node.1 c.cell_at-level.result c.cell_at-level.ensures c.interval_at-v.result c.interval_at-v.ensures }
 
 pub returns : goal.returns
 returns c =
@@ -37,4 +37,4 @@ returns c =
     let b = a.block in
     let position : Position = record { row = c.cell_at-level.result.line; line = c.interval_at-v.result.i; cell = c.interval_at-v.result.j - c.interval_at-v.result.i; before = 0 } in
     reached (after_suffices w.c w.k _ b position (levels_known b.rule c.requires.rule_value.0 c.requires.rule_value.1 c.rise_of-rise.ensures) c.requires.node.0.laid
-    (level_here w.k b a.x c.requires.rule_value.0 c.requires.rule_value.1 c.args.wiring.now.every c.requires.node.1 c.cell_at-level.result c.cell_at-level.ensures c.interval_at-v.result c.interval_at-v.ensures) refl) c.visit_after.ensures
+    (level_here w.k b a.x c.requires.rule_value.0 c.requires.rule_value.1 c.requires.node.2.1 c.requires.node.1 c.cell_at-level.result c.cell_at-level.ensures c.interval_at-v.result c.interval_at-v.ensures) refl) c.visit_after.ensures

@@ -10,10 +10,13 @@ use Rattle.search_fanout.proofs.Stands.{intervals_stand}
 use Rattle.search_own_chop.proofs.Places.{interval_here, before_at, interval_clauses}
 use Rattle.search_own_chop.proofs.reach_interval.Goals as goal
 
+pub interval_at-v-requires : goal.interval_at-v-requires
+interval_at-v-requires c = (c.requires.2, c.requires.3.0.room, c.requires.3.0.intervals_to)
+
 pub triple_place-requires : goal.triple_place-requires
 triple_place-requires c =
     let o = c.interval_at-v.ensures.0 in
-    (omega arith, omega (arith, o.starts, o.ends), c.requires.0.fine.bounded.steps)
+    (omega arith, omega (arith, o.starts, o.ends), c.requires.0.fine.bounded.steps, c.requires.3.0.rows_of, c.requires.3.0.starts_of)
 
 pub visit_at-requires : goal.visit_at-requires
 visit_at-requires c =
@@ -21,7 +24,7 @@ visit_at-requires c =
     let v = c.interval_at-v.result in let o = c.interval_at-v.ensures in
     let b = a.block in
     let h = halves b c.beyond-w.ensures refl c.intervals_of-whole.ensures in record {
-      standing = intervals_stand c.requires.0 c.requires.1 h;
+      standing = (intervals_stand c.requires.0 c.requires.1 h, c.requires.3.1, c.requires.3.0.rows_of);
       placed = (
         interval_here w.k b c.beyond-w.result c.intervals_of-whole.ensures v o,
         before_at w.k b c.beyond-w.result c.intervals_of-whole.ensures v o.0 c.triple_place.ensures.0,

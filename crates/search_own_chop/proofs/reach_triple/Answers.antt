@@ -16,7 +16,7 @@ use Rattle.search_own_chop.proofs.reach_triple.Goals as goal
 pub visit_cut-r-requires : goal.visit_cut-r-requires
 visit_cut-r-requires c =
     let b = c.args.block in
-    let h = halves b c.beyond-w.ensures c.triples_of-triples.ensures refl in record { standing = (triples_stand c.requires.0 c.requires.1 h, ap (λ (t : Block). t.rule) c.triples_of-triples.ensures); placed = triple_here c.args.wiring.now.k b c.beyond-w.result c.args.x c.triples_of-triples.ensures c.triple_at-t.result c.triple_at-t.ensures }
+    let h = halves b c.beyond-w.ensures c.triples_of-triples.ensures refl in record { standing = (triples_stand c.requires.0 c.requires.1 h, ap (λ (t : Block). t.rule) c.triples_of-triples.ensures, c.requires.3.0.rows_of); placed = triple_here c.args.wiring.now.k b c.beyond-w.result c.args.x c.triples_of-triples.ensures c.triple_at-t.result c.triple_at-t.ensures }
 
 pub returns-then-r : goal.returns-then-r
 returns-then-r c =
@@ -27,7 +27,7 @@ returns-then-r c =
 
 pub place-requires : goal.place-requires
 place-requires c =
-    let o = c.triple_at-t.ensures.0 in (omega (arith, o.starts, o.cut, o.ends), c.requires.0.fine.bounded.steps)
+    let o = c.triple_at-t.ensures.0 in (omega (arith, o.starts, o.cut, o.ends), c.requires.0.fine.bounded.steps, c.requires.3.0.rows_of)
 
 pub overflow_add-v : goal.overflow_add-v
 overflow_add-v c = omega (arith, c.requires.0.fine.bounded.first, c.place.ensures.1)

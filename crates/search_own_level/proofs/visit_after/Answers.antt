@@ -7,7 +7,7 @@ use Rattle.search_own_level.proofs.After.{interval_here, longer_placed, above_pl
 use Rattle.search_own_level.proofs.visit_after.Goals as goal
 
 pub visit_level-r-requires : goal.visit_level-r-requires
-visit_level-r-requires c = record { standing = (c.requires.standing.0, (_, c.requires.standing.1)); placed = c.requires.placed }
+visit_level-r-requires c = record { standing = (c.requires.standing.0, (_, c.requires.standing.1), c.requires.standing.2); placed = c.requires.placed }
 
 pub returns-then-r : goal.returns-then-r
 returns-then-r c =
@@ -24,7 +24,7 @@ overflow_add-next c = omega (arith, place_small c.requires.standing.0 c.requires
 
 pub visit_level-s-requires : goal.visit_level-s-requires
 visit_level-s-requires c =
-    record { standing = (stands c.requires.standing.0 c.visit_level-r.auto.values c.visit_level-r.ensures.grown.trailing, (_, c.requires.standing.1)); placed = longer_placed c.requires.standing.1 c.requires.placed c.if-i-d.false }
+    record { standing = (stands c.requires.standing.0 c.visit_level-r.auto.values c.visit_level-r.ensures.grown.trailing, (_, c.requires.standing.1), c.requires.standing.2); placed = longer_placed c.requires.standing.1 c.requires.placed c.if-i-d.false }
 
 pub returns-then-s : goal.returns-then-s
 returns-then-s c =
@@ -38,13 +38,13 @@ returns-then-a-levels c =
 
 pub overflow_add-above : goal.overflow_add-above
 overflow_add-above c =
-    omega (arith, place_small c.requires.standing.0 (above_placed c.requires.standing.1 c.requires.placed c.if-i-d.false c.args.wiring.now.every c.if-a-levels.false))
+    omega (arith, place_small c.requires.standing.0 (above_placed c.requires.standing.1 c.requires.placed c.if-i-d.false c.requires.standing.2 c.if-a-levels.false))
 
 pub visit_level-t-requires : goal.visit_level-t-requires
 visit_level-t-requires c =
-    record { standing = (stands (stands c.requires.standing.0 c.visit_level-r.auto.values c.visit_level-r.ensures.grown.trailing) c.visit_level-s.auto.values c.visit_level-s.ensures.grown.trailing, (_, c.requires.standing.1)); placed = above_placed c.requires.standing.1 c.requires.placed c.if-i-d.false c.args.wiring.now.every c.if-a-levels.false }
+    record { standing = (stands (stands c.requires.standing.0 c.visit_level-r.auto.values c.visit_level-r.ensures.grown.trailing) c.visit_level-s.auto.values c.visit_level-s.ensures.grown.trailing, (_, c.requires.standing.1), c.requires.standing.2); placed = above_placed c.requires.standing.1 c.requires.placed c.if-i-d.false c.requires.standing.2 c.if-a-levels.false }
 
 pub returns : goal.returns
 returns c =
-    visited_named (after_three _ _ _ _ _ c.args.p c.if-i-d.false c.args.wiring.now.every c.if-a-levels.false)
+    visited_named (after_three _ _ _ _ _ c.args.p c.if-i-d.false c.requires.standing.2 c.if-a-levels.false)
     (visited_then (visited_then c.visit_level-r.ensures _ c.if-r.false c.visit_level-s.ensures) _ c.if-s.false c.visit_level-t.ensures)

@@ -16,7 +16,7 @@ overflow_sub-u c = omega (arith, c.among.ensures.here c.if-among.true)
 
 pub interval_at-v-requires : goal.interval_at-v-requires
 interval_at-v-requires c =
-    omega (arith, c.among.ensures.here c.if-among.true, c.args.wiring.now.every)
+    let t = c.requires.4 in (omega (arith, c.among.ensures.here c.if-among.true, t.1), t.0.room, t.0.intervals_to)
 
 pub visit_first-requires : goal.visit_first-requires
 visit_first-requires c =
@@ -25,6 +25,8 @@ visit_first-requires c =
       cut_rule c.beyond-w.result c.args.block c.triples_of-triples.ensures,
       o.starts,
       o.ends,
+      c.requires.4.0.rows_of,
+      c.requires.4.0.starts_of,
     )
 
 pub returns-then-among : goal.returns-then-among
@@ -40,7 +42,7 @@ overflow_sub-u-then-among-2 c = omega (arith, c.among-2.ensures.here c.if-among-
 
 pub interval_at-v-requires-then-among-2 : goal.interval_at-v-requires-then-among-2
 interval_at-v-requires-then-among-2 c =
-    omega (arith, c.among-2.ensures.here c.if-among-2.true, c.args.wiring.now.every)
+    let t = c.requires.4 in (omega (arith, c.among-2.ensures.here c.if-among-2.true, t.1), t.0.room, t.0.intervals_to)
 
 pub visit_second-requires : goal.visit_second-requires
 visit_second-requires c =
@@ -49,6 +51,9 @@ visit_second-requires c =
       cut_rule c.beyond-w.result c.args.block c.triples_of-triples.ensures,
       o.starts,
       o.ends,
+      c.requires.4.1,
+      c.requires.4.0.rows_of,
+      c.requires.4.0.starts_of,
     )
 
 pub returns-then-among-2 : goal.returns-then-among-2
@@ -61,7 +66,7 @@ returns-then-among-2 c =
 
 pub returns : goal.returns
 returns c =
-    let b = c.args.block in let w = c.args.wiring.now in let a : w.all ≡ count_of w.k = c.args.wiring.now.every in
+    let b = c.args.block in let w = c.args.wiring.now in let a : w.all ≡ count_of w.k = c.requires.4.1 in
     stopped c.done.ensures (unread (chop_away w.c w.k c.args.u b c.requires.0.laid c.requires.2 c.requires.1
     (λ f. c.among.ensures.away c.if-among.false (omega (arith, f, a))) (λ f. c.among-2.ensures.away c.if-among-2.false (omega (arith, f, a))))
     c.requires.0.trailing)

@@ -7,7 +7,7 @@ use Rattle.search_parts.proofs.reach.Goals as goal
 
 pub reach_chop-requires : goal.reach_chop-requires
 reach_chop-requires c =
-    (c.requires.0, chop_rule c.args.block.rule (sym c.is_chop.ensures ∙ c.if-is_chop.true), c.requires.1, c.requires.2)
+    (c.requires.0, chop_rule c.args.block.rule (sym c.is_chop.ensures ∙ c.if-is_chop.true), c.requires.1, c.requires.2, c.requires.3)
 
 pub reach_instant-requires : goal.reach_instant-requires
 reach_instant-requires c =

@@ -22,7 +22,7 @@ overflow_sub-t c = omega (arith, c.among.ensures.here c.if-not-among.false)
 pub visit_instant-requires : goal.visit_instant-requires
 visit_instant-requires c =
     let f = c.among.ensures.here c.if-not-among.false in
-    (whole_stands c.requires.node.0 c.requires.rule_value.1, rising_known c.args.block.rule c.requires.rule_value.0 c.requires.rule_value.1 c.rise_of-rise.ensures, omega (arith, f))
+    (whole_stands c.requires.node.0 c.requires.rule_value.1, rising_known c.args.block.rule c.requires.rule_value.0 c.requires.rule_value.1 c.rise_of-rise.ensures, omega (arith, f), c.requires.node.3.1, c.requires.node.3.0.rows_of)
 
 pub returns : goal.returns
 returns c =

@@ -24,7 +24,7 @@ bounds-trail-h c = let i = c.loop-h.invariant in omega (arith, i.1, pending_fits
 pub reach-r-requires : goal.reach-r-requires
 reach-r-requires c =
     let i = c.loop-h.invariant in
-    record { on_ground = (ground_still i.0 c.requires.on_ground, i.2.trailing); variable = next_variable i.4 (omega (arith, c.loop-h-test.true)) }
+    record { on_ground = (ground_still i.0 c.requires.on_ground, i.2.trailing); variable = next_variable i.4 (omega (arith, c.loop-h-test.true)); tabled = c.requires.tabled }
 
 pub returns-then-r : goal.returns-then-r
 returns-then-r c = let i = c.loop-h.invariant in queue_clash i.2 i.3 c.reach-r.ensures c.if-r.true

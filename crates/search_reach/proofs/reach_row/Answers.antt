@@ -19,13 +19,14 @@ last_from-z-requires c =
 
 pub block_of-block-requires : goal.block_of-block-requires
 block_of-block-requires c =
-    let g = c.requires.on_ground.0 in (g.steps, omega (arith, c.last_from-z.ensures.below, g.few), g.low, g.seated)
+    let g = c.requires.on_ground.0 in (g.steps, omega (arith, c.last_from-z.ensures.below, g.few), g.low, g.seated, c.requires.tabled.1)
 
 pub reach-r-requires : goal.reach-r-requires
 reach-r-requires c =
     let g = c.requires.on_ground.0 in let z = c.last_from-z.ensures in (
       node_at c.last_from-z.result g refl z.below c.block_of-block.ensures.value (c.block_of-block.ensures.by_index c.args.wiring.now.c g.channels) c.requires.on_ground.1,
       in_block g.grid _ z.below c.block_of-block.ensures.value (row_found g c.requires.beyond.1 z.below z.from z.next),
+      c.requires.tabled,
     )
 
 pub returns-then-r : goal.returns-then-r
@@ -44,7 +45,7 @@ overflow_cast-y c =
 
 pub block_of-up-requires : goal.block_of-up-requires
 block_of-up-requires c =
-    let g = c.requires.on_ground.0 in (g.steps, omega (arith, g.few, g.grid.upward c.last_from-z.result c.last_from-z.ensures.below), g.low, g.seated)
+    let g = c.requires.on_ground.0 in (g.steps, omega (arith, g.few, g.grid.upward c.last_from-z.result c.last_from-z.ensures.below), g.low, g.seated, c.requires.tabled.1)
 
 pub reach-requires : goal.reach-requires
 reach-requires c =
@@ -54,6 +55,7 @@ reach-requires c =
       node_at _ g c.reach-r.auto.values l c.block_of-up.ensures.value (c.block_of-up.ensures.by_index c.args.wiring.now.c g.channels) c.reach-r.ensures.grown.trailing,
       not_own g.grid _ l c.last_from-z.result c.args.u z.below i (other_row g z.below c.if-z-ne0.true) c.block_of-up.ensures.value,
       c.requires.beyond.0,
+      c.requires.tabled,
     )
 
 pub returns-then-z-ne0 : goal.returns-then-z-ne0

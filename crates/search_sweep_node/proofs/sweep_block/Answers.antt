@@ -13,7 +13,7 @@ use Rattle.search_clauses.proofs.Walk.{clauses_at_lem, asks_at, whole_block, sti
 use Rattle.search_sweep_node.proofs.sweep_block.Goals as goal
 
 pub start-cursor-requires : goal.start-cursor-requires
-start-cursor-requires c = let s = c.requires.bounded in (walkable s.0.0 s.0.1, c.args.wiring.now.tables.rows_of)
+start-cursor-requires c = let s = c.requires.bounded in (walkable s.0.0 s.0.1, c.requires.bounded.2)
 
 pub loop-cursor-init : goal.loop-cursor-init
 loop-cursor-init c =
@@ -27,7 +27,7 @@ loop-cursor-init c =
     )
 
 pub gate_at-gate-requires : goal.gate_at-gate-requires
-gate_at-gate-requires c = let both = gate_asked c.requires.bounded.0.0 c.loop-cursor.invariant.3 c.loop-cursor-test.true c.args.wiring.now.tables.rows_of in record { bounded = both.0; placed = both.1 }
+gate_at-gate-requires c = let both = gate_asked c.requires.bounded.0.0 c.loop-cursor.invariant.3 c.loop-cursor-test.true c.requires.bounded.2 in record { bounded = both.0; placed = both.1 }
 
 pub overflow_add-block : goal.overflow_add-block
 overflow_add-block c = omega (arith, c.loop-cursor.invariant.3.few, c.loop-cursor-test.true, c.requires.bounded.0.0.first)

@@ -10,7 +10,7 @@ use Rattle.search_sweep_node.proofs.sweep_chop.Goals as goal
 pub sweep_block-r-requires : goal.sweep_block-r-requires
 sweep_block-r-requires c =
     let h = halves c.args.block c.beyond-w.ensures c.triples_of-triples.ensures c.intervals_of-intervals.ensures in
-    record { bounded = (triples_bounded _ h c.requires.fine.0, c.requires.fine.1); all_mentioned = triples_mentioned _ h c.requires.all_mentioned }
+    record { bounded = (triples_bounded _ h c.requires.fine.0, c.requires.fine.1, c.requires.fine.2); all_mentioned = triples_mentioned _ h c.requires.all_mentioned }
 
 pub returns-then-r : goal.returns-then-r
 returns-then-r c =
@@ -19,7 +19,7 @@ returns-then-r c =
 
 pub sweep_block-requires : goal.sweep_block-requires
 sweep_block-requires c =
-    let h = halves c.args.block c.beyond-w.ensures c.triples_of-triples.ensures c.intervals_of-intervals.ensures in record { bounded = (intervals_bounded _ h c.requires.fine.0, c.sweep_block-r.ensures.grown.trailing); all_mentioned = still (defined_by c.args.wiring.now.c c.args.wiring.now.k c.intervals_of-intervals.result) c.sweep_block-r.auto.values (intervals_mentioned _ h c.requires.all_mentioned) }
+    let h = halves c.args.block c.beyond-w.ensures c.triples_of-triples.ensures c.intervals_of-intervals.ensures in record { bounded = (intervals_bounded _ h c.requires.fine.0, c.sweep_block-r.ensures.grown.trailing, c.requires.fine.2); all_mentioned = still (defined_by c.args.wiring.now.c c.args.wiring.now.k c.intervals_of-intervals.result) c.sweep_block-r.auto.values (intervals_mentioned _ h c.requires.all_mentioned) }
 
 pub returns : goal.returns
 returns c =

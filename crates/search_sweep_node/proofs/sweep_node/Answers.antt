@@ -14,7 +14,7 @@ returns-then-is_chop c =
 
 pub sweep_block-requires : goal.sweep_block-requires
 sweep_block-requires c =
-    record { bounded = ((c.requires.fine.0.bounded, c.requires.fine.0.points), c.requires.fine.1); all_mentioned = node_mentioned c.args.wiring.now.c c.args.wiring.now.k c.args.block c.is_chop.ensures c.if-is_chop.false c.requires.all_mentioned }
+    record { bounded = ((c.requires.fine.0.bounded, c.requires.fine.0.points), c.requires.fine.1, c.requires.fine.2); all_mentioned = node_mentioned c.args.wiring.now.c c.args.wiring.now.k c.args.block c.is_chop.ensures c.if-is_chop.false c.requires.all_mentioned }
 
 pub returns : goal.returns
 returns c =

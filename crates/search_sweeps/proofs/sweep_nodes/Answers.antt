@@ -15,7 +15,7 @@ block_at-block-requires c = let s = c.requires.limits in (s.1, omega (arith, s.2
 pub sweep_node-r-requires : goal.sweep_node-r-requires
 sweep_node-r-requires c =
     let i = c.loop-x.invariant in let w = c.args.wiring.now in record {
-      fine = (c.block_at-block.ensures.by_index _ c.requires.limits.0, i.3.grown.trailing);
+      fine = (c.block_at-block.ensures.by_index _ c.requires.limits.0, i.3.grown.trailing, c.requires.limits.5);
       all_mentioned = row_mentioned w.c w.k _ _ _ _ _ c.block_at-block.result c.block_at-block.ensures.value i.0 (c.requires.by_index _ c.loop-x-test.true);
     }
 

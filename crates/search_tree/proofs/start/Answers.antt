@@ -9,11 +9,11 @@ use Rattle.search_tree.proofs.start.Goals as goal
 
 pub start-closed-requires : goal.start-closed-requires
 start-closed-requires c =
-    record { on_ground = ground_still c.clear.auto.values c.requires.on_ground; trailing = zero_trailing _ _ c.clear.ensures (omega (arith, c.clear.auto.values, c.requires.values_in_bounds.0)) (omega (arith, c.clear.auto.values, c.requires.values_in_bounds.1)) }
+    record { on_ground = ground_still c.clear.auto.values c.requires.on_ground; trailing = zero_trailing _ _ c.clear.ensures (omega (arith, c.clear.auto.values, c.requires.values_in_bounds.0)) (omega (arith, c.clear.auto.values, c.requires.values_in_bounds.1)); tabled = c.requires.tabled }
 
 pub descend-requires : goal.descend-requires
 descend-requires c =
-    record { on_ground = ground_still (c.start-closed.auto.values ∙ c.clear.auto.values) c.requires.on_ground; holding = begun _ c.clear.ensures c.start-closed.ensures }
+    record { on_ground = ground_still (c.start-closed.auto.values ∙ c.clear.auto.values) c.requires.on_ground; holding = begun _ c.clear.ensures c.start-closed.ensures; tabled = c.requires.tabled }
 
 pub returns : goal.returns
 returns c =

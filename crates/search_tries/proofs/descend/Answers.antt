@@ -40,7 +40,7 @@ bounds-levels-depth c = omega (arith, high_level (goal.at.bounds-levels-depth c)
 
 pub try_high-last-requires : goal.try_high-last-requires
 try_high-last-requires c =
-    let s = c.loop-last.invariant.2 in record { on_ground = ground_still s.long c.requires.on_ground; undoable = high_ready _ _ _ _ s c.if-last.true c.if-depth-eq0.false }
+    let s = c.loop-last.invariant.2 in record { on_ground = ground_still s.long c.requires.on_ground; undoable = high_ready _ _ _ _ s c.if-last.true c.if-depth-eq0.false; tabled = c.requires.tabled }
 
 pub loop-last-preserved-then-last : goal.loop-last-preserved-then-last
 loop-last-preserved-then-last c =
@@ -74,7 +74,7 @@ overflow_add-depth c = record { fits = omega (arith, low_level (goal.at.overflow
 pub try_literal-last-requires : goal.try_literal-last-requires
 try_literal-last-requires c =
     let s = c.loop-last.invariant.2 in
-    record { on_ground = ground_still s.long c.requires.on_ground; ready = low_ready _ _ _ _ s c.if-last.false c.lowest_open-v.ensures c.if-v-eq0.false }
+    record { on_ground = ground_still s.long c.requires.on_ground; ready = low_ready _ _ _ _ s c.if-last.false c.lowest_open-v.ensures c.if-v-eq0.false; tabled = c.requires.tabled }
 
 pub overflow_add-n-in-loop-last : goal.overflow_add-n-in-loop-last
 overflow_add-n-in-loop-last c =

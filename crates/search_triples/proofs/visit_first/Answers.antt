@@ -10,16 +10,16 @@ use Rattle.search_triples.proofs.Cuts.{first_begun, first_clauses_lem, first_ask
 use Rattle.search_triples.proofs.visit_first.Goals as goal
 
 pub place-requires : goal.place-requires
-place-requires c = (omega (arith, c.requires), c.requires.0.bounded.steps)
+place-requires c = (omega (arith, c.requires), c.requires.0.bounded.steps, c.requires.4)
 
 pub overflow_add-x : goal.overflow_add-x
 overflow_add-x c = omega (arith, c.place.ensures.1, c.requires.0.bounded.left)
 
 pub place-start-requires : goal.place-start-requires
-place-start-requires c = (omega (arith, c.requires), c.requires.0.bounded.steps)
+place-start-requires c = (omega (arith, c.requires), c.requires.0.bounded.steps, c.requires.4)
 
 pub triple_place-requires : goal.triple_place-requires
-triple_place-requires c = (omega arith, omega (arith, c.requires), c.requires.0.bounded.steps)
+triple_place-requires c = (omega arith, omega (arith, c.requires), c.requires.0.bounded.steps, c.requires.4, c.requires.5)
 
 pub overflow_add-v : goal.overflow_add-v
 overflow_add-v c = omega (arith, c.triple_place.ensures.1, c.requires.0.bounded.first, counts_at_32 c.args.wiring.now.k c.requires.0.bounded.steps)

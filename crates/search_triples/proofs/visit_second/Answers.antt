@@ -10,13 +10,13 @@ use Rattle.search_triples.proofs.Cuts.{second_begun, second_clauses_lem, second_
 use Rattle.search_triples.proofs.visit_second.Goals as goal
 
 pub place-start-requires : goal.place-start-requires
-place-start-requires c = (omega (arith, c.requires), c.requires.0.bounded.steps)
+place-start-requires c = (omega (arith, c.requires), c.requires.0.bounded.steps, c.requires.5)
 
 pub overflow_add-x : goal.overflow_add-x
 overflow_add-x c = omega (arith, c.requires, c.requires.0.bounded.steps, c.requires.0.bounded.left)
 
 pub triple_place-requires : goal.triple_place-requires
-triple_place-requires c = (omega (arith, c.requires), omega (arith, c.requires), c.requires.0.bounded.steps)
+triple_place-requires c = (omega (arith, c.requires), omega (arith, c.requires), c.requires.0.bounded.steps, c.requires.5, c.requires.6)
 
 pub overflow_add-v : goal.overflow_add-v
 overflow_add-v c = omega (arith, c.triple_place.ensures.1, c.requires.0.bounded.first, counts_at_32 c.args.wiring.now.k c.requires.0.bounded.steps)
@@ -29,7 +29,7 @@ loop-i-init c = (
   refl,
   refl,
   omega arith,
-  second_begun c.requires.1 c.requires.2 c.requires.3 c.place-start.ensures.0 c.args.wiring.now.every c.triple_place.ensures.0,
+  second_begun c.requires.1 c.requires.2 c.requires.3 c.place-start.ensures.0 c.requires.4 c.triple_place.ensures.0,
   loop_begun _ c.requires.0.trailing,
 )
 

@@ -8,15 +8,15 @@ use Rattle.search_walks.proofs.visit_at.Goals as goal
 
 pub gate_at-gate-requires : goal.gate_at-gate-requires
 gate_at-gate-requires c =
-    record { bounded = (c.requires.standing.bounded, omega (arith, place_small c.requires.standing c.requires.placed.0), c.args.wiring.now.every, c.args.wiring.now.tables.rows_of); placed = (c.requires.placed.0, before_there _ _ c.args.p c.requires.placed.1) }
+    record { bounded = (c.requires.standing.0.bounded, omega (arith, place_small c.requires.standing.0 c.requires.placed.0), c.requires.standing.1, c.requires.standing.2); placed = (c.requires.placed.0, before_there _ _ c.args.p c.requires.placed.1) }
 
 pub overflow_add-first : goal.overflow_add-first
-overflow_add-first c = omega (arith, place_small c.requires.standing c.requires.placed.0, c.requires.standing.bounded.first)
+overflow_add-first c = omega (arith, place_small c.requires.standing.0 c.requires.placed.0, c.requires.standing.0.bounded.first)
 
 pub visit-requires : goal.visit-requires
 visit-requires c =
-    let a = visit_asks _ _ _ c.requires.placed.0 c.gate_at-gate.ensures (c.requires.standing.bounded, c.requires.standing.points) c.requires.standing.mentioned in
-    (c.requires.standing.trailing, a.0, a.1, a.2)
+    let a = visit_asks _ _ _ c.requires.placed.0 c.gate_at-gate.ensures (c.requires.standing.0.bounded, c.requires.standing.0.points) c.requires.standing.0.mentioned in
+    (c.requires.standing.0.trailing, a.0, a.1, a.2)
 
 pub returns : goal.returns
 returns c =

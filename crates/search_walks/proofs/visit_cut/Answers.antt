@@ -13,7 +13,7 @@ pub overflow_add-v : goal.overflow_add-v
 overflow_add-v c = omega (arith, place_small c.requires.standing.0 c.requires.placed, c.requires.standing.0.bounded.first)
 
 pub place-requires : goal.place-requires
-place-requires c = let q = triple_position c.requires.placed c.requires.standing.1 in (omega (arith, q), c.requires.standing.0.bounded.steps)
+place-requires c = let q = triple_position c.requires.placed c.requires.standing.1 in (omega (arith, q), c.requires.standing.0.bounded.steps, c.requires.standing.2)
 
 pub overflow_add-i : goal.overflow_add-i
 overflow_add-i c = omega (arith, triple_position c.requires.placed c.requires.standing.1, c.requires.standing.0.bounded.steps)
@@ -22,7 +22,7 @@ pub overflow_sub-d : goal.overflow_sub-d
 overflow_sub-d c = omega (arith, triple_position c.requires.placed c.requires.standing.1)
 
 pub place-requires-2 : goal.place-requires-2
-place-requires-2 c = let q = triple_position c.requires.placed c.requires.standing.1 in (omega (arith, q), c.requires.standing.0.bounded.steps)
+place-requires-2 c = let q = triple_position c.requires.placed c.requires.standing.1 in (omega (arith, q), c.requires.standing.0.bounded.steps, c.requires.standing.2)
 
 pub settle_both-requires : goal.settle_both-requires
 settle_both-requires c =

@@ -5,4 +5,4 @@ use Rattle.search_fanout.proofs.Wiring.triple_place.Goals as goal
 
 pub place-requires : goal.place-requires
 place-requires c =
-    let r = c.requires in let t = c.args.self.now.tables in (omega (arith, r.0), omega (arith, r.1), r.2, t.rows_of, t.starts_of)
+    c.requires
