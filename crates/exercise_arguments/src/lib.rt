@@ -3,6 +3,9 @@
 // `a=0110`, or `steps=8` and `file=` with the path of a clause file, in any order.
 #![tactic(auto)]
 
+ghost use Rattle.std.specs.Prelude.{◌≡◌, ◌⊎◌, IfErr};
+ghost use Rattle.exercise_arguments.specs.declared.Fault.TheVariants.{Zero};
+
 pub mod search;
 pub mod task;
 
@@ -57,7 +60,9 @@ pub enum Fault {
 }
 
 // The number that a text writes, or a fault of its own where it writes none.
-pub fn number(text: &[u8], missing: Fault) -> Result<u32, Fault> {
+pub fn number(text: &[u8], missing: Fault) -> Result<u32, Fault>
+    ensures { IfErr result (λ fault. (fault ≡ Zero) ⊎ (fault ≡ missing)) }
+{
     exercise_lines::number::decimal(text).map_err(|e| match e {
         NumberError::Zero => Fault::Zero,
         NumberError::Digits => missing,
