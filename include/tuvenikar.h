@@ -92,8 +92,8 @@ enum tuv_answer {
  * Lent:    the text; the recording, k bytes: byte t is instant t, its lowest bit channel a, the next b, and so on; 1 is high.
  * Written: nothing.
  * Answers: TUV_NO, TUV_YES, a refusal 1 to 7 or 9 to 11.
- * Stack:   119,000 bytes for any input: 1,824 for each formula within a formula (measured: 118,192 for 63 `!` and `T`; 59,824
- *          for 31 chops one within the other; 5,432 for `T`).
+ * Stack:   269,000 bytes for any input: 4,176 for each formula within a formula (measured: 268,744 for 63 `!` and `T`; 135,112
+ *          for 31 chops one within the other; 5,656 for `T`).
  */
 uint64_t tuv_evaluate(const uint8_t *text, size_t text_length, uint32_t c, uint32_t k, uint32_t i, uint32_t j,
                       const uint8_t *recording, size_t recording_length);
