@@ -4,4 +4,4 @@ use native.Mathlib.Omega.{arith}
 use Rattle.search_fanout.proofs.Wiring.interval_at.Goals as goal
 
 pub interval_at-requires : goal.interval_at-requires
-interval_at-requires c = (c.requires.0, c.requires.1, c.requires.2)
+interval_at-requires c = (omega (arith, c.requires.0), c.requires.1, c.requires.2)

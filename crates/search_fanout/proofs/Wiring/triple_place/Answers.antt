@@ -5,4 +5,4 @@ use Rattle.search_fanout.proofs.Wiring.triple_place.Goals as goal
 
 pub place-requires : goal.place-requires
 place-requires c =
-    c.requires
+    let r = c.requires in (omega (arith, r.0), omega (arith, r.1), r.2, r.3, r.4)
